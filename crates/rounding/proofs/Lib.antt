@@ -1,0 +1,3 @@
+-- Laws of rounding words, over any width, and what the answers of this crate tell.
+pub mod Words
+pub mod Told

@@ -1,0 +1,16 @@
+-- What an answer of `components` tells its caller. Assumes nothing.
+use mathlib.Core.Path.{_≡_, subst}
+use Prim.Native.Nat.{ℕ}
+use Rattle.util.specs.Refusal.{Meets}
+use Rattle.util.proofs.Refusals.{granted, stopped}
+use Rattle.rounding.specs.Word.{IsWord, wordCauses, PartsOf}
+use Rattle.rounding.specs.View.{componentsSays}
+use Rattle.rounding.specs.declared.ComponentsAnswer.{ComponentsAnswer}
+use Rattle.rounding.specs.declared.ComponentsAnswer.the-variants as Parts
+use Rattle.rounding.proofs.Words.{word-refused}
+
+pub parts-told : {n a p : ℕ} (r : ComponentsAnswer) → Meets (wordCauses n) (PartsOf n) (componentsSays r) → r ≡ Parts.Components a p → IsWord n a p
+parts-told {n} r m e = granted (subst (λ (x : ComponentsAnswer). Meets (wordCauses n) (PartsOf n) (componentsSays x)) e m) .1
+
+pub parts-refused : {n k : ℕ} (r : ComponentsAnswer) → Meets (wordCauses n) (PartsOf n) (componentsSays r) → r ≡ Parts.Refused k → (n ≡ 0) × (k ≡ 2)
+parts-refused {n} r m e = word-refused (stopped (subst (λ (x : ComponentsAnswer). Meets (wordCauses n) (PartsOf n) (componentsSays x)) e m))

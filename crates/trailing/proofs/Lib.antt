@@ -1,0 +1,4 @@
+pub mod Sizes
+pub mod Sequences
+pub mod Calls
+pub mod Told

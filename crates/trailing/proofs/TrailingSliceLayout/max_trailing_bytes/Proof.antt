@@ -1,0 +1,44 @@
+-- `trailing::TrailingSliceLayout::max_trailing_bytes` meets its contract. Assumes nothing.
+use native.Mathlib.Omega.{arith}
+use Rattle.util.proofs.Refusals.{told}
+use Rattle.rounding.proofs.Words.{word-stop}
+use Rattle.rounding.proofs.Told.{parts-told, parts-refused}
+use Rattle.trailing.specs.Calls.{maxTrailingFor}
+use Rattle.trailing.specs.View.{trailingOf}
+use Rattle.trailing.proofs.Calls.{max-trailing-meets}
+use borrow.Author.Needs.{needs}
+use Rattle.trailing.proofs.TrailingSliceLayout.max_trailing_bytes.Statement.{statement}
+use Rattle.trailing.proofs.TrailingSliceLayout.max_trailing_bytes.Tie as tie
+
+components-requires : tie.Need-components-requires
+components-requires c κs = search needs
+
+enum-known-align : tie.Need-enum-known-align
+enum-known-align c = search needs
+
+max-trailing-bytes-at-requires : tie.Need-max-trailing-bytes-at-requires
+max-trailing-bytes-at-requires c κs = parts-told (c .before .before .before .components .result) (c .before .before .before .components .ensures .1) (c .before .align .given .1)
+
+enum-known-number : tie.Need-enum-known-number
+enum-known-number c = search needs
+
+returns : tie.Need-returns
+returns c = let k = c .before .before .before .before .before .before in told (max-trailing-meets 64 (trailingOf (k .args .self)) (k .args .available-bytes) (omega arith)) (c .max-trailing-bytes-at .ensures)
+
+returns-2 : tie.Need-returns-2
+unfolding maxTrailingFor
+returns-2 c =
+    let k = c .before .before .before .before .before in
+    told (max-trailing-meets 64 (trailingOf (k .args .self)) (k .args .available-bytes) (omega arith))
+    (word-stop _ _ (parts-refused (c .before .before .before .components .result) (c .before .before .before .components .ensures .1) (c .before .number .given .1)))
+
+pub max-trailing-bytes-spec : {M : Type 1} → statement M
+max-trailing-bytes-spec =
+    tie.close
+    (tie.spec
+    components-requires
+    enum-known-align
+    max-trailing-bytes-at-requires
+    enum-known-number
+    returns
+    returns-2)

@@ -1,0 +1,5 @@
+pub mod Size
+pub mod Count
+pub mod Sequence
+pub mod Calls
+pub mod View

@@ -1,0 +1,312 @@
+// Trailing layouts, after zerocopy's TrailingSliceLayout: a fixed part and then a run of elements.
+// The size at a count is size_base + up(phase + count * elem_size, align); the offset does not enter it.
+ghost use mathlib.Core.Path.{_≡_};
+ghost use Prim.Native.Nat.{_*_, _%_, _<_};
+ghost use Rattle.util.specs.Power.{PowerOfTwo};
+ghost use Rattle.util.specs.Round.{up};
+ghost use Rattle.util.specs.Refusal.{answered, Meets};
+ghost use Rattle.util.specs.View.{numberSays, decisionSays};
+ghost use Rattle.rounding.specs.Word.{IsWord, wordCauses};
+ghost use Rattle.trailing.specs.Sequence.{sameStart, sameStride, sameSequence};
+ghost use Rattle.trailing.specs.Calls.{sizeOffsetFor, GreatestIn, SizeOffset, maxTrailingCauses, maxTrailingFor, paddingForElems, PaddingAt, sizeCauses, sizeFor, advanceCauses, advanceFor, Advanced, sameCauses, sameFor, SameAnswer};
+ghost use Rattle.trailing.specs.Size.{sizeAt, HasSize};
+ghost use Rattle.trailing.specs.View.{trailingOf, sizeSays, advanceSays};
+use rounding::ComponentsAnswer;
+use rounding::RoundingAlignAndPhase;
+use util::Answer;
+use util::Decision;
+use util::Product;
+use util::refusal;
+
+pub struct TrailingSliceLayout {
+    // The offset of the first byte of the elements. It need not be the least size.
+    pub offset: u64,
+    // The size of an element.
+    pub elem_size: u64,
+    // What the size has besides the rounded part.
+    pub size_base: u64,
+    // The alignment and phase of the rounding: the phase is the fixed part of what is rounded.
+    pub size_rounding_align_and_phase: RoundingAlignAndPhase,
+}
+
+// A size, or the number of the refusal.
+pub enum SizeAnswer {
+    Size(u64),
+    Refused(u64),
+}
+
+// A layout, or the number of the refusal.
+pub enum AdvanceAnswer {
+    Layout(TrailingSliceLayout),
+    Refused(u64),
+}
+
+// What an empty run adds: a block of the alignment, but for phase 0 nothing.
+fn rounded_phase(align: u64, phase: u64) -> u64
+    requires { ⌜ phase < align ⌝ }
+    ensures { λ r. ⌜ r ≡ up phase align ⌝ }
+{
+    if phase == 0 { 0 } else { align }
+}
+
+// The bytes of the elements, modulo the alignment. The product wraps, which keeps its remainder: the alignment divides 2^64.
+fn trailing_remainder(elems: u64, elem: u64, align: u64) -> u64
+    requires { ⌜ PowerOfTwo align ⌝ }
+    ensures { λ r. ⌜ r ≡ elems * elem % align ⌝ }
+{
+    let size_mask = align - 1;
+    let elem_remainder = elem & size_mask;
+    util::wrapping_mul(elems, elem_remainder) & size_mask
+}
+
+// Whether elements of e bytes add the same to two layouts at every count. The larger of two alignments is a multiple of the
+// smaller, so that a multiple of it is one of both.
+fn same_stride(elem: u64, align: u64, phase: u64, align2: u64, phase2: u64) -> bool
+    requires { ⌜ PowerOfTwo align × PowerOfTwo align2 ⌝ }
+    ensures { λ r. ⌜ r ≡ sameStride elem align phase align2 phase2 ⌝ }
+{
+    if align > align2 {
+        return elem & (align - 1) == 0;
+    }
+    if elem & (align2 - 1) == 0 {
+        return true;
+    }
+    if align == align2 {
+        phase == phase2
+    } else {
+        false
+    }
+}
+
+// A function whose name ends in _at takes the parts of the layout's rounding word besides the layout.
+impl TrailingSliceLayout {
+    fn size_offset_at(self, align: u64, phase: u64) -> Answer
+        requires { ⌜ IsWord (self .«size_rounding_align_and_phase» .0) align phase ⌝ }
+        ensures { λ r. ⌜ numberSays r ≡ sizeOffsetFor 64 (trailingOf self) ⌝ }
+    {
+        match util::round_down_to_next_multiple_of_alignment(self.size_base, align) {
+            Answer::Number(aligned_base) => Answer::Number(aligned_base + phase),
+            Answer::Refused(number) => Answer::Refused(number),
+        }
+    }
+
+    // The base rounded down to a multiple of the alignment, plus the phase.
+    pub fn size_offset(self) -> Answer
+        ensures answer { λ r. ⌜ numberSays r ≡ sizeOffsetFor 64 (trailingOf self) ⌝ }
+        ensures meaning { λ r. ⌜ Meets (wordCauses (trailingOf self .word)) (SizeOffset (trailingOf self)) (numberSays r) ⌝ }
+    {
+        let word = self.size_rounding_align_and_phase;
+        match word.components() {
+            ComponentsAnswer::Components { align, phase } => self.size_offset_at(align, phase),
+            ComponentsAnswer::Refused(number) => Answer::Refused(number),
+        }
+    }
+
+    fn max_trailing_bytes_at(self, align: u64, phase: u64, available: u64) -> Answer
+        requires { ⌜ IsWord (self .«size_rounding_align_and_phase» .0) align phase ⌝ }
+        ensures { λ r. ⌜ numberSays r ≡ maxTrailingFor 64 (trailingOf self) available ⌝ }
+    {
+        let rounded_phase = rounded_phase(align, phase);
+        if u64::MAX - rounded_phase < self.size_base {
+            return Answer::Refused(refusal::NO_ROOM);
+        }
+        let minimum_size = self.size_base + rounded_phase;
+        if available < minimum_size {
+            return Answer::Refused(refusal::NO_ROOM);
+        }
+        let extra_bytes = available - minimum_size;
+        match util::round_down_to_next_multiple_of_alignment(extra_bytes, align) {
+            // An empty run leaves rounded_phase - phase bytes that elements can use.
+            Answer::Number(aligned_bytes) => Answer::Number(
+                aligned_bytes + (rounded_phase - phase),
+            ),
+            Answer::Refused(number) => Answer::Refused(number),
+        }
+    }
+
+    // The greatest number of trailing bytes whose size is at most available_bytes.
+    pub fn max_trailing_bytes(self, available_bytes: u64) -> Answer
+        ensures answer { λ r. ⌜ numberSays r ≡ maxTrailingFor 64 (trailingOf self) «available_bytes» ⌝ }
+        ensures meaning { λ r. ⌜ Meets (maxTrailingCauses 64 (trailingOf self) «available_bytes») (GreatestIn 64 (trailingOf self) «available_bytes») (numberSays r) ⌝ }
+    {
+        let word = self.size_rounding_align_and_phase;
+        match word.components() {
+            ComponentsAnswer::Components { align, phase } => {
+                self.max_trailing_bytes_at(align, phase, available_bytes)
+            }
+            ComponentsAnswer::Refused(number) => Answer::Refused(number),
+        }
+    }
+
+    fn padding_for_elems_at(self, align: u64, phase: u64, elems: u64) -> Answer
+        requires { ⌜ IsWord (self .«size_rounding_align_and_phase» .0) align phase ⌝ }
+        ensures { λ r. ⌜ numberSays r ≡ paddingForElems 64 (trailingOf self) elems ⌝ }
+    {
+        let rounding_input = phase + trailing_remainder(elems, self.elem_size, align);
+        match util::padding_needed_for(rounding_input, align) {
+            // The bytes of the elements cancel out: what is left is base + phase - offset + padding.
+            Answer::Number(rounding_padding) => {
+                let fixed = std::num::wrapping_add_u64(self.size_base, phase);
+                let past = std::num::wrapping_sub_u64(fixed, self.offset);
+                Answer::Number(std::num::wrapping_add_u64(past, rounding_padding))
+            }
+            Answer::Refused(number) => Answer::Refused(number),
+        }
+    }
+
+    // The size at elems less the end of the elements, modulo 2^64.
+    pub fn padding_for_elems(self, elems: u64) -> Answer
+        ensures answer { λ r. ⌜ numberSays r ≡ paddingForElems 64 (trailingOf self) elems ⌝ }
+        ensures meaning { λ r. ⌜ Meets (wordCauses (trailingOf self .word)) (PaddingAt 64 (trailingOf self) elems) (numberSays r) ⌝ }
+    {
+        let word = self.size_rounding_align_and_phase;
+        match word.components() {
+            ComponentsAnswer::Components { align, phase } => {
+                self.padding_for_elems_at(align, phase, elems)
+            }
+            ComponentsAnswer::Refused(number) => Answer::Refused(number),
+        }
+    }
+
+    // The size where the trailing bytes are at most what fits: the end of the elements and the padding after it.
+    fn size_at(self, align: u64, phase: u64, elems: u64, bytes: u64) -> SizeAnswer
+        requires { ⌜ IsWord (self .«size_rounding_align_and_phase» .0) align phase × (bytes ≡ elems * self .«elem_size») × HasSize 64 (trailingOf self) elems ⌝ }
+        ensures { λ r. ⌜ sizeSays r ≡ answered (sizeAt 64 (trailingOf self) elems) ⌝ }
+    {
+        match self.padding_for_elems_at(align, phase, elems) {
+            Answer::Number(padding) => {
+                let trailing_end = std::num::wrapping_add_u64(self.offset, bytes);
+                SizeAnswer::Size(std::num::wrapping_add_u64(trailing_end, padding))
+            }
+            Answer::Refused(number) => SizeAnswer::Refused(number),
+        }
+    }
+
+    fn size_for_elems_at(self, align: u64, phase: u64, elems: u64) -> SizeAnswer
+        requires { ⌜ IsWord (self .«size_rounding_align_and_phase» .0) align phase ⌝ }
+        ensures { λ r. ⌜ sizeSays r ≡ sizeFor 64 (trailingOf self) elems ⌝ }
+    {
+        let Answer::Number(max_trailing_bytes) = self.max_trailing_bytes_at(align, phase, u64::MAX)
+        else {
+            return SizeAnswer::Refused(refusal::NO_SIZE);
+        };
+        let Product::Fits(trailing_size) = util::checked_mul(elems, self.elem_size) else {
+            return SizeAnswer::Refused(refusal::NO_SIZE);
+        };
+        if trailing_size > max_trailing_bytes {
+            return SizeAnswer::Refused(refusal::NO_SIZE);
+        }
+        self.size_at(align, phase, elems, trailing_size)
+    }
+
+    // The size at elems.
+    pub fn size_for_elems(self, elems: u64) -> SizeAnswer
+        ensures answer { λ r. ⌜ sizeSays r ≡ sizeFor 64 (trailingOf self) elems ⌝ }
+        ensures meaning { λ r. ⌜ Meets (sizeCauses 64 (trailingOf self) elems) (λ s. s ≡ sizeAt 64 (trailingOf self) elems) (sizeSays r) ⌝ }
+    {
+        let word = self.size_rounding_align_and_phase;
+        match word.components() {
+            ComponentsAnswer::Components { align, phase } => {
+                self.size_for_elems_at(align, phase, elems)
+            }
+            ComponentsAnswer::Refused(number) => SizeAnswer::Refused(number),
+        }
+    }
+
+    fn advance_at(self, align: u64, phase: u64, bytes: u64, elem: u64) -> AdvanceAnswer
+        requires { ⌜ IsWord (self .«size_rounding_align_and_phase» .0) align phase ⌝ }
+        ensures { λ r. ⌜ advanceSays r ≡ advanceFor 64 (trailingOf self) bytes elem ⌝ }
+    {
+        let align_mask = align - 1;
+        let phase_capacity = u64::MAX - (self.size_base & !align_mask);
+        // The base rounded down and the phase fit, so this does not go below 0.
+        let max_advance = phase_capacity - phase;
+        if bytes > max_advance {
+            return AdvanceAnswer::Refused(refusal::ADVANCE_PASSES_MAX);
+        }
+        let advanced_phase = phase + bytes;
+        let normalized_phase = advanced_phase & align_mask;
+        let whole_bytes = advanced_phase & !align_mask;
+        AdvanceAnswer::Layout(TrailingSliceLayout {
+            offset: self.offset,
+            elem_size: elem,
+            size_base: self.size_base + whole_bytes,
+            size_rounding_align_and_phase: RoundingAlignAndPhase(align + normalized_phase),
+        })
+    }
+
+    // The layout advanced by bytes, with another element size: its sizes are the old ones with that many bytes more.
+    pub fn advance(self, bytes: u64, elem_size: u64) -> AdvanceAnswer
+        ensures answer { λ r. ⌜ advanceSays r ≡ advanceFor 64 (trailingOf self) bytes «elem_size» ⌝ }
+        ensures meaning { λ r. ⌜ Meets (advanceCauses 64 (trailingOf self) bytes) (Advanced 64 (trailingOf self) bytes «elem_size») (advanceSays r) ⌝ }
+    {
+        let word = self.size_rounding_align_and_phase;
+        match word.components() {
+            ComponentsAnswer::Components { align, phase } => {
+                self.advance_at(align, phase, bytes, elem_size)
+            }
+            ComponentsAnswer::Refused(number) => AdvanceAnswer::Refused(number),
+        }
+    }
+
+    // Whether the sizes at 0 exist and are equal.
+    fn same_start(self, other: TrailingSliceLayout) -> bool
+        requires { ⌜ (0 < trailingOf self .word) × (0 < trailingOf other .word) ⌝ }
+        ensures { λ r. ⌜ r ≡ sameStart 64 (trailingOf self) (trailingOf other) ⌝ }
+    {
+        let SizeAnswer::Size(self_size) = self.size_for_elems(0) else {
+            return false;
+        };
+        let SizeAnswer::Size(other_size) = other.size_for_elems(0) else {
+            return false;
+        };
+        self_size == other_size
+    }
+
+    fn has_same_size_sequence_at(
+        self,
+        align: u64,
+        phase: u64,
+        other: TrailingSliceLayout,
+        align2: u64,
+        phase2: u64,
+    ) -> bool
+        requires { ⌜ IsWord (self .«size_rounding_align_and_phase» .0) align phase × IsWord (other .«size_rounding_align_and_phase» .0) align2 phase2 ⌝ }
+        ensures { λ r. ⌜ r ≡ sameSequence 64 (trailingOf self) (trailingOf other) ⌝ }
+    {
+        let elem = self.elem_size;
+        if elem != other.elem_size {
+            return false;
+        }
+        if self.same_start(other) {
+            same_stride(elem, align, phase, align2, phase2)
+        } else {
+            false
+        }
+    }
+
+    // Whether the two layouts are found to have the same size at every count. A no does not mean that they have not.
+    pub fn has_same_size_sequence(self, other: TrailingSliceLayout) -> Decision
+        ensures answer { λ r. ⌜ decisionSays r ≡ sameFor 64 (trailingOf self) (trailingOf other) ⌝ }
+        ensures meaning { λ r. ⌜ Meets (sameCauses (trailingOf self) (trailingOf other)) (SameAnswer 64 (trailingOf self) (trailingOf other)) (decisionSays r) ⌝ }
+    {
+        let word = self.size_rounding_align_and_phase;
+        let other_word = other.size_rounding_align_and_phase;
+        match word.components() {
+            ComponentsAnswer::Components { align, phase } => match other_word.components() {
+                ComponentsAnswer::Components {
+                    align: align2,
+                    phase: phase2,
+                } => Decision::Is(self.has_same_size_sequence_at(
+                    align,
+                    phase,
+                    other,
+                    align2,
+                    phase2,
+                )),
+                ComponentsAnswer::Refused(number) => Decision::Refused(number),
+            },
+            ComponentsAnswer::Refused(number) => Decision::Refused(number),
+        }
+    }
+}

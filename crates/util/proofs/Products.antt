@@ -1,0 +1,63 @@
+-- Products of numbers of w bits. Assumes nothing.
+use mathlib.Core.Path.{_≡_, sym, ap, _∙_}
+use Prim.Native.Nat.{ℕ, _+_, _-_, _*_, _/_, _%_, _^_, _≤_, _<_}
+use lib.Bits.{bitAnd, and-mask, mask-lt}
+use lib.Pow.{pow-add, shl-lt, split}
+use borrow.Author.Tests.{le-leb, lt-leb}
+use native.Mathlib.Nat.{le-of-lt, lt-of-le-of-lt, mul-le-mul-left, mul-add-mod-self-right, div-add-mod', add-mod-mod, le-div-iff-mul-le, div-lt-iff-lt-mul}
+use native.Mathlib.Omega.{arith}
+use Rattle.util.specs.Width.{M, held, passes, heldIn}
+
+-- a number of s bits times one of t bits has at most s + t bits
+pub mul-lt-pow : {a b : ℕ} (s t : ℕ) → a < 2 ^ s → b < 2 ^ t → a * b < 2 ^ (s + t)
+mul-lt-pow {a} s t ha hb = lt-of-le-of-lt (mul-le-mul-left a (le-of-lt hb)) (shl-lt s t ha)
+
+-- w bits hold a number; they do not
+pub held-within : (w x : ℕ) → x ≤ M w → heldIn w x ≡ held x
+held-within w x h = simp (le-leb x (M w) h)
+
+pub held-past : (w x : ℕ) → M w < x → heldIn w x ≡ passes
+held-past w x h = simp (lt-leb x (M w) h)
+
+-- the test of a product by a quotient: M / b is below a exactly where a * b is above M
+pub quotient-within : (m a b : ℕ) → 0 < b → a ≤ m / b → a * b ≤ m
+quotient-within m a b p h = le-div-iff-mul-le p .0 h
+
+pub quotient-past : (m a b : ℕ) → 0 < b → m / b < a → m < a * b
+quotient-past m a b p h = div-lt-iff-lt-mul p .0 h
+
+-- a product modulo 2 ^ (h + h) by halves of h bits: the low halves' product, and the cross products' sum one half up; both sums wrap
+pub by-halves : (B a0 a1 b0 b1 : ℕ) → (a0 * b0 + (a1 * b0 + a0 * b1) * B) % (B * B) ≡ (a1 * B + a0) * (b1 * B + b0) % (B * B)
+by-halves B a0 a1 b0 b1 =
+    let whole : (a1 * B + a0) * (b1 * B + b0) ≡ a1 * b1 * (B * B) + (a0 * b0 + (a1 * b0 + a0 * b1) * B) = omega arith in
+    sym (ap (λ (n : ℕ). n % (B * B)) whole ∙ mul-add-mod-self-right (a1 * b1) (B * B) (a0 * b0 + (a1 * b0 + a0 * b1) * B))
+
+abbrev pub lo : ℕ → ℕ → ℕ
+lo h n = bitAnd n (2 ^ h - 1)
+
+abbrev pub hi : ℕ → ℕ → ℕ
+hi h n = n / 2 ^ h
+
+pub lo-lt : (h n : ℕ) → lo h n < 2 ^ h
+lo-lt h n = mask-lt n h
+
+pub wrapped : (h a b x : ℕ) → x ≡ (hi h a * lo h b + lo h a * hi h b) % 2 ^ (h + h)
+    → (lo h a * lo h b + (x * 2 ^ h) % 2 ^ (h + h)) % 2 ^ (h + h) ≡ a * b % 2 ^ (h + h)
+wrapped h a b x e =
+    add-mod-mod (lo h a * lo h b) (x * 2 ^ h) (2 ^ (h + h))
+    ∙ ap (λ (n : ℕ). (lo h a * lo h b + n * 2 ^ h) % 2 ^ (h + h)) e
+    ∙ unwrapped
+    ∙ (λ i. sums (λ n. and-mask n h i) % pow-add 2 h h i)
+    ∙ by-halves (2 ^ h) (a % 2 ^ h) (a / 2 ^ h) (b % 2 ^ h) (b / 2 ^ h)
+    ∙ (λ i. split a h i * split b h i % sym (pow-add 2 h h) i)
+  where
+    sums : (ℕ → ℕ) → ℕ
+    sums l = l a * l b + (a / 2 ^ h * l b + l a * (b / 2 ^ h)) * 2 ^ h
+
+    unwrapped : (lo h a * lo h b + (hi h a * lo h b + lo h a * hi h b) % 2 ^ (h + h) * 2 ^ h) % 2 ^ (h + h) ≡ sums (lo h) % 2 ^ (h + h)
+    unwrapped =
+        let m = 2 ^ (h + h) in
+        let s = hi h a * lo h b + lo h a * hi h b in
+        let d : (s / m * m + s % m) * 2 ^ h ≡ s * 2 ^ h = ap (λ (n : ℕ). n * 2 ^ h) (div-add-mod' s m) in
+        let w : lo h a * lo h b + s * 2 ^ h ≡ s / m * 2 ^ h * m + (lo h a * lo h b + s % m * 2 ^ h) = omega arith in
+        sym (ap (λ (n : ℕ). n % m) w ∙ mul-add-mod-self-right (s / m * 2 ^ h) m (lo h a * lo h b + s % m * 2 ^ h))

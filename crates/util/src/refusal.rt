@@ -1,0 +1,48 @@
+// Why a call is refused: the numbers of document 01, "When a call says no". A number is never reused.
+
+// An alignment is 0 or no power of two.
+pub const ALIGN_NOT_POWER_OF_TWO: u64 = 1;
+// The rounding word is 0.
+pub const ROUNDING_WORD_ZERO: u64 = 2;
+// A phase is not below its alignment.
+pub const PHASE_NOT_BELOW_ALIGN: u64 = 3;
+// A type's size is not a multiple of its alignment.
+pub const SIZE_NOT_MULTIPLE_OF_ALIGN: u64 = 4;
+// The packing is no power of two.
+pub const PACKING_NOT_POWER_OF_TWO: u64 = 5;
+// An alignment or the packing is above 2^29, while a member is added.
+pub const ALIGN_ABOVE_MAX: u64 = 6;
+// A member comes after a trailing part.
+pub const MEMBER_AFTER_TRAILING: u64 = 7;
+// Rounding up passes the greatest number.
+pub const ROUNDING_PASSES_MAX: u64 = 8;
+// A member's size, offset or base passes the greatest number.
+pub const MEMBER_PASSES_MAX: u64 = 9;
+// A cast with element size 0.
+pub const CAST_ELEM_SIZE_ZERO: u64 = 10;
+// Address plus length passes the greatest number.
+pub const ADDRESS_PASSES_MAX: u64 = 11;
+// A cast is not aligned.
+pub const CAST_NOT_ALIGNED: u64 = 12;
+// A cast has too few bytes.
+pub const CAST_TOO_SMALL: u64 = 13;
+// There is no exact count, the layout is fixed, or its element size is 0.
+pub const NO_EXACT_COUNT: u64 = 14;
+// There is no size at this count.
+pub const NO_SIZE: u64 = 15;
+// The room is below the size at count 0.
+pub const NO_ROOM: u64 = 16;
+// An advance passes the greatest number.
+pub const ADVANCE_PASSES_MAX: u64 = 17;
+// There is no conversion.
+pub const NO_CONVERSION: u64 = 18;
+// The converted count passes the greatest number.
+pub const CONVERTED_COUNT_PASSES_MAX: u64 = 19;
+// A record is not 48 bytes long, or a list no multiple of that.
+pub const RECORD_LENGTH: u64 = 20;
+// A record's kind is above the greatest.
+pub const KIND: u64 = 21;
+// A fixed record has a later word that is not 0.
+pub const FIXED_RECORD: u64 = 22;
+// A scalar code is above the greatest.
+pub const SCALAR_CODE: u64 = 23;
