@@ -1,9 +1,12 @@
--- What an answer of `components` tells its caller. Assumes nothing.
+-- What the answers of rounding words tell their callers. Assumes nothing.
 use mathlib.Core.Path.{_≡_, subst}
 use Prim.Native.Nat.{ℕ}
 use Rattle.util.specs.Refusal.{Meets}
+use Rattle.util.specs.View.{numberSays}
+use Rattle.util.specs.declared.Answer.{Answer}
+use Rattle.util.specs.declared.Answer.the-variants as Answer
 use Rattle.util.proofs.Refusals.{granted, stopped}
-use Rattle.rounding.specs.Word.{IsWord, wordCauses, PartsOf}
+use Rattle.rounding.specs.Word.{IsWord, wordCauses, PartsOf, AlignOf}
 use Rattle.rounding.specs.View.{componentsSays}
 use Rattle.rounding.specs.declared.ComponentsAnswer.{ComponentsAnswer}
 use Rattle.rounding.specs.declared.ComponentsAnswer.the-variants as Parts
@@ -14,3 +17,10 @@ parts-told {n} r m e = granted (subst (λ (x : ComponentsAnswer). Meets (wordCau
 
 pub parts-refused : {n k : ℕ} (r : ComponentsAnswer) → Meets (wordCauses n) (PartsOf n) (componentsSays r) → r ≡ Parts.Refused k → (n ≡ 0) × (k ≡ 2)
 parts-refused {n} r m e = word-refused (stopped (subst (λ (x : ComponentsAnswer). Meets (wordCauses n) (PartsOf n) (componentsSays x)) e m))
+
+-- of `align`
+pub align-told : {n a : ℕ} (r : Answer) → Meets (wordCauses n) (AlignOf n) (numberSays r) → r ≡ Answer.Number a → AlignOf n a
+align-told {n} r m e = granted (subst (λ (x : Answer). Meets (wordCauses n) (AlignOf n) (numberSays x)) e m) .1
+
+pub align-refused : {n k : ℕ} (r : Answer) → Meets (wordCauses n) (AlignOf n) (numberSays r) → r ≡ Answer.Refused k → (n ≡ 0) × (k ≡ 2)
+align-refused {n} r m e = word-refused (stopped (subst (λ (x : Answer). Meets (wordCauses n) (AlignOf n) (numberSays x)) e m))

@@ -121,3 +121,21 @@ word-clear n cs x h = simp (ne-eqb n 0 (λ e. omega arith))
 pub word-stop : {T : Type 0} {n k : ℕ} (cs : List Cause) (x : T) → (n ≡ 0) × (k ≡ 2) → refused k ≡ unless (wordZero n ∷ cs) x
 unfolding unless
 word-stop {T} {n} cs x z = simp (eq-eqb n 0 (z .0)) (ap refused (z .1))
+
+-- the highest one bit of a number that is not 0 is a power of two, however large the number
+pub highest-power : (k n : ℕ) → 0 < n → PowerOfTwo (highestBit (suc k) n)
+unfolding highestBit
+highest-power zero n h = go (leb (2 ^ 0) n) refl
+  where
+    go : (b : Bool) → leb (2 ^ 0) n ≡ b → PowerOfTwo (cond b (2 ^ 0) 0)
+    go true e = record { exponent = 0; power = refl }
+    go false e = absurd (omega (arith, leb-false (2 ^ 0) n e))
+highest-power (suc k) n h = go (leb (2 ^ suc k) n) (highest-power k n h)
+  where
+    go : (b : Bool) → PowerOfTwo (highestBit (suc k) n) → PowerOfTwo (cond b (2 ^ suc k) (highestBit (suc k) n))
+    go true q = record { exponent = suc k; power = refl }
+    go false q = q
+
+pub align-power : (w n : ℕ) → 0 < w → 0 < n → PowerOfTwo (alignOf w n)
+align-power zero n h p = absurd (omega arith)
+align-power (suc k) n h p = highest-power k n p

@@ -162,3 +162,7 @@ same-meets w s t hs ht =
 pub same-answered : (w : ℕ) (s t : Trailing) → 0 < s .word → 0 < t .word → sameFor w s t ≡ answered (sameSequence w s t)
 unfolding sameFor unless
 same-answered w s t ps pt = simp (ne-eqb (s .word) 0 (λ z. omega arith), ne-eqb (t .word) 0 (λ z. omega arith))
+
+pub size-offset-answered : (w : ℕ) (t : Trailing) → 0 < t .word → sizeOffsetFor w t ≡ answered (sizeOffset w t)
+unfolding sizeOffsetFor unless
+size-offset-answered w t h = simp (ne-eqb (t .word) 0 (λ z. omega arith))

@@ -1,18 +1,23 @@
 -- What the answers of trailing layouts tell their callers. Assumes nothing.
 use mathlib.Core.Path.{_≡_, sym, ap, _∙_, subst}
 use mathlib.Core.Logic.{inl, inr}
-use Prim.Native.Nat.{ℕ, _^_, _≤_, _<_}
+use mathlib.Core.Bool.{Bool}
+use Prim.Native.Nat.{ℕ, _+_, _^_, _≤_, _<_}
 use native.Mathlib.Omega.{arith}
 use Rattle.util.specs.Width.{M}
-use Rattle.util.specs.Refusal.{Outcome, answered, refused, First, Meets}
+use Rattle.util.specs.Refusal.{Outcome, answered, refused, Tells, holds, fails, First, Meets}
 use Rattle.util.specs.View.{numberSays}
 use Rattle.util.specs.declared.Answer.{Answer}
 use Rattle.util.specs.declared.Answer.the-variants as Answer
-use Rattle.util.proofs.Refusals.{granted, stopped, known, tells-le}
-use Rattle.trailing.specs.Size.{Trailing, A, p, sizeWith, sizeAt, HasSize}
+use Rattle.util.proofs.Refusals.{granted, stopped, known, clear, tells-eq, tells-le, tells-lt}
+use Rattle.util.proofs.Tables.{told-by, apart, answer-is, accepted-none}
+use Rattle.trailing.specs.Size.{Trailing, A, p, sizeWith, sizeAt, HasSize, sizeOffset}
 use Rattle.trailing.specs.Count.{GreatestBytes}
-use Rattle.trailing.specs.Calls.{maxTrailingCauses, maxTrailingFor, GreatestIn, sizeCauses, sizeFor}
-use Rattle.trailing.specs.View.{sizeSays}
+use Rattle.trailing.specs.Calls.{maxTrailingCauses, maxTrailingFor, GreatestIn, sizeCauses, sizeFor, advanceCauses, advanced, advanceFor}
+use Rattle.trailing.specs.View.{trailingOf, sizeSays, advanceSays}
+use Rattle.trailing.specs.declared.TrailingSliceLayout.{TrailingSliceLayout}
+use Rattle.trailing.specs.declared.AdvanceAnswer.{AdvanceAnswer}
+use Rattle.trailing.specs.declared.AdvanceAnswer.the-variants as Advance
 use Rattle.trailing.specs.declared.SizeAnswer.{SizeAnswer}
 use Rattle.trailing.specs.declared.SizeAnswer.the-variants as Size
 use Rattle.trailing.proofs.Calls.{max-trailing-meets, size-meets}
@@ -46,3 +51,22 @@ size-missing {k} w t n r p h e g =
     go (inl z) = absurd (omega (arith, z .0))
     go (inr (z, inl y)) = omega (arith, y .0)
     go (inr (z, inr y)) = absurd (y .1)
+
+-- of `advance`: the advanced layout; refused, a layout whose word is not 0 was taken past M
+pub advance-told : {m : TrailingSliceLayout} (w : ℕ) (t : Trailing) (y e : ℕ) (r : AdvanceAnswer) → advanceSays r ≡ advanceFor w t y e → r ≡ Advance.Layout m
+    → (trailingOf m ≡ advanced w t y e) × (sizeOffset w t + y ≤ M w)
+unfolding advanceFor
+advance-told w t y e r i g =
+    let o = told-by advanceSays i g in
+    let n = accepted-none (advanceCauses w t y) (advanced w t y e) (tells-eq (t .word) 0, λ _. (tells-lt (M w) (sizeOffset w t + y), λ _. tt)) o in
+    (answer-is (advanceCauses w t y) (advanced w t y e) o, omega (arith, n .1 .0))
+
+pub advance-missing : {k : ℕ} (w : ℕ) (t : Trailing) (y e : ℕ) (r : AdvanceAnswer) → 0 < t .word → advanceSays r ≡ advanceFor w t y e → r ≡ Advance.Refused k → M w < sizeOffset w t + y
+unfolding advanceFor
+advance-missing {k} w t y e r p i g = go (tells-lt (M w) (sizeOffset w t + y))
+  where
+    go : {b : Bool} → Tells (M w < sizeOffset w t + y) b → M w < sizeOffset w t + y
+    go (holds l) = l
+    go (fails n) =
+        absurd (apart (sym (told-by advanceSays i g)
+        ∙ clear (advanceCauses w t y) (tells-eq (t .word) 0, λ _. (tells-lt (M w) (sizeOffset w t + y), λ _. tt)) ((λ z. omega arith), (n, tt))))

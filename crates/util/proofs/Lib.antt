@@ -6,3 +6,4 @@ pub mod Masks
 pub mod Helpers
 pub mod Products
 pub mod Told
+pub mod Tables

@@ -1,0 +1,16 @@
+-- `layout::DstLayout::for_type` meets its contract. Assumes nothing.
+use mathlib.Core.Bool.{false}
+use Rattle.util.proofs.Refusals.{told}
+use Rattle.layout.proofs.Made.{type-meets}
+use borrow.Author.Needs.{needs}
+use Rattle.layout.proofs.DstLayout.for_type.Statement.{statement}
+use Rattle.layout.proofs.DstLayout.for_type.Tie as tie
+
+for-marked-type-requires : tie.Need-for-marked-type-requires
+for-marked-type-requires c κs = search needs
+
+returns : tie.Need-returns
+returns c = told (type-meets 64 false (c .before .args .size) (c .before .args .align) (c .before .fits .align .fits)) (c .for-marked-type .ensures)
+
+pub for-type-spec : {M : Type 1} → statement M
+for-type-spec = tie.close (tie.spec for-marked-type-requires returns)

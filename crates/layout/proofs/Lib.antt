@@ -1,0 +1,8 @@
+-- Laws of layouts, over any width.
+pub mod Passes
+pub mod Layouts
+pub mod Made
+pub mod Steps
+pub mod Padding
+pub mod Settled
+pub mod Marks

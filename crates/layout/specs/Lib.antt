@@ -1,0 +1,5 @@
+pub mod Layout
+pub mod Make
+pub mod Extend
+pub mod Pad
+pub mod View

@@ -1,0 +1,550 @@
+// Whole layouts, after zerocopy's DstLayout.
+ghost use mathlib.Core.Path.{_≡_};
+ghost use mathlib.Core.Bool.{true, false, not, _&&_};
+ghost use mathlib.Core.List.{[], _∷_};
+ghost use Prim.Native.Nat.{ℕ, _%_, _<_, max};
+ghost use lib.Dec.{eqb};
+ghost use Rattle.util.specs.Power.{PowerOfTwo};
+ghost use Rattle.util.specs.Round.{up};
+ghost use Rattle.util.specs.Refusal.{answered, unless, None, Meets, Tells};
+ghost use Rattle.util.specs.Helpers.{alignCauses};
+ghost use Rattle.util.specs.View.{numberSays, decisionSays};
+ghost use Rattle.rounding.specs.Word.{IsWord, alignOf};
+ghost use Rattle.trailing.specs.View.{trailingOf};
+ghost use Rattle.layout.specs.Layout.{trailing, noWord, layoutCauses, checkFor, HeldIn};
+ghost use Rattle.layout.specs.Make.{asked, emptyLayout, newZstFor, typeCauses, typeLayout, typeFor, sliceLayout, sliceFor};
+ghost use Rattle.layout.specs.Extend.{memberAlign, placedAt, extended, badPacking, aboveGreatest, passes8, memberPasses, placeCauses, stepCauses, extendCauses, extendFor, Extended};
+ghost use Rattle.layout.specs.Pad.{fixedPart, coarser, finer, paddedTail, paddedInfo, paddedMark, padded, paddingNeeds, padCauses, padFor, Padded, staticFor, DynamicPadding, dynamicPadding, dynamicFor};
+ghost use Rattle.layout.specs.View.{infoOf, layoutOf, layoutSays, infoSays, checkSays};
+use rounding::ComponentsAnswer;
+use rounding::RoundingAlignAndPhase;
+use trailing::SizeAnswer;
+use trailing::TrailingSliceLayout;
+use util::Answer;
+use util::Decision;
+use util::refusal;
+
+// How large a layout is: a size, or a size at each count.
+pub enum SizeInfo {
+    Sized { size: u64 },
+    SliceDst(TrailingSliceLayout),
+}
+
+pub struct DstLayout {
+    pub align: u64,
+    pub size_info: SizeInfo,
+    // No padding is known between the members.
+    pub statically_shallow_unpadded: bool,
+}
+
+// A layout, or the number of the refusal.
+pub enum LayoutAnswer {
+    Layout(DstLayout),
+    Refused(u64),
+}
+
+// How large a layout is, or the number of the refusal.
+pub enum SizeInfoAnswer {
+    Info(SizeInfo),
+    Refused(u64),
+}
+
+// Whether a layout is accepted, or the number of the refusal.
+pub enum Check {
+    Accepted,
+    Refused(u64),
+}
+
+// The least alignment, which a layout has where none is asked for.
+pub const MIN_ALIGN: u64 = 1;
+
+// The greatest alignment of the members and the packing of a composed layout.
+pub const CURRENT_MAX_ALIGN: u64 = 1 << 29;
+
+// The alignment asked for; 0 means that none is.
+fn asked_align(repr_align: u64) -> u64
+    ensures { λ r. ⌜ r ≡ asked «repr_align» ⌝ }
+{
+    if repr_align == 0 {
+        MIN_ALIGN
+    } else {
+        repr_align
+    }
+}
+
+// Whether a type can have this size and alignment: the size is a multiple of the alignment.
+fn check_type(size: u64, align: u64) -> Check
+    ensures { λ r. ⌜ checkSays r ≡ unless (typeCauses 64 size align) tt ⌝ }
+{
+    if util::is_power_of_two(align) {
+        if size & (align - 1) == 0 {
+            Check::Accepted
+        } else {
+            Check::Refused(refusal::SIZE_NOT_MULTIPLE_OF_ALIGN)
+        }
+    } else {
+        Check::Refused(refusal::ALIGN_NOT_POWER_OF_TWO)
+    }
+}
+
+fn for_marked_type(size: u64, align: u64, unpadded: bool) -> LayoutAnswer
+    ensures { λ r. ⌜ layoutSays r ≡ typeFor 64 unpadded size align ⌝ }
+{
+    match check_type(size, align) {
+        Check::Accepted => LayoutAnswer::Layout(DstLayout {
+            align,
+            size_info: SizeInfo::Sized { size },
+            statically_shallow_unpadded: unpadded,
+        }),
+        Check::Refused(number) => LayoutAnswer::Refused(number),
+    }
+}
+
+// len rounded up to a multiple of align, where that does not pass the greatest number.
+fn round_up(len: u64, align: u64) -> Answer
+    requires { ⌜ PowerOfTwo align ⌝ }
+    ensures { λ r. ⌜ numberSays r ≡ unless (passes8 64 (up len align) ∷ []) (up len align) ⌝ }
+{
+    match util::padding_needed_for(len, align) {
+        Answer::Number(padding) => {
+            if u64::MAX - padding < len {
+                Answer::Refused(refusal::ROUNDING_PASSES_MAX)
+            } else {
+                Answer::Number(len + padding)
+            }
+        }
+        Answer::Refused(number) => Answer::Refused(number),
+    }
+}
+
+// A packing of 0 is none.
+fn bad_packing(repr_packed: u64) -> bool
+    ensures { λ r. ⌜ r ≡ badPacking 64 «repr_packed» .test ⌝ }
+{
+    if repr_packed == 0 {
+        return false;
+    }
+    let power = util::is_power_of_two(repr_packed);
+    !power
+}
+
+// A member's own alignment is tested, not what the packing leaves of it.
+fn above_max(align: u64, field_align: u64, repr_packed: u64) -> bool
+    ensures { λ r. ⌜ r ≡ aboveGreatest align «field_align» «repr_packed» .test ⌝ }
+{
+    if align > CURRENT_MAX_ALIGN {
+        return true;
+    }
+    if field_align > CURRENT_MAX_ALIGN {
+        return true;
+    }
+    repr_packed > CURRENT_MAX_ALIGN
+}
+
+// A member's alignment: the packing lowers it.
+fn packed_align(align: u64, repr_packed: u64) -> Answer
+    requires { ⌜ PowerOfTwo align × (badPacking 64 «repr_packed» .means → ⊥) ⌝ }
+    ensures { λ r. ⌜ numberSays r ≡ answered (memberAlign align «repr_packed») ⌝ }
+{
+    if repr_packed == 0 {
+        return Answer::Number(align);
+    }
+    util::min(align, repr_packed)
+}
+
+// The base is not rounded, so that the place is added to it as it is to the offset.
+fn place_trailing(tail: TrailingSliceLayout, place: u64) -> SizeInfoAnswer
+    ensures { λ r. ⌜ infoSays r ≡ unless (memberPasses 64 place (trailing (trailingOf tail)) ∷ []) (placedAt place (trailing (trailingOf tail))) ⌝ }
+{
+    let word = tail.size_rounding_align_and_phase;
+    if u64::MAX - place < tail.offset {
+        return SizeInfoAnswer::Refused(refusal::MEMBER_PASSES_MAX);
+    }
+    if u64::MAX - place < tail.size_base {
+        return SizeInfoAnswer::Refused(refusal::MEMBER_PASSES_MAX);
+    }
+    SizeInfoAnswer::Info(SizeInfo::SliceDst(TrailingSliceLayout {
+        offset: place + tail.offset,
+        elem_size: tail.elem_size,
+        size_base: place + tail.size_base,
+        size_rounding_align_and_phase: word,
+    }))
+}
+
+// The size of a layout whose last member stands at place.
+fn place_member(size_info: SizeInfo, place: u64) -> SizeInfoAnswer
+    ensures { λ r. ⌜ infoSays r ≡ unless (memberPasses 64 place (infoOf «size_info») ∷ []) (placedAt place (infoOf «size_info»)) ⌝ }
+{
+    match size_info {
+        SizeInfo::Sized { size } => {
+            if u64::MAX - place < size {
+                SizeInfoAnswer::Refused(refusal::MEMBER_PASSES_MAX)
+            } else {
+                SizeInfoAnswer::Info(SizeInfo::Sized { size: place + size })
+            }
+        }
+        SizeInfo::SliceDst(tail) => place_trailing(tail, place),
+    }
+}
+
+// Whether the mark stays: both had it and no gap arose.
+fn step_mark(unpadded: bool, field_unpadded: bool, preceding_size: u64, place: u64) -> bool
+    ensures { λ r. ⌜ r ≡ (unpadded && («field_unpadded» && eqb place «preceding_size»)) ⌝ }
+{
+    if unpadded {
+        if field_unpadded {
+            place == preceding_size
+        } else {
+            false
+        }
+    } else {
+        false
+    }
+}
+
+// Padding to an alignment above that of the rounding word. The fixed part of every size, the base rounded up to the word's
+// alignment and the phase, splits into a multiple of the new alignment and the new phase.
+fn pad_coarser(
+    tail: TrailingSliceLayout,
+    size_align: u64,
+    size_phase: u64,
+    align: u64,
+) -> SizeInfoAnswer
+    requires { ⌜ PowerOfTwo align × IsWord (tail .«size_rounding_align_and_phase» .0) «size_align» «size_phase» ⌝ }
+    ensures { λ r. ⌜ infoSays r ≡ unless (passes8 64 (fixedPart 64 (trailingOf tail)) ∷ []) (trailing (coarser 64 align (trailingOf tail))) ⌝ }
+{
+    match round_up(tail.size_base, size_align) {
+        Answer::Number(rounded_base) => {
+            if u64::MAX - rounded_base < size_phase {
+                return SizeInfoAnswer::Refused(refusal::ROUNDING_PASSES_MAX);
+            }
+            let fixed_contribution = rounded_base + size_phase;
+            let align_mask = align - 1;
+            let phase = fixed_contribution & align_mask;
+            SizeInfoAnswer::Info(SizeInfo::SliceDst(TrailingSliceLayout {
+                offset: tail.offset,
+                elem_size: tail.elem_size,
+                size_base: fixed_contribution & !align_mask,
+                size_rounding_align_and_phase: RoundingAlignAndPhase(align + phase),
+            }))
+        }
+        Answer::Refused(number) => SizeInfoAnswer::Refused(number),
+    }
+}
+
+// Padding to an alignment that divides that of the rounding word: what the word rounds is a multiple of it already.
+fn pad_finer(tail: TrailingSliceLayout, align: u64) -> SizeInfoAnswer
+    requires { ⌜ PowerOfTwo align ⌝ }
+    ensures { λ r. ⌜ infoSays r ≡ unless (passes8 64 (up (tail .«size_base») align) ∷ []) (trailing (finer align (trailingOf tail))) ⌝ }
+{
+    let word = tail.size_rounding_align_and_phase;
+    match round_up(tail.size_base, align) {
+        Answer::Number(size_base) => SizeInfoAnswer::Info(SizeInfo::SliceDst(TrailingSliceLayout {
+            offset: tail.offset,
+            elem_size: tail.elem_size,
+            size_base,
+            size_rounding_align_and_phase: word,
+        })),
+        Answer::Refused(number) => SizeInfoAnswer::Refused(number),
+    }
+}
+
+fn pad_trailing(tail: TrailingSliceLayout, align: u64) -> SizeInfoAnswer
+    requires { ⌜ PowerOfTwo align × (0 < tail .«size_rounding_align_and_phase» .0) ⌝ }
+    ensures { λ r. ⌜ infoSays r ≡ unless (passes8 64 (paddingNeeds 64 align (trailing (trailingOf tail))) ∷ []) (trailing (paddedTail 64 align (trailingOf tail))) ⌝ }
+{
+    let word = tail.size_rounding_align_and_phase;
+    match word.components() {
+        ComponentsAnswer::Components {
+            align: size_align,
+            phase: size_phase,
+        } => {
+            if size_align < align {
+                pad_coarser(tail, size_align, size_phase, align)
+            } else {
+                pad_finer(tail, align)
+            }
+        }
+        ComponentsAnswer::Refused(number) => SizeInfoAnswer::Refused(number),
+    }
+}
+
+// The sizes, rounded up to the alignment.
+fn pad_size(size_info: SizeInfo, align: u64) -> SizeInfoAnswer
+    requires { ⌜ PowerOfTwo align × (noWord (infoOf «size_info») .means → ⊥) ⌝ }
+    ensures { λ r. ⌜ infoSays r ≡ unless (passes8 64 (paddingNeeds 64 align (infoOf «size_info»)) ∷ []) (paddedInfo 64 align (infoOf «size_info»)) ⌝ }
+{
+    match size_info {
+        SizeInfo::Sized { size } => match round_up(size, align) {
+            Answer::Number(padded_size) => {
+                SizeInfoAnswer::Info(SizeInfo::Sized { size: padded_size })
+            }
+            Answer::Refused(number) => SizeInfoAnswer::Refused(number),
+        },
+        SizeInfo::SliceDst(tail) => pad_trailing(tail, align),
+    }
+}
+
+// Whether the mark stays: that of a fixed layout falls where padding adds bytes, which it does not to a multiple.
+fn pad_mark(size_info: SizeInfo, align: u64, unpadded: bool) -> bool
+    requires { ⌜ PowerOfTwo align ⌝ }
+    ensures { λ r. ⌜ r ≡ paddedMark align (infoOf «size_info») unpadded ⌝ }
+{
+    match size_info {
+        SizeInfo::Sized { size } => {
+            if unpadded {
+                let remainder = size & (align - 1);
+                remainder == 0
+            } else {
+                false
+            }
+        }
+        SizeInfo::SliceDst(_) => unpadded,
+    }
+}
+
+// Whether the padding changes with the count: the element size is not a multiple of the rounding word's alignment.
+fn has_dynamic_stride(tail: TrailingSliceLayout) -> Decision
+    requires { ⌜ 0 < tail .«size_rounding_align_and_phase» .0 ⌝ }
+    ensures { λ r. ⌜ decisionSays r ≡ answered (not (eqb (tail .«elem_size» % alignOf 64 (tail .«size_rounding_align_and_phase» .0)) 0)) ⌝ }
+{
+    let word = tail.size_rounding_align_and_phase;
+    match word.align() {
+        Answer::Number(align) => Decision::Is(tail.elem_size & (align - 1) != 0),
+        Answer::Refused(number) => Decision::Refused(number),
+    }
+}
+
+fn trailing_padding(tail: TrailingSliceLayout) -> Decision
+    requires { ⌜ 0 < tail .«size_rounding_align_and_phase» .0 ⌝ }
+    ensures { λ r. ⌜ decisionSays r ≡ answered (dynamicPadding 64 (trailing (trailingOf tail))) ⌝ }
+{
+    let SizeAnswer::Size(initial_size) = tail.size_for_elems(0) else {
+        return Decision::Is(true);
+    };
+    if initial_size == tail.offset {
+        has_dynamic_stride(tail)
+    } else {
+        Decision::Is(true)
+    }
+}
+
+fn dynamic_padding(size_info: SizeInfo) -> Decision
+    requires { ⌜ (noWord (infoOf «size_info») .means → ⊥) ⌝ }
+    ensures { λ r. ⌜ decisionSays r ≡ answered (dynamicPadding 64 (infoOf «size_info»)) ⌝ }
+{
+    match size_info {
+        SizeInfo::Sized { size: _ } => Decision::Is(false),
+        SizeInfo::SliceDst(tail) => trailing_padding(tail),
+    }
+}
+
+impl DstLayout {
+    // Whether the layout is one: its alignment is a power of two and its rounding word, if it has one, is not 0.
+    pub fn check(self) -> Check
+        ensures answer { λ r. ⌜ checkSays r ≡ checkFor 64 (layoutOf self) ⌝ }
+        ensures meaning { λ r. ⌜ Meets (layoutCauses 64 (layoutOf self)) (λ _. HeldIn 64 (layoutOf self)) (checkSays r) ⌝ }
+    {
+        if util::is_power_of_two(self.align) {
+            let size_info = self.size_info;
+            match size_info {
+                SizeInfo::Sized { size: _ } => Check::Accepted,
+                SizeInfo::SliceDst(trailing) => {
+                    let word = trailing.size_rounding_align_and_phase;
+                    if word.0 == 0 {
+                        Check::Refused(refusal::ROUNDING_WORD_ZERO)
+                    } else {
+                        Check::Accepted
+                    }
+                }
+            }
+        } else {
+            Check::Refused(refusal::ALIGN_NOT_POWER_OF_TWO)
+        }
+    }
+
+    // The layout of a type with no members: size 0 and the alignment asked for.
+    pub fn new_zst(repr_align: u64) -> LayoutAnswer
+        ensures answer { λ r. ⌜ layoutSays r ≡ newZstFor 64 «repr_align» ⌝ }
+        ensures meaning { λ r. ⌜ Meets (alignCauses 64 (asked «repr_align»)) (λ l. l ≡ emptyLayout «repr_align») (layoutSays r) ⌝ }
+    {
+        let align = asked_align(repr_align);
+        if util::is_power_of_two(align) {
+            LayoutAnswer::Layout(DstLayout {
+                align,
+                size_info: SizeInfo::Sized { size: 0 },
+                statically_shallow_unpadded: true,
+            })
+        } else {
+            LayoutAnswer::Refused(refusal::ALIGN_NOT_POWER_OF_TWO)
+        }
+    }
+
+    // The layout of a type of which it is not known whether it has padding.
+    pub fn for_type(size: u64, align: u64) -> LayoutAnswer
+        ensures answer { λ r. ⌜ layoutSays r ≡ typeFor 64 false size align ⌝ }
+        ensures meaning { λ r. ⌜ Meets (typeCauses 64 size align) (λ l. l ≡ typeLayout false size align) (layoutSays r) ⌝ }
+    {
+        for_marked_type(size, align, false)
+    }
+
+    // The layout of a type that is taken to have no padding.
+    pub fn for_unpadded_type(size: u64, align: u64) -> LayoutAnswer
+        ensures answer { λ r. ⌜ layoutSays r ≡ typeFor 64 true size align ⌝ }
+        ensures meaning { λ r. ⌜ Meets (typeCauses 64 size align) (λ l. l ≡ typeLayout true size align) (layoutSays r) ⌝ }
+    {
+        for_marked_type(size, align, true)
+    }
+
+    // The layout of a slice of a type: its elements from offset 0 on, so that the phase is 0 and the word is the alignment.
+    pub fn for_slice(size: u64, align: u64) -> LayoutAnswer
+        ensures answer { λ r. ⌜ layoutSays r ≡ sliceFor 64 size align ⌝ }
+        ensures meaning { λ r. ⌜ Meets (typeCauses 64 size align) (λ l. l ≡ sliceLayout size align) (layoutSays r) ⌝ }
+    {
+        match check_type(size, align) {
+            Check::Accepted => LayoutAnswer::Layout(DstLayout {
+                align,
+                size_info: SizeInfo::SliceDst(TrailingSliceLayout {
+                    offset: 0,
+                    elem_size: size,
+                    size_base: 0,
+                    size_rounding_align_and_phase: RoundingAlignAndPhase(align),
+                }),
+                statically_shallow_unpadded: true,
+            }),
+            Check::Refused(number) => LayoutAnswer::Refused(number),
+        }
+    }
+
+    fn extend_at(
+        self,
+        field: DstLayout,
+        field_align: u64,
+        preceding_size: u64,
+        place: u64,
+    ) -> LayoutAnswer
+        requires { ⌜ PowerOfTwo (self .align) × PowerOfTwo «field_align» ⌝ }
+        ensures { λ r. ⌜ layoutSays r ≡ unless (memberPasses 64 place (infoOf (field .«size_info»)) ∷ []) (record { align = max (self .align) «field_align»; info = placedAt place (infoOf (field .«size_info»)); mark = self .«statically_shallow_unpadded» && (field .«statically_shallow_unpadded» && eqb place «preceding_size») }) ⌝ }
+    {
+        let field_info = field.size_info;
+        let unpadded = step_mark(
+            self.statically_shallow_unpadded,
+            field.statically_shallow_unpadded,
+            preceding_size,
+            place,
+        );
+        match place_member(field_info, place) {
+            SizeInfoAnswer::Info(size_info) => match util::max(self.align, field_align) {
+                Answer::Number(align) => LayoutAnswer::Layout(DstLayout {
+                    align,
+                    size_info,
+                    statically_shallow_unpadded: unpadded,
+                }),
+                Answer::Refused(number) => LayoutAnswer::Refused(number),
+            },
+            SizeInfoAnswer::Refused(number) => LayoutAnswer::Refused(number),
+        }
+    }
+
+    // The step where the member's alignment is field_align, which is its own lowered by the packing.
+    fn extend_aligned(self, field: DstLayout, field_align: u64) -> LayoutAnswer
+        requires { ⌜ PowerOfTwo (self .align) × PowerOfTwo «field_align» ⌝ }
+        ensures { λ r. ⌜ ((packing : ℕ) → «field_align» ≡ memberAlign (field .align) packing → layoutSays r ≡ unless (placeCauses 64 (layoutOf self) (layoutOf field) packing) (extended (layoutOf self) (layoutOf field) packing)) ⌝ }
+    {
+        let size_info = self.size_info;
+        match size_info {
+            SizeInfo::Sized {
+                size: preceding_size,
+            } => match round_up(preceding_size, field_align) {
+                Answer::Number(place) => self.extend_at(field, field_align, preceding_size, place),
+                Answer::Refused(number) => LayoutAnswer::Refused(number),
+            },
+            SizeInfo::SliceDst(_) => LayoutAnswer::Refused(refusal::MEMBER_AFTER_TRAILING),
+        }
+    }
+
+    // The step of two layouts that are accepted.
+    fn extend_checked(self, field: DstLayout, repr_packed: u64) -> LayoutAnswer
+        requires { ⌜ PowerOfTwo (self .align) × PowerOfTwo (field .align) ⌝ }
+        ensures { λ r. ⌜ layoutSays r ≡ unless (stepCauses 64 (layoutOf self) (layoutOf field) «repr_packed») (extended (layoutOf self) (layoutOf field) «repr_packed») ⌝ }
+    {
+        if bad_packing(repr_packed) {
+            return LayoutAnswer::Refused(refusal::PACKING_NOT_POWER_OF_TWO);
+        }
+        if above_max(self.align, field.align, repr_packed) {
+            return LayoutAnswer::Refused(refusal::ALIGN_ABOVE_MAX);
+        }
+        match packed_align(field.align, repr_packed) {
+            Answer::Number(field_align) => self.extend_aligned(field, field_align),
+            Answer::Refused(number) => LayoutAnswer::Refused(number),
+        }
+    }
+
+    // The layout with one member more, which stands at the least place that aligns it; no padding follows it.
+    pub fn extend(self, field: DstLayout, repr_packed: u64) -> LayoutAnswer
+        ensures answer { λ r. ⌜ layoutSays r ≡ extendFor 64 (layoutOf self) (layoutOf field) «repr_packed» ⌝ }
+        ensures meaning { λ r. ⌜ Meets (extendCauses 64 (layoutOf self) (layoutOf field) «repr_packed») (Extended (layoutOf self) (layoutOf field) «repr_packed») (layoutSays r) ⌝ }
+    {
+        match self.check() {
+            Check::Accepted => match field.check() {
+                Check::Accepted => self.extend_checked(field, repr_packed),
+                Check::Refused(number) => LayoutAnswer::Refused(number),
+            },
+            Check::Refused(number) => LayoutAnswer::Refused(number),
+        }
+    }
+
+    fn pad_checked(self) -> LayoutAnswer
+        requires { ⌜ None (layoutCauses 64 (layoutOf self)) ⌝ }
+        ensures { λ r. ⌜ layoutSays r ≡ unless (passes8 64 (paddingNeeds 64 (self .align) (infoOf (self .«size_info»))) ∷ []) (padded 64 (layoutOf self)) ⌝ }
+    {
+        let align = self.align;
+        let size_info = self.size_info;
+        let unpadded = pad_mark(size_info, align, self.statically_shallow_unpadded);
+        match pad_size(size_info, align) {
+            SizeInfoAnswer::Info(padded_info) => LayoutAnswer::Layout(DstLayout {
+                align,
+                size_info: padded_info,
+                statically_shallow_unpadded: unpadded,
+            }),
+            SizeInfoAnswer::Refused(number) => LayoutAnswer::Refused(number),
+        }
+    }
+
+    // The layout with the padding after its last member: each size rounded up to the alignment.
+    pub fn pad_to_align(self) -> LayoutAnswer
+        ensures answer { λ r. ⌜ layoutSays r ≡ padFor 64 (layoutOf self) ⌝ }
+        ensures meaning { λ r. ⌜ Meets (padCauses 64 (layoutOf self)) (Padded 64 (layoutOf self)) (layoutSays r) ⌝ }
+    {
+        match self.check() {
+            Check::Accepted => self.pad_checked(),
+            Check::Refused(number) => LayoutAnswer::Refused(number),
+        }
+    }
+
+    // Whether padding between the members is not ruled out. A yes does not mean that there is some.
+    pub fn requires_static_padding(self) -> Decision
+        ensures answer { λ r. ⌜ decisionSays r ≡ staticFor 64 (layoutOf self) ⌝ }
+        ensures meaning { λ r. ⌜ Meets (layoutCauses 64 (layoutOf self)) (Tells (layoutOf self .mark ≡ false)) (decisionSays r) ⌝ }
+    {
+        match self.check() {
+            Check::Accepted => {
+                let unpadded = self.statically_shallow_unpadded;
+                Decision::Is(!unpadded)
+            }
+            Check::Refused(number) => Decision::Refused(number),
+        }
+    }
+
+    // Whether padding after the elements is not ruled out at every count. A yes does not mean that a count needs some.
+    pub fn requires_dynamic_padding(self) -> Decision
+        ensures answer { λ r. ⌜ decisionSays r ≡ dynamicFor 64 (layoutOf self) ⌝ }
+        ensures meaning { λ r. ⌜ Meets (layoutCauses 64 (layoutOf self)) (Tells (DynamicPadding 64 (infoOf (self .«size_info»)))) (decisionSays r) ⌝ }
+    {
+        let size_info = self.size_info;
+        match self.check() {
+            Check::Accepted => dynamic_padding(size_info),
+            Check::Refused(number) => Decision::Refused(number),
+        }
+    }
+}

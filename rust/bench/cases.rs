@@ -1,0 +1,208 @@
+//! The inputs of the bench, each in the words of the C interface and in the Rust's own types.
+//!
+//! The Rust refuses none of them by a panic, so that it can be called as it is.
+
+use super::exports::Words;
+use super::random::Random;
+use crate::{layout, nonzero, trailing, CastParams, CastParamsInner, CastType, DstLayout, TrailingSliceLayout};
+use core::num::NonZeroUsize;
+
+#[derive(Clone, Copy, PartialEq)]
+pub enum Set {
+    /// As records of pages have them: a few small members, small elements, some hundred of them.
+    Typical,
+    /// Alignments up to 2^29, and numbers of any length in bits.
+    Random,
+    /// Great alignments, phases and counts, and conversions that are found by the second way.
+    Worst,
+}
+
+pub const SETS: [Set; 3] = [Set::Typical, Set::Random, Set::Worst];
+
+impl Set {
+    pub fn name(self) -> &'static str {
+        match self {
+            Set::Typical => "typical",
+            Set::Random => "random",
+            Set::Worst => "worst",
+        }
+    }
+}
+
+/// How many inputs a set has.
+const CASES: usize = 256;
+
+/// Numbers for every function; `_n` is the same in the Rust's types.
+pub struct Case {
+    /// A power of two and another, a phase below the first, and a multiple of it.
+    pub align: u64,
+    pub align_n: NonZeroUsize,
+    pub other_align: u64,
+    pub other_align_n: NonZeroUsize,
+    pub phase: u64,
+    pub size: u64,
+    pub code: u64,
+    /// A layout without a trailing part, a member to add to it, and a packing.
+    pub fixed: Words<6>,
+    pub fixed_n: DstLayout,
+    pub field: Words<6>,
+    pub field_n: DstLayout,
+    pub packing: u64,
+    pub packing_n: Option<NonZeroUsize>,
+    /// A layout with a trailing part that has a size at the count.
+    pub whole: Words<6>,
+    pub whole_n: DstLayout,
+    pub tail: Words<4>,
+    pub tail_n: TrailingSliceLayout,
+    pub count: u64,
+    /// The size there, a length that has room for it, and an address that is aligned on the side.
+    pub exact: u64,
+    pub len: u64,
+    pub addr: u64,
+    pub suffix: bool,
+    pub side_n: CastType,
+    /// A source that converts to the whole layout, and how.
+    pub source: Words<6>,
+    pub source_n: DstLayout,
+    pub source_tail: Words<4>,
+    pub source_tail_n: TrailingSliceLayout,
+    pub params: Words<4>,
+    pub params_n: CastParamsInner,
+    /// A member list, and the whole layout's record.
+    pub list: Vec<u8>,
+    pub list_n: Vec<DstLayout>,
+    pub record: Vec<u8>,
+}
+
+impl Case {
+    pub fn params(&self) -> CastParams {
+        CastParams { inner: self.params_n }
+    }
+}
+
+pub fn cases(set: Set) -> Vec<Case> {
+    drawn(set, CASES, 0)
+}
+
+/// Cases with lists of as many members; fewer of long ones.
+pub fn lists(set: Set, members: usize) -> Vec<Case> {
+    drawn(set, CASES.div_ceil(4 * members), members)
+}
+
+fn drawn(set: Set, cases: usize, members: usize) -> Vec<Case> {
+    let mut random = Random::new(set as u64);
+    std::iter::repeat_with(|| draw(&mut random, set, members)).flatten().take(cases).collect()
+}
+
+/// A power of two.
+fn align(random: &mut Random, set: Set) -> u64 {
+    1 << match set {
+        Set::Typical => random.below(4),
+        Set::Random => random.below(30),
+        Set::Worst => 20 + random.below(10),
+    }
+}
+
+/// A size and an alignment, as of a type.
+fn sized(random: &mut Random, set: Set) -> (u64, u64) {
+    let align = align(random, set);
+    let times = match set {
+        Set::Typical => 1 + random.below(3),
+        Set::Random => 1 + random.log_uniform() % (1 << 20),
+        Set::Worst => 15 - 2 * random.below(4),
+    };
+    (align * times, align)
+}
+
+fn fixed(random: &mut Random, set: Set) -> [u64; 6] {
+    let (size, align) = sized(random, set);
+    crate::for_unpadded_type(size, align).unwrap()
+}
+
+fn tail([_, _, size_base, offset, elem_size, word]: [u64; 6]) -> [u64; 4] {
+    [offset, elem_size, size_base, word]
+}
+
+/// A source for the target: the same rounding further on, or for the worst case another one with a phase.
+fn source(random: &mut Random, set: Set, target: [u64; 6]) -> Option<[u64; 6]> {
+    let [offset, elem_size, _, word] = tail(target);
+    let [shift, times] = [1 + random.below(3), 1 + random.below(3)];
+    if set != Set::Worst {
+        let bytes = shift.checked_mul(elem_size)?;
+        let [_, elem_size, base, word] = crate::advance(tail(target), bytes, elem_size.checked_mul(times)?).ok()?;
+        return Some([target[0], target[1], base, offset, elem_size, word]);
+    }
+    // Twice the alignment of the rounding, phase 1, and elements that are a multiple of both alignments.
+    let size = crate::size_for_elems(tail(target), shift).ok()?[0];
+    let align: u64 = 2 << word.ilog2();
+    let times = align >> elem_size.trailing_zeros().min(align.ilog2());
+    Some([target[0], target[1], size.checked_sub(align)?, offset, elem_size * times, align + 1])
+}
+
+/// None where the Rust would panic, or there is no conversion to take.
+fn draw(random: &mut Random, set: Set, members: usize) -> Option<Case> {
+    let (size, align) = sized(random, set);
+    let other_align = self::align(random, set);
+    let packing = if random.one_in(2) { 0 } else { self::align(random, set) };
+    let head = crate::compose(0, 0, &[fixed(random, set), fixed(random, set)]).ok()?;
+    let (elem_size, elem_align) = sized(random, set);
+    let slice = crate::for_slice(elem_size, elem_align).ok()?;
+    let field = if random.one_in(2) { fixed(random, set) } else { slice };
+    // The greatest alignment makes the greatest phases.
+    let own_align = if set == Set::Worst { 1 << 29 } else { 0 };
+    let whole = crate::for_repr_c_struct(own_align, packing, &[head, slice]).ok()?;
+    let last = (u64::MAX - whole[2] - (1 << 30)) / elem_size;
+    let count = match set {
+        Set::Typical => random.below(256),
+        Set::Random => random.log_uniform() % last,
+        Set::Worst => last / 2 - random.below(16),
+    };
+    let exact = crate::size_for_elems(tail(whole), count).ok()?[0];
+    let len = exact.checked_add(random.below(elem_size))?;
+    let suffix = random.one_in(2);
+    let end = (len.checked_add(random.below(1 << 20))?).checked_next_multiple_of(whole[0])?;
+    let addr = if suffix { end - len } else { end };
+    addr.checked_add(len)?;
+    let source = source(random, set, whole)?;
+    let params = crate::try_compute(source, whole).ok()?;
+    let list: Vec<[u64; 6]> = (0..members).map(|_| fixed(random, set)).collect();
+    crate::for_repr_c_struct(0, 0, &list).ok()?;
+    let bytes = |words: &[u64]| words.iter().flat_map(|word| word.to_le_bytes()).collect();
+    Some(Case {
+        align,
+        align_n: nonzero(align),
+        other_align,
+        other_align_n: nonzero(other_align),
+        phase: random.below(align),
+        size,
+        code: random.below(9),
+        fixed: Words(head),
+        fixed_n: layout(head),
+        field: Words(field),
+        field_n: layout(field),
+        packing,
+        packing_n: NonZeroUsize::new(packing as usize),
+        whole: Words(whole),
+        whole_n: layout(whole),
+        tail: Words(tail(whole)),
+        tail_n: trailing(tail(whole)),
+        count,
+        exact,
+        len,
+        addr,
+        suffix,
+        side_n: if suffix { CastType::Suffix } else { CastType::Prefix },
+        source: Words(source),
+        source_n: layout(source),
+        source_tail: Words(tail(source)),
+        source_tail_n: trailing(tail(source)),
+        params: Words(params),
+        params_n: CastParamsInner::UnsizedToUnsized {
+            offset_delta_elems: params[1] as usize,
+            elem_multiple: params[2] as usize,
+        },
+        record: bytes(&whole),
+        list: bytes(&list.concat()),
+        list_n: list.into_iter().map(layout).collect(),
+    })
+}

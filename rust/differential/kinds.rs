@@ -1,0 +1,265 @@
+//! What a parameter stands for, which decides the values that are worth trying.
+
+use crate::inputs::Input;
+use crate::layouts;
+use crate::lists;
+use crate::random::Random;
+
+pub struct Kind {
+    /// The names of its numbers, where it has several and always as many.
+    pub names: &'static [&'static str],
+    /// A good value, and bad ones to try in its place.
+    pub good: &'static [u64],
+    pub bad: &'static [&'static [u64]],
+    /// Every small value; the level says how many numbers count as small.
+    pub small: fn(u64) -> Vec<Vec<u64>>,
+    pub boundaries: Boundaries,
+    /// Appends a random value to the numbers drawn so far.
+    pub draw: fn(&mut Random, &mut Vec<u64>),
+}
+
+/// The values at the boundaries of the numbers: so few that they are listed, or drawn.
+pub enum Boundaries {
+    Listed(&'static [u64]),
+    Drawn(fn(&mut Random, &mut Vec<u64>)),
+}
+
+impl Boundaries {
+    pub fn draw(&self, random: &mut Random, case: &mut Vec<u64>) {
+        match self {
+            Boundaries::Listed(values) => case.push(random.one_of(values)),
+            Boundaries::Drawn(draw) => draw(random, case),
+        }
+    }
+}
+
+/// 2^29 is the greatest alignment of a type.
+pub const BOUNDARIES: [u64; 16] = [
+    0,
+    1,
+    2,
+    3,
+    (1 << 29) - 1,
+    1 << 29,
+    (1 << 29) + 1,
+    1 << 30,
+    (1 << 32) - 1,
+    1 << 32,
+    (1 << 32) + 1,
+    (1 << 63) - 1,
+    1 << 63,
+    (1 << 63) + 1,
+    u64::MAX - 1,
+    u64::MAX,
+];
+
+const NUMBER: Kind = Kind {
+    names: &[],
+    good: &[9],
+    bad: &[],
+    small: numbers,
+    boundaries: Boundaries::Listed(&BOUNDARIES),
+    draw: |random, case| {
+        let number = if !case.is_empty() && random.one_in(4) {
+            // Next to one before it, so that numbers meet.
+            let before = random.one_of(case);
+            random.near(before)
+        } else {
+            any(random)
+        };
+        case.push(number);
+    },
+};
+
+const ALIGN: Kind = Kind {
+    good: &[8],
+    bad: &[&[0], &[3]],
+    draw: |random, case| case.push(if random.one_in(8) { any(random) } else { power_of_two(random) }),
+    ..NUMBER
+};
+
+const WORD: Kind = Kind {
+    good: &[12],
+    bad: &[&[0]],
+    draw: |random, case| case.push(if random.one_in(16) { 0 } else { rounding_word(random) }),
+    ..NUMBER
+};
+
+/// An alignment or packing where 0 means that none was asked for.
+const MODIFIER: Kind = Kind {
+    good: &[0],
+    bad: &[&[3], &[1 << 30], &[3 << 29]],
+    boundaries: Boundaries::Listed(&[0, 1, 2, 3, 1 << 29, (1 << 29) + 1, 1 << 30, 3 << 29, 1 << 63, u64::MAX]),
+    draw: |random, case| {
+        let modifier = match random.below(16) {
+            0 => any(random),
+            1 => power_of_two(random),
+            2..=6 => 1 << random.below(5),
+            _ => 0,
+        };
+        case.push(modifier);
+    },
+    ..NUMBER
+};
+
+const FLAG: Kind = Kind {
+    good: &[0],
+    small: |_| vec![vec![0], vec![1]],
+    boundaries: Boundaries::Listed(&[0, 1]),
+    draw: |random, case| case.push(random.below(2)),
+    ..NUMBER
+};
+
+/// Which conversion its parameters are for.
+const VARIANT: Kind = Kind {
+    good: &[2],
+    small: |_| vec![vec![0], vec![1], vec![2], vec![3]],
+    draw: |random, case| case.push(if random.one_in(16) { any(random) } else { random.below(3) }),
+    ..NUMBER
+};
+
+/// The length of a lent buffer: a record's or another, and a small one, since so many bytes are lent.
+const LENGTH: Kind = Kind {
+    good: &[48],
+    bad: &[&[0], &[47], &[49], &[96]],
+    small: |_| vec![vec![0], vec![47], vec![48], vec![49]],
+    boundaries: Boundaries::Listed(&[0, 1, 47, 48, 49, 96]),
+    draw: |random, case| case.push(if random.one_in(8) { random.below(128) } else { 48 }),
+    ..NUMBER
+};
+
+const LAYOUT: Kind = Kind {
+    names: &["align", "kind", "size_or_base", "offset", "elem_size", "word"],
+    good: &[8, 1, 16, 0, 0, 0],
+    bad: &[
+        &[8, 4, 16, 0, 0, 0],
+        &[0, 1, 16, 0, 0, 0],
+        &[3, 1, 16, 0, 0, 0],
+        &[8, 0, 16, 1, 0, 0],
+        &[8, 1, 16, 0, 1, 0],
+        &[8, 0, 16, 0, 0, 1],
+        &[8, 2, 16, 9, 9, 0],
+        &[8, 3, 16, 9, 9, 0],
+        // Two at once.
+        &[3, 4, 16, 0, 0, 0],
+        &[3, 1, 16, 0, 0, 1],
+        &[3, 2, 16, 9, 9, 0],
+        &[8, 4, 16, 9, 9, 0],
+    ],
+    small: |level| layouts::small(level).into_iter().map(Vec::from).collect(),
+    boundaries: Boundaries::Drawn(|random, case| case.extend(layouts::at_boundaries(random))),
+    draw: |random, case| case.extend(layouts::draw(random)),
+};
+
+/// A layout that a member is added to, mostly fixed.
+const PRECEDING: Kind = Kind {
+    small: |level| layouts::small_preceding(level).into_iter().map(Vec::from).collect(),
+    boundaries: Boundaries::Drawn(|random, case| case.extend(layouts::preceding_at_boundaries(random))),
+    draw: |random, case| case.extend(layouts::draw_preceding(random)),
+    ..LAYOUT
+};
+
+/// The bytes of a record.
+const RECORD: Kind = Kind {
+    names: &[],
+    good: &[48, 8, 3, 16, 9, 9, 12],
+    bad: &[],
+    small: lists::small_records,
+    boundaries: Boundaries::Drawn(|random, case| {
+        let layout = layouts::at_boundaries(random);
+        case.extend(lists::record(random, layout));
+    }),
+    draw: |random, case| {
+        let layout = layouts::draw(random);
+        case.extend(lists::record(random, layout));
+    },
+};
+
+/// The bytes of a member list.
+const LIST: Kind = Kind {
+    names: &[],
+    good: &[96, 8, 1, 16, 0, 0, 0, 1, 3, 0, 0, 1, 1],
+    bad: &[&[95, 8, 1, 16, 0, 0, 0, 1, 3, 0, 0, 1, 1], &[48, 8, 4, 16, 0, 0, 0]],
+    small: lists::small,
+    boundaries: Boundaries::Drawn(|random, case| case.extend(lists::at_boundaries(random))),
+    draw: |random, case| case.extend(lists::draw(random)),
+};
+
+pub const fn number(name: &'static str) -> Input {
+    Input { name, kind: &NUMBER }
+}
+
+pub const fn align(name: &'static str) -> Input {
+    Input { name, kind: &ALIGN }
+}
+
+pub const fn word(name: &'static str) -> Input {
+    Input { name, kind: &WORD }
+}
+
+pub const fn modifier(name: &'static str) -> Input {
+    Input { name, kind: &MODIFIER }
+}
+
+pub const fn flag(name: &'static str) -> Input {
+    Input { name, kind: &FLAG }
+}
+
+pub const fn variant(name: &'static str) -> Input {
+    Input { name, kind: &VARIANT }
+}
+
+pub const fn length(name: &'static str) -> Input {
+    Input { name, kind: &LENGTH }
+}
+
+pub const fn layout(name: &'static str) -> Input {
+    Input { name, kind: &LAYOUT }
+}
+
+pub const fn preceding(name: &'static str) -> Input {
+    Input { name, kind: &PRECEDING }
+}
+
+pub const fn record(name: &'static str) -> Input {
+    Input { name, kind: &RECORD }
+}
+
+pub const fn list(name: &'static str) -> Input {
+    Input { name, kind: &LIST }
+}
+
+/// The numbers from 0 up.
+fn numbers(level: u64) -> Vec<Vec<u64>> {
+    (0..level).map(|number| vec![number]).collect()
+}
+
+pub fn any(random: &mut Random) -> u64 {
+    match random.below(4) {
+        0 => random.below(32),
+        1 => random.one_of(&BOUNDARIES),
+        2 => {
+            let power = 1 << random.below(64);
+            random.near(power)
+        }
+        _ => random.log_uniform(),
+    }
+}
+
+/// Half of them up to 128, since those meet sizes that are not huge.
+pub fn power_of_two(random: &mut Random) -> u64 {
+    let powers = if random.one_in(2) { 8 } else { 64 };
+    1 << random.below(powers)
+}
+
+/// Any alignment with a phase, often 0, 1 or the greatest.
+pub fn rounding_word(random: &mut Random) -> u64 {
+    let align = power_of_two(random);
+    let phase = match random.below(4) {
+        0 => 0,
+        1 => 1,
+        2 => align - 1,
+        _ => random.next(),
+    };
+    align + (phase & (align - 1))
+}

@@ -1,0 +1,71 @@
+//! Bytes that are lent to an export.
+//!
+//! A case holds them as numbers: the length in bytes, then the words of 8 bytes each, little-endian, and for a length
+//! that is no multiple of 8 the remaining bytes as one such number. They come last, since their number varies.
+
+use crate::answer::Answer;
+
+pub const RECORD: usize = 48;
+
+/// The first bytes of the words, as a case holds them.
+pub fn held(words: &[u64], len: usize) -> Vec<u64> {
+    let mut held = vec![len as u64];
+    held.extend(&words[..len / 8]);
+    if len % 8 > 0 {
+        held.push(words[len / 8] & ((1 << (len % 8 * 8)) - 1));
+    }
+    held
+}
+
+/// The bytes that a case holds.
+pub fn bytes(held: &[u64]) -> Vec<u8> {
+    let mut bytes: Vec<u8> = held[1..].iter().flat_map(|word| word.to_le_bytes()).collect();
+    bytes.truncate(held[0] as usize);
+    bytes
+}
+
+/// The records that a case holds end to end; None where its length is no multiple of a record's.
+pub fn records(held: &[u64]) -> Option<Vec<[u64; 6]>> {
+    if held[0] % RECORD as u64 != 0 {
+        return None;
+    }
+    Some(held[1..].chunks_exact(6).map(|record| record.try_into().unwrap()).collect())
+}
+
+/// As many other bytes stand before the lent ones and after them. Odd, so that no word of them starts at a multiple of 8:
+/// the C interface asks for no alignment.
+const AROUND: usize = 49;
+const OTHER: u8 = 0xa5;
+
+/// Lends the bytes: what the call gave, the lent bytes after it, and how many of those around them changed.
+fn lend<T>(lent: &[u8], call: impl FnOnce(*mut u8, usize) -> T) -> (T, Vec<u8>, usize) {
+    let mut all = vec![OTHER; AROUND + lent.len() + AROUND];
+    all[AROUND..][..lent.len()].copy_from_slice(lent);
+    let gave = call(all[AROUND..].as_mut_ptr(), lent.len());
+    let strays = changed(&all[..AROUND], &[OTHER; AROUND]) + changed(&all[AROUND + lent.len()..], &[OTHER; AROUND]);
+    (gave, all[AROUND..][..lent.len()].to_vec(), strays)
+}
+
+fn changed(after: &[u8], before: &[u8]) -> usize {
+    after.iter().zip(before).filter(|(after, before)| after != before).count()
+}
+
+/// A call that only reads what it is lent.
+pub fn reads(lent: &[u8], call: impl FnOnce(*const u8, usize) -> Answer) -> Answer {
+    let (answer, after, strays) = lend(lent, |bytes, len| call(bytes, len));
+    Answer { strays: (strays + changed(&after, lent)) as u64, ..answer }
+}
+
+/// A call that writes a record to what it is lent, and gives the refusal number. The answer has the words written.
+pub fn writes(len: usize, call: impl FnOnce(*mut u8, usize) -> u64) -> Answer {
+    let lent = vec![OTHER; len];
+    let (refusal, after, strays) = lend(&lent, call);
+    if refusal == 0 && len == RECORD {
+        let mut words = [0; 6];
+        for (word, bytes) in words.iter_mut().zip(after.chunks_exact(8)) {
+            *word = u64::from_le_bytes(bytes.try_into().unwrap());
+        }
+        return Answer { strays: strays as u64, ..Answer::of(words) };
+    }
+    Answer { strays: (strays + changed(&after, &lent)) as u64, ..Answer::refused(refusal) }
+}

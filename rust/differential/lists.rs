@@ -1,0 +1,122 @@
+//! Records and member lists to try, as a case holds bytes.
+
+use crate::kinds::any;
+use crate::layouts;
+use crate::lent::{held, RECORD};
+use crate::random::Random;
+use oracle::Layout;
+
+/// The most members of a list.
+const MOST: u64 = 8;
+
+/// The members end to end.
+fn list(members: &[Layout]) -> Vec<u64> {
+    let words = members.concat();
+    held(&words, words.len() * 8)
+}
+
+// ---- every small one ----
+
+/// A record's bytes to any length below two records, and every small layout.
+pub fn small_records(level: u64) -> Vec<Vec<u64>> {
+    let words = [[4, 3, 8, 9, 1, 5], [1, 1, 1, 0, 0, 0]].concat();
+    let mut records: Vec<Vec<u64>> = (0..=2 * RECORD).map(|len| held(&words, len)).collect();
+    records.extend(layouts::small(level).into_iter().map(|layout| list(&[layout])));
+    records
+}
+
+const MEMBERS: [Layout; 6] = [
+    [1, 1, 1, 0, 0, 0],
+    [2, 1, 2, 0, 0, 0],
+    [4, 0, 8, 0, 0, 0],
+    [8, 1, 3, 0, 0, 0],
+    [1, 3, 0, 0, 1, 1],
+    [4, 3, 8, 9, 2, 5],
+];
+
+/// Every list of a few of these members.
+pub fn small(level: u64) -> Vec<Vec<u64>> {
+    let mut lists: Vec<Vec<Layout>> = vec![Vec::new()];
+    let mut longest = lists.clone();
+    for _ in 0..level / 2 {
+        longest = longest.iter().flat_map(|list| MEMBERS.map(|member| [&list[..], &[member]].concat())).collect();
+        lists.extend(longest.iter().cloned());
+    }
+    lists.iter().map(|members| list(members)).collect()
+}
+
+// ---- at the boundaries ----
+
+pub fn at_boundaries(random: &mut Random) -> Vec<u64> {
+    let mut members = Vec::new();
+    for _ in 0..random.below(4) {
+        members.push(layouts::preceding_at_boundaries(random));
+    }
+    if random.one_in(2) {
+        members.push(layouts::at_boundaries(random));
+    }
+    list(&members)
+}
+
+// ---- random ones ----
+
+/// The layout's record, in one case of eight of another length.
+pub fn record(random: &mut Random, layout: Layout) -> Vec<u64> {
+    let words = [layout, layout, layout].concat();
+    let len = if random.one_in(8) { random.below(3 * RECORD as u64) as usize } else { RECORD };
+    held(&words, len)
+}
+
+/// A list as of a struct, mostly with something wrong at some place. Half of them are long, since a place that is late
+/// is seldom met.
+pub fn draw(random: &mut Random) -> Vec<u64> {
+    if random.one_in(16) {
+        return list(&[]);
+    }
+    let before_last = if random.one_in(2) { MOST - 1 } else { random.below(MOST) };
+    let mut members: Vec<Layout> = (0..before_last).map(|_| layouts::fixed(random)).collect();
+    members.push(if random.one_in(2) { layouts::fixed(random) } else { layouts::trailing(random) });
+    if random.one_in(2) {
+        fill(random, &mut members);
+    }
+    for _ in 0..random.below(3) {
+        spoil(random, &mut members);
+    }
+    if random.one_in(32) {
+        let words = members.concat();
+        let len = random.below(words.len() as u64 * 8 + 1) as usize;
+        return held(&words, len);
+    }
+    list(&members)
+}
+
+/// One of the members becomes so large that it, or what comes next, has no room. The members are as in a struct.
+fn fill(random: &mut Random, members: &mut [Layout]) {
+    let last = members.len() - 1;
+    let at = match random.below(4) {
+        0 => random.below(members.len() as u64) as usize,
+        1 => last.saturating_sub(1),
+        _ => last,
+    };
+    let before = oracle::compose(0, 0, &members[..at]).unwrap()[2];
+    let place = before.next_multiple_of(members[at][0]);
+    members[at][2] = u64::MAX - place - random.below(16);
+}
+
+/// Something wrong with one of the members.
+fn spoil(random: &mut Random, members: &mut [Layout]) {
+    let at = random.below(members.len() as u64) as usize;
+    let [align, kind, size_or_base, offset, elem_size, word] = members[at];
+    members[at] = match random.below(7) {
+        0 => [align, 4 + random.below(2), size_or_base, offset, elem_size, word],
+        1 => [random.one_of(&[0, 3, 6]), kind, size_or_base, offset, elem_size, word],
+        // A fixed one with a later word.
+        2 => [align, kind % 2, size_or_base, 0, random.below(2), 1],
+        // A trailing one without its word.
+        3 => [align, 2 + kind % 2, size_or_base, offset, elem_size, 0],
+        4 => [1 << (29 + random.below(35)), kind, size_or_base, offset, elem_size, word],
+        // A trailing one before others.
+        5 => layouts::trailing(random),
+        _ => [align, kind, any(random), offset, elem_size, word],
+    };
+}

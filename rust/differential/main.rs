@@ -1,0 +1,245 @@
+//! Calls the exports of liblukaripe.a and the Rust that they were ported from on the same inputs, and compares.
+//!
+//! tools/differential builds and runs it. It stops at the first difference, and fails too where something that can come
+//! of a function never did.
+
+mod answer;
+#[path = "../exports.rs"]
+mod exports;
+mod inputs;
+mod kinds;
+mod layouts;
+mod lent;
+mod lists;
+mod random;
+mod recorded;
+mod rows;
+mod table;
+
+use answer::Answer;
+use inputs::{Input, Plan, PHASES};
+use recorded::Recorded;
+use rows::{Row, Slot, LAYERS};
+use std::process::ExitCode;
+use std::time::Instant;
+
+/// The layers that were not compiled in, by tools/differential.
+const LEFT_OUT: &str = env!("LEFT_OUT");
+
+const USAGE: &str = "\
+usage: differential [--cases N] [--seed S] [--only FUNCTION] [--record N]
+  --cases N        random inputs in total (default 10000000), beside the small numbers and the boundaries, which are
+                   fewer where N is below 8 million
+  --seed S         where the random numbers start (default 1)
+  --only FUNCTION  one function alone
+  --record N       write about N answers of each function to standard output, no report";
+
+struct Options {
+    cases: u64,
+    seed: u64,
+    only: Option<String>,
+    record: Option<u64>,
+}
+
+fn rows() -> impl Iterator<Item = &'static Row> {
+    LAYERS.iter().flat_map(|layer| layer.iter())
+}
+
+fn options() -> Result<Options, String> {
+    let mut options = Options { cases: 10_000_000, seed: 1, only: None, record: None };
+    let mut words = std::env::args().skip(1);
+    while let Some(name) = words.next() {
+        let value = words.next().ok_or(USAGE)?;
+        let number = || value.parse::<u64>().map_err(|_| format!("{name}: no number: {value}"));
+        match name.as_str() {
+            "--cases" => options.cases = number()?,
+            "--seed" => options.seed = number()?,
+            "--record" => options.record = Some(number()?),
+            "--only" if rows().any(|row| row.name == value) => options.only = Some(value),
+            "--only" => return Err(format!("no function {value}")),
+            _ => return Err(USAGE.to_string()),
+        }
+    }
+    Ok(options)
+}
+
+/// How many inputs were tried, and since when.
+struct Progress {
+    start: Instant,
+    inputs: u64,
+}
+
+impl Progress {
+    const STEP: u64 = 1 << 23;
+
+    fn count(&mut self, row: &Row) {
+        self.inputs += 1;
+        if self.inputs % Progress::STEP == 0 {
+            eprintln!("{} inputs, {:.1} million a second, at {}", self.inputs, self.rate(), row.name);
+        }
+    }
+
+    fn rate(&self) -> f64 {
+        self.inputs as f64 / self.start.elapsed().as_secs_f64() / 1e6
+    }
+}
+
+/// What the Rust says. A panic that names no cause of document 01 is neither an answer nor a refusal.
+fn rust(row: &Row, inputs: &[u64]) -> Result<Answer, String> {
+    std::panic::catch_unwind(|| oracle::said(|| Ok((row.rust)(inputs))).unwrap_or_else(Answer::refused))
+        .map_err(|_| "a panic that is no refusal".to_string())
+}
+
+/// Tries one input: the slot it belongs to and the answer that both sides gave, or what differs.
+fn compare(row: &Row, slots: &[Slot], inputs: &[u64]) -> Result<(usize, Answer), String> {
+    let ours = (row.ours)(inputs);
+    let apart = (row.apart)(inputs);
+    let expected = match apart {
+        Some(answer) => Ok(answer),
+        None => rust(row, inputs),
+    };
+    if expected != Ok(ours) {
+        let show = |answer: Answer| format!("refusal, then values {:?}", answer.numbers(row.values));
+        let other = if apart.is_some() { "table:" } else { "Rust: " };
+        let strays = if ours.strays > 0 { format!(", and {} stray bytes", ours.strays) } else { String::new() };
+        return Err(format!("ours:  {}{strays}\n{other} {}", show(ours), expected.map_or_else(|panic| panic, show)));
+    }
+    let label = if apart.is_some() { "" } else { (row.label)(inputs, &ours) };
+    match slots.iter().position(|slot| slot.holds(&ours, apart.is_some(), label)) {
+        Some(at) => Ok((at, ours)),
+        None => {
+            Err(format!("both sides: {:?} {label}, which the function's row does not list", ours.numbers(row.values)))
+        }
+    }
+}
+
+/// The inputs with their names.
+fn named(inputs: &[Input], mut case: &[u64]) -> String {
+    let mut named = Vec::new();
+    for (at, input) in inputs.iter().enumerate() {
+        // Only the last has no length of its own.
+        let len = if at + 1 == inputs.len() { case.len() } else { input.kind.good.len() };
+        let (numbers, rest) = case.split_at(len);
+        if input.kind.names.is_empty() {
+            let words: Vec<String> = numbers.iter().map(u64::to_string).collect();
+            named.push(format!("{} {}", input.name, words.join(" ")));
+        } else {
+            let words = input.kind.names.iter().zip(numbers).map(|(name, number)| format!("{name} {number}"));
+            named.push(format!("{} ({})", input.name, words.collect::<Vec<String>>().join(", ")));
+        }
+        case = rest;
+    }
+    named.join(", ")
+}
+
+/// What a function was tried on: its slots and how many inputs came to each.
+struct Tried<'a> {
+    row: &'a Row,
+    slots: Vec<Slot>,
+    counts: Vec<u64>,
+}
+
+impl Tried<'_> {
+    /// Prints the cells and gives the totals, compared and apart.
+    fn report(&self) -> (u64, u64) {
+        let (mut compared, mut apart) = (0, 0);
+        for (at, cell) in self.row.cells.iter().enumerate() {
+            let of_cell = self.slots.iter().zip(&self.counts).filter(|(slot, _)| slot.cell == at);
+            let count: u64 = of_cell.map(|(_, count)| count).sum();
+            let columns = if cell.apart {
+                apart += count;
+                ["-".to_string(), count.to_string()]
+            } else {
+                compared += count;
+                [count.to_string(), "-".to_string()]
+            };
+            line(self.row.name, &cell.to_string(), &columns[0], &columns[1]);
+        }
+        (compared, apart)
+    }
+
+    /// The slots that nothing came to.
+    fn unreached(&self) -> Vec<String> {
+        let empty = self.slots.iter().zip(&self.counts).filter(|(_, count)| **count == 0);
+        empty.map(|(slot, _)| format!("NEVER REACHED: {} {slot}", self.row.name)).collect()
+    }
+}
+
+/// A line of the report.
+fn line(function: &str, cell: &str, compared: &str, apart: &str) {
+    println!("{function:<42}{cell:<46}{compared:>12}{apart:>12}");
+}
+
+/// Tries one function.
+fn run<'a>(row: &'a Row, options: &Options, cases: u64, progress: &mut Progress) -> Result<Tried<'a>, String> {
+    // Its own numbers, so that a function alone is tried on what it is tried on among all.
+    let seed = options.seed.wrapping_add(row.number << 32);
+    let (inputs, all_cases) = (row.inputs.concat(), options.cases);
+    let plan = Plan { inputs, pages: row.pages, aim: row.aim, seed, cases, all_cases };
+    let slots = row.slots();
+    let mut counts = vec![0; slots.len()];
+    let mut recorded = options.record.map(|lines| Recorded::new(row, slots.len(), seed, lines));
+    for phase in PHASES {
+        plan.each(phase, &mut |case| {
+            progress.count(row);
+            let (slot, answer) = compare(row, &slots, case).map_err(|what| {
+                let inputs = named(&plan.inputs, case);
+                format!("DIFFERENCE in {} ({phase:?})\nof:    {inputs}\n{what}", row.name)
+            })?;
+            counts[slot] += 1;
+            if let Some(recorded) = &mut recorded {
+                recorded.see(phase, slot, case, &answer);
+            }
+            Ok(())
+        })?;
+    }
+    if let Some(recorded) = recorded {
+        recorded.print();
+    }
+    Ok(Tried { row, slots, counts })
+}
+
+fn report(tried: &[Tried], seed: u64, progress: &Progress) {
+    line("function", "came to", "compared", "table only");
+    let (mut compared, mut apart) = (0, 0);
+    for one in tried {
+        let totals = one.report();
+        compared += totals.0;
+        apart += totals.1;
+    }
+    println!("{compared} inputs compared with the Rust, and apart {apart} checked against document 01's table");
+    println!("seed {seed}, {:.1} million inputs a second", progress.rate());
+    if !LEFT_OUT.is_empty() {
+        println!("LEFT OUT, since the library has not all of their exports: {LEFT_OUT}");
+    }
+}
+
+fn all(options: &Options) -> Result<(), String> {
+    let rows: Vec<&Row> = rows().filter(|row| options.only.as_ref().is_none_or(|only| only == row.name)).collect();
+    let cases = options.cases / rows.len().max(1) as u64;
+    let mut progress = Progress { start: Instant::now(), inputs: 0 };
+    let mut tried = Vec::new();
+    for row in rows {
+        eprintln!("{}", row.name);
+        tried.push(run(row, options, cases, &mut progress)?);
+    }
+    if options.record.is_none() {
+        report(&tried, options.seed, &progress);
+    }
+    let unreached: Vec<String> = tried.iter().flat_map(Tried::unreached).collect();
+    if unreached.is_empty() {
+        Ok(())
+    } else {
+        Err(unreached.join("\n"))
+    }
+}
+
+fn main() -> ExitCode {
+    match options().and_then(|options| all(&options)) {
+        Ok(()) => ExitCode::SUCCESS,
+        Err(message) => {
+            eprintln!("{message}");
+            ExitCode::FAILURE
+        }
+    }
+}

@@ -1,0 +1,69 @@
+//! Recorded answers: a choice of the inputs tried, spread evenly over what can come of each function.
+//!
+//! A line is decimal numbers with single spaces between: the function's number (its row has it), the inputs in the order
+//! of the C parameters, the refusal number (0: none), and the numbers of the answer, which are 0 on a refusal.
+//!
+//! A trailing layout is offset, elem_size, size_base, word; a layout is the six words of its record; parameters of a
+//! conversion are kind, offset_delta_elems, elem_multiple, dst_meta; a bool is 0 or 1. Bytes that are read are the length
+//! in bytes and then the 8-byte words, little-endian, and for a length that is no multiple of 8 the remaining bytes as one
+//! little-endian number. Bytes that are written are their length alone, and the answer is the six words of the record. The
+//! answer of a composition is the place and then the six words; the place stays on a refusal. So all lines of a function
+//! have the same length, where it reads no bytes.
+
+use crate::answer::Answer;
+use crate::inputs::{Phase, PHASES};
+use crate::random::Random;
+use crate::rows::Row;
+use std::collections::BTreeSet;
+
+/// The lines kept of one function. As many are kept of each slot from each phase, every one seen as likely as another.
+/// The given cases are few and are all kept.
+pub struct Recorded<'a> {
+    row: &'a Row,
+    random: Random,
+    /// How many lines are kept of a slot from a phase, the given cases aside.
+    room: usize,
+    /// A place for each slot and phase: how many were seen, and the lines kept.
+    kept: Vec<(u64, Vec<Vec<u64>>)>,
+}
+
+impl Recorded<'_> {
+    pub fn new(row: &Row, slots: usize, seed: u64, lines: u64) -> Recorded<'_> {
+        Recorded {
+            row,
+            random: Random::new(seed),
+            room: (lines as usize).div_ceil(slots * (PHASES.len() - 1)),
+            kept: vec![(0, Vec::new()); slots * PHASES.len()],
+        }
+    }
+
+    pub fn see(&mut self, phase: Phase, slot: usize, inputs: &[u64], answer: &Answer) {
+        let (seen, kept) = &mut self.kept[slot * PHASES.len() + phase as usize];
+        *seen += 1;
+        if kept.len() < self.room || phase == Phase::Given {
+            kept.push(line(self.row, inputs, answer));
+            return;
+        }
+        // The newest of n takes a kept one's place in `room` of n cases.
+        let at = self.random.below(*seen) as usize;
+        if at < self.room {
+            kept[at] = line(self.row, inputs, answer);
+        }
+    }
+
+    /// Sorted, and each line once.
+    pub fn print(self) {
+        let lines: BTreeSet<Vec<u64>> = self.kept.into_iter().flat_map(|(_, lines)| lines).collect();
+        for line in lines {
+            let words: Vec<String> = line.iter().map(u64::to_string).collect();
+            println!("{}", words.join(" "));
+        }
+    }
+}
+
+fn line(row: &Row, inputs: &[u64], answer: &Answer) -> Vec<u64> {
+    let mut line = vec![row.number];
+    line.extend(inputs);
+    line.extend(answer.numbers(row.values));
+    line
+}

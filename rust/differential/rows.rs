@@ -1,0 +1,188 @@
+//! The table of functions: a row each, in the order of include/lukaripe.h, a file for each layer.
+//!
+//! A layer is compiled in where the library has its exports; tools/differential looks and says so.
+
+#[cfg(layer = "cast")]
+mod cast;
+#[cfg(layer = "convert")]
+mod convert;
+#[cfg(layer = "layout")]
+mod layout;
+#[cfg(layer = "record")]
+mod record;
+#[cfg(layer = "rounding")]
+mod rounding;
+#[cfg(layer = "trailing")]
+mod trailing;
+#[cfg(layer = "util")]
+mod util;
+
+use crate::answer::Answer;
+use crate::inputs::{Aim, Input};
+use crate::kinds::{number, word};
+use crate::random::Random;
+use std::fmt;
+
+pub const LAYERS: &[&[Row]] = &[
+    #[cfg(layer = "util")]
+    util::ROWS,
+    #[cfg(layer = "rounding")]
+    rounding::ROWS,
+    #[cfg(layer = "trailing")]
+    trailing::ROWS,
+    #[cfg(layer = "layout")]
+    layout::ROWS,
+    #[cfg(layer = "record")]
+    record::ROWS,
+    #[cfg(layer = "cast")]
+    cast::ROWS,
+    #[cfg(layer = "convert")]
+    convert::ROWS,
+];
+
+pub struct Row {
+    /// The function's number in recorded answers. It never changes and is not given to another.
+    pub number: u64,
+    /// The export's name without its prefix.
+    pub name: &'static str,
+    /// What is handed over, in the order of the C parameters.
+    pub inputs: &'static [&'static [Input]],
+    /// How many numbers the answer has besides the refusal.
+    pub values: usize,
+    /// What can come of a call.
+    pub cells: &'static [Cell],
+    /// Which answer it is, or which reason for a refusal, where cells tell several apart.
+    pub label: fn(&[u64], &Answer) -> &'static str,
+    /// Its cases in document 01, "Pages from the proof table", and others that are easily misread.
+    pub pages: &'static [&'static [u64]],
+    pub aim: Aim,
+    /// The export.
+    pub ours: fn(&[u64]) -> Answer,
+    /// What document 01 says of inputs that the Rust is not handed; None: the Rust is.
+    pub apart: fn(&[u64]) -> Option<Answer>,
+    pub rust: fn(&[u64]) -> Answer,
+}
+
+/// What can come of a call. Each cell of a row must be reached, at each of its places.
+#[derive(Clone, Copy)]
+pub struct Cell {
+    /// The refusal number, 0 for an answer.
+    refusal: u64,
+    /// Whether it is checked against document 01 alone, since the Rust has no answer.
+    pub apart: bool,
+    label: &'static str,
+    /// The least and the greatest place of a list's refusal.
+    places: Option<(u64, u64)>,
+}
+
+pub const fn answered(label: &'static str) -> Cell {
+    Cell { refusal: 0, apart: false, label, places: None }
+}
+
+pub const ANSWER: Cell = answered("");
+
+pub const fn refused(refusal: u64) -> Cell {
+    Cell { refusal, ..ANSWER }
+}
+
+pub const fn refused_for(refusal: u64, label: &'static str) -> Cell {
+    Cell { refusal, label, ..ANSWER }
+}
+
+/// A refusal, or by 0 an answer, that the Rust is not asked for.
+pub const fn apart(refusal: u64) -> Cell {
+    Cell { refusal, apart: true, ..ANSWER }
+}
+
+impl Cell {
+    pub const fn at(self, least: u64, greatest: u64) -> Cell {
+        Cell { places: Some((least, greatest)), ..self }
+    }
+
+    /// Its places, one where it has none.
+    fn each_place(&self) -> Vec<Option<u64>> {
+        match self.places {
+            None => vec![None],
+            Some((least, greatest)) => (least..=greatest).map(Some).collect(),
+        }
+    }
+}
+
+impl fmt::Display for Cell {
+    fn fmt(&self, out: &mut fmt::Formatter) -> fmt::Result {
+        match self.refusal {
+            0 => write!(out, "answer")?,
+            number => write!(out, "refused {number}")?,
+        }
+        match self.places {
+            None => {}
+            Some((least, greatest)) if least == greatest => write!(out, " at {least}")?,
+            Some((least, greatest)) => write!(out, " at {least} to {greatest}")?,
+        }
+        match self.label {
+            "" => Ok(()),
+            label => write!(out, ": {label}"),
+        }
+    }
+}
+
+/// A cell at one of its places: what is counted.
+pub struct Slot {
+    /// The cell's index in its row.
+    pub cell: usize,
+    what: Cell,
+    place: Option<u64>,
+}
+
+impl Slot {
+    pub fn holds(&self, answer: &Answer, apart: bool, label: &str) -> bool {
+        self.what.refusal == answer.refusal
+            && self.what.apart == apart
+            && self.place.is_none_or(|place| place == answer.values[0])
+            && self.what.label == label
+    }
+}
+
+impl fmt::Display for Slot {
+    fn fmt(&self, out: &mut fmt::Formatter) -> fmt::Result {
+        Cell { places: self.place.map(|place| (place, place)), ..self.what }.fmt(out)
+    }
+}
+
+impl Row {
+    pub fn slots(&self) -> Vec<Slot> {
+        let mut slots = Vec::new();
+        for (cell, what) in self.cells.iter().enumerate() {
+            slots.extend(what.each_place().into_iter().map(|place| Slot { cell, what: *what, place }));
+        }
+        slots
+    }
+}
+
+// ---- what rows of several layers share ----
+
+const TRAILING: &[Input] = &[number("offset"), number("elem_size"), number("size_base"), word("word")];
+
+/// The trailing layout that the inputs start with.
+fn trailing_of(inputs: &[u64]) -> [u64; 4] {
+    [inputs[0], inputs[1], inputs[2], inputs[3]]
+}
+
+/// The layout that the inputs start with.
+fn layout_of(inputs: &[u64]) -> [u64; 6] {
+    [inputs[0], inputs[1], inputs[2], inputs[3], inputs[4], inputs[5]]
+}
+
+fn no_label(_: &[u64], _: &Answer) -> &'static str {
+    ""
+}
+
+fn yes_or_no(_: &[u64], answer: &Answer) -> &'static str {
+    match (answer.refusal, answer.values[0]) {
+        (0, 0) => "no",
+        (0, _) => "yes",
+        _ => "",
+    }
+}
+
+fn nowhere(_: &mut Random, _: &mut [u64]) {}

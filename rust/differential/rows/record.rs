@@ -1,0 +1,165 @@
+//! Records, scalars and member lists.
+
+use super::{answered, apart, layout_of, no_label, nowhere, refused, refused_for, Cell, Row, ANSWER};
+use crate::answer::Answer;
+use crate::exports::*;
+use crate::kinds::{layout, length, list, modifier, number, record};
+use crate::lent::{bytes, reads, records, writes, RECORD};
+use crate::table::{self, first};
+
+pub const ROWS: &[Row] = &[
+    Row {
+        number: 23,
+        name: "decode",
+        inputs: &[&[record("record")]],
+        values: 6,
+        cells: &[apart(0), apart(1), apart(2), apart(20), apart(21), apart(22)],
+        label: no_label,
+        pages: &[&[48, 4, 3, 8, 9, 1, 5], &[0]],
+        aim: nowhere,
+        ours: |i| reads(&bytes(i), |record, len| unsafe { lukaripe_decode(record, len) }.into()),
+        apart: |i| match records(i).as_deref() {
+            Some([words]) => first(&table::layout(*words)).or(Some(Answer::of(*words))),
+            _ => Some(Answer::refused(20)),
+        },
+        rust: |_| unreachable!("the Rust has no records"),
+    },
+    Row {
+        number: 24,
+        name: "encode",
+        inputs: &[&[layout("layout"), length("len")]],
+        values: 6,
+        cells: &[apart(0), apart(1), apart(2), apart(20), apart(21), apart(22)],
+        label: no_label,
+        pages: &[&[4, 3, 8, 9, 1, 5, 48]],
+        aim: nowhere,
+        ours: |i| writes(i[6] as usize, |out, len| unsafe { lukaripe_encode(Words(layout_of(i)), out, len) }),
+        apart: |i| {
+            first(&[(20, i[6] != RECORD as u64)])
+                .or_else(|| first(&table::layout(layout_of(i))))
+                .or(Some(Answer::of(layout_of(i))))
+        },
+        rust: |_| unreachable!("the Rust has no records"),
+    },
+    Row {
+        number: 25,
+        name: "scalar",
+        inputs: &[&[number("code")]],
+        values: 6,
+        cells: &[ANSWER, apart(23)],
+        label: no_label,
+        pages: &[],
+        aim: nowhere,
+        ours: |i| lukaripe_scalar(i[0]).into(),
+        apart: |i| first(&[(23, i[0] > 8)]),
+        rust: |i| oracle::scalar(i[0]).into(),
+    },
+    Row {
+        number: 26,
+        name: "compose",
+        inputs: &[&[modifier("repr_align"), modifier("repr_packed"), list("members")]],
+        values: 7,
+        cells: &[
+            answered("no members"),
+            answered("fixed"),
+            answered("trailing"),
+            OWN_ALIGN,
+            PACKING,
+            ALIGN_ABOVE_MAX,
+            AFTER_TRAILING,
+            PLACE,
+            MEMBER,
+            apart(20).at(0, 0),
+            apart(21).at(0, 7),
+            apart(1).at(0, 7),
+            apart(22).at(0, 7),
+            apart(2).at(0, 7),
+        ],
+        label: composed,
+        pages: LISTS,
+        aim: nowhere,
+        ours: |i| reads(&bytes(&i[2..]), |at, len| unsafe { lukaripe_compose(i[0], i[1], at, len) }.into()),
+        apart: bad_record,
+        rust: |i| oracle::compose(i[0], i[1], &good_records(i)).into(),
+    },
+    Row {
+        number: 27,
+        name: "for_repr_c_struct",
+        inputs: &[&[modifier("repr_align"), modifier("repr_packed"), list("members")]],
+        values: 7,
+        cells: &[
+            answered("no members"),
+            answered("fixed"),
+            answered("trailing"),
+            OWN_ALIGN,
+            PACKING,
+            ALIGN_ABOVE_MAX,
+            AFTER_TRAILING,
+            PLACE,
+            MEMBER,
+            refused_for(8, FINAL_PADDING).at(1, 8),
+            apart(20).at(0, 0),
+            apart(21).at(0, 7),
+            apart(1).at(0, 7),
+            apart(22).at(0, 7),
+            apart(2).at(0, 7),
+        ],
+        label: composed,
+        pages: LISTS,
+        aim: nowhere,
+        ours: |i| reads(&bytes(&i[2..]), |at, len| unsafe { lukaripe_for_repr_c_struct(i[0], i[1], at, len) }.into()),
+        apart: bad_record,
+        rust: |i| oracle::for_repr_c_struct(i[0], i[1], &good_records(i)).into(),
+    },
+];
+
+// A list has up to 8 members here. The own alignment and the packing are the same for all of them, so they are refused
+// before the first or with it, and the first has nothing before it.
+const OWN_ALIGN: Cell = refused(1).at(0, 0);
+const PACKING: Cell = refused(5).at(0, 0);
+const ALIGN_ABOVE_MAX: Cell = refused(6).at(0, 7);
+const AFTER_TRAILING: Cell = refused(7).at(1, 7);
+const PLACE: Cell = refused(8).at(1, 7);
+const MEMBER: Cell = refused(9).at(1, 7);
+const FINAL_PADDING: &str = "final padding";
+
+/// The listing's examples, and what packing means where there are no members.
+const LISTS: &[&[u64]] = &[
+    &[0, 0, 144, 4, 1, 8, 0, 0, 0, 1, 1, 1, 0, 0, 0, 1, 3, 0, 0, 1, 1],
+    &[0, 0, 0],
+    &[0, 0, 96, 1, 3, 0, 0, 1, 1, 1, 1, 1, 0, 0, 0],
+    &[0, 3, 0],
+    &[0, 3, 48, 1, 1, 1, 0, 0, 0],
+    // Whatever else is wrong: the length, then the own alignment, then the first member's record, then its step.
+    &[3, 3, 49, 4, 4, 8, 0, 0, 0, 1],
+    &[3, 3, 48, 4, 4, 8, 0, 0, 0],
+    &[0, 3, 48, 4, 4, 8, 0, 0, 0],
+];
+
+fn composed(inputs: &[u64], answer: &Answer) -> &'static str {
+    let members = inputs[2] / RECORD as u64;
+    match (answer.refusal, answer.values[2]) {
+        (0, _) if members == 0 => "no members",
+        (0, 0 | 1) => "fixed",
+        (0, _) => "trailing",
+        (8, _) if answer.values[0] == members => FINAL_PADDING,
+        _ => "",
+    }
+}
+
+/// The members before the first whose record is refused: those that the Rust can be handed.
+fn good_records(inputs: &[u64]) -> Vec<[u64; 6]> {
+    let members = records(&inputs[2..]).unwrap();
+    members.into_iter().take_while(|member| first(&table::layout(*member)).is_none()).collect()
+}
+
+/// A length, or the first bad record where the Rust composes all the members before it.
+fn bad_record(inputs: &[u64]) -> Option<Answer> {
+    let Some(members) = records(&inputs[2..]) else {
+        return Some(Answer::refused_at(20, 0));
+    };
+    let good = good_records(inputs);
+    let bad = members.get(good.len())?;
+    oracle::compose(inputs[0], inputs[1], &good).ok()?;
+    first(&table::layout(*bad)).map(|answer| Answer::refused_at(answer.refusal, good.len()))
+}

@@ -1,0 +1,137 @@
+//! Trailing layouts.
+
+use super::{answered, apart, no_label, nowhere, refused, trailing_of, yes_or_no, Row, ANSWER, TRAILING};
+use crate::exports::*;
+use crate::kinds::number;
+use crate::layouts::{parts, rounded_phase};
+use crate::random::Random;
+use crate::table::first;
+
+pub const ROWS: &[Row] = &[
+    Row {
+        number: 9,
+        name: "size_offset",
+        inputs: &[TRAILING],
+        values: 1,
+        cells: &[ANSWER, apart(2)],
+        label: no_label,
+        pages: &[],
+        aim: nowhere,
+        ours: |i| lukaripe_size_offset(Words(trailing_of(i))).into(),
+        apart: |i| first(&[(2, i[3] == 0)]),
+        rust: |i| oracle::size_offset(trailing_of(i)).into(),
+    },
+    Row {
+        number: 10,
+        name: "max_trailing_bytes",
+        inputs: &[TRAILING, &[number("available_bytes")]],
+        values: 1,
+        cells: &[ANSWER, refused(16), apart(2)],
+        label: no_label,
+        pages: &[],
+        aim: at_a_size,
+        ours: |i| lukaripe_max_trailing_bytes(Words(trailing_of(i)), i[4]).into(),
+        apart: |i| first(&[(2, i[3] == 0)]),
+        rust: |i| oracle::max_trailing_bytes(trailing_of(i), i[4]).into(),
+    },
+    Row {
+        number: 11,
+        name: "padding_for_elems",
+        inputs: &[TRAILING, &[number("elems")]],
+        values: 1,
+        cells: &[ANSWER, apart(2)],
+        label: no_label,
+        pages: &[&[9, 1, 8, 5, 0], &[9, 1, 8, 5, 3], &[9, 1, 8, 5, 4]],
+        aim: at_the_last_count,
+        ours: |i| lukaripe_padding_for_elems(Words(trailing_of(i)), i[4]).into(),
+        apart: |i| first(&[(2, i[3] == 0)]),
+        rust: |i| oracle::padding_for_elems(trailing_of(i), i[4]).into(),
+    },
+    Row {
+        number: 12,
+        name: "size_for_elems",
+        inputs: &[TRAILING, &[number("elems")]],
+        values: 1,
+        cells: &[ANSWER, refused(15), apart(2)],
+        label: no_label,
+        pages: &[
+            &[9, 1, 8, 5, 0],
+            &[9, 1, 8, 5, 3],
+            &[9, 1, 8, 5, 4],
+            &[0, 1, u64::MAX - 7, 8, 0],
+            &[0, 1, u64::MAX - 7, 8, 1],
+            &[0, 1, u64::MAX - 7, 9, 0],
+        ],
+        aim: at_the_last_count,
+        ours: |i| lukaripe_size_for_elems(Words(trailing_of(i)), i[4]).into(),
+        apart: |i| first(&[(2, i[3] == 0)]),
+        rust: |i| oracle::size_for_elems(trailing_of(i), i[4]).into(),
+    },
+    Row {
+        number: 13,
+        name: "advance",
+        inputs: &[TRAILING, &[number("bytes"), number("new_elem_size")]],
+        values: 4,
+        cells: &[ANSWER, refused(17), apart(2)],
+        label: no_label,
+        pages: &[],
+        aim: at_the_last_advance,
+        ours: |i| lukaripe_advance(Words(trailing_of(i)), i[4], i[5]).into(),
+        apart: |i| first(&[(2, i[3] == 0)]),
+        rust: |i| oracle::advance(trailing_of(i), i[4], i[5]).into(),
+    },
+    Row {
+        number: 14,
+        name: "has_same_size_sequence",
+        inputs: &[TRAILING, TRAILING],
+        values: 1,
+        cells: &[answered("no"), answered("yes"), apart(2)],
+        label: yes_or_no,
+        pages: &[&[0, 4, 0, 9, 0, 4, 0, 10]],
+        aim: at_equal_sizes,
+        ours: |i| lukaripe_has_same_size_sequence(Words(trailing_of(i)), Words(trailing_of(&i[4..]))).into(),
+        apart: |i| first(&[(2, i[3] == 0), (2, i[7] == 0)]),
+        rust: |i| oracle::has_same_size_sequence(trailing_of(i), trailing_of(&i[4..])).into(),
+    },
+];
+
+// ---- where to aim ----
+
+/// Room for one of the first sizes.
+fn at_a_size(random: &mut Random, inputs: &mut [u64]) {
+    let (align, _) = parts(inputs[3]);
+    let size = inputs[2].wrapping_add(align.wrapping_mul(random.below(4)));
+    inputs[4] = random.near(size);
+}
+
+/// The greatest count that has a size.
+fn at_the_last_count(random: &mut Random, inputs: &mut [u64]) {
+    let (align, phase) = parts(inputs[3]);
+    let room = (u64::MAX - inputs[2]) & !(align - 1);
+    let count = room.saturating_sub(phase) / inputs[1].max(1);
+    inputs[4] = random.near(count);
+}
+
+/// The greatest number of bytes to advance by.
+fn at_the_last_advance(random: &mut Random, inputs: &mut [u64]) {
+    let (align, phase) = parts(inputs[3]);
+    let bytes = u64::MAX - (inputs[2] & !(align - 1)) - phase;
+    inputs[4] = random.near(bytes);
+}
+
+/// The same element size and the same size at 0, with the same word, another phase or another word. The element size is
+/// a multiple of the larger alignment, of half of it, or as it was.
+fn at_equal_sizes(random: &mut Random, inputs: &mut [u64]) {
+    let (align, _) = parts(inputs[3]);
+    inputs[7] = match random.below(4) {
+        0 => inputs[3],
+        1 => align | (inputs[7] & (align - 1)),
+        _ => inputs[7],
+    };
+    let larger = align.max(parts(inputs[7]).0);
+    let unit = random.one_of(&[larger, larger.div_ceil(2), 1]);
+    inputs[1] = inputs[1].wrapping_mul(unit);
+    inputs[5] = inputs[1];
+    let size = inputs[2].wrapping_add(rounded_phase(inputs[3]));
+    inputs[6] = size.wrapping_sub(rounded_phase(inputs[7]));
+}

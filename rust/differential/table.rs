@@ -1,0 +1,38 @@
+//! Document 01's table of refusals, for the inputs that the Rust is not handed. It shares nothing with either side.
+
+use crate::answer::Answer;
+
+/// A cause: its number, and whether it applies.
+pub type Cause = (u64, bool);
+
+/// The first cause that applies, of those in the order tested. None: the Rust answers.
+pub fn first(causes: &[Cause]) -> Option<Answer> {
+    causes.iter().find(|(_, applies)| *applies).map(|(number, _)| Answer::refused(*number))
+}
+
+/// An alignment is 0 or no power of two.
+pub fn bad_align(align: u64) -> bool {
+    align.count_ones() != 1
+}
+
+/// The causes of a layout, which is tested as its record is.
+pub fn layout([align, kind, _, offset, elem_size, word]: [u64; 6]) -> [Cause; 4] {
+    let fixed = kind < 2;
+    [
+        (21, kind > 3),
+        (1, bad_align(align)),
+        (22, fixed && (offset, elem_size, word) != (0, 0, 0)),
+        (2, !fixed && word == 0),
+    ]
+}
+
+/// The causes of two layouts, the first one's first.
+pub fn two_layouts(one: [u64; 6], other: [u64; 6]) -> Option<Answer> {
+    first(&layout(one)).or_else(|| first(&layout(other)))
+}
+
+/// The causes of a size and an alignment that stand for a type.
+pub fn sized(size: u64, align: u64) -> [Cause; 2] {
+    // The second is looked at only where the first does not apply.
+    [(1, bad_align(align)), (4, size % align.max(1) != 0)]
+}

@@ -1,0 +1,159 @@
+#!/usr/bin/env python3
+"""Cuts the ported part out of the Rust of zerocopy 0.8.63.
+
+    extract.py SOURCE_DIR OUT_FILE
+
+SOURCE_DIR holds src/layout.rs and src/util/mod.rs. OUT_FILE is included by lib.rs beside this script, which has what
+the cut text leans on. The text is unchanged but for the substitutions below. Each of them must hit exactly as often as
+it says: else this is another source than the one that was read, and the script stops.
+"""
+
+import pathlib
+import sys
+
+# The items cut out of each file, by how their first line starts. An item's comments and attributes stand right above it
+# and go with it; it ends at the line that closes it at the same indent.
+UTIL = [
+    "pub(crate) const fn padding_needed_for(",
+    "pub(crate) const fn round_down_to_next_multiple_of_alignment(",
+    "pub(crate) const fn max(",
+    "pub(crate) const fn min(",
+    "pub(crate) mod polyfills {",
+]
+LAYOUT = [
+    "const POINTER_WIDTH_BITS: usize",
+    "pub struct DstLayout {",
+    "pub(crate) enum SizeInfo<E = usize> {",
+    "pub(crate) struct RoundingAlignAndPhase(",
+    "impl RoundingAlignAndPhase {",
+    "pub(crate) struct TrailingSliceLayout<E = usize> {",
+    "impl<E> TrailingSliceLayout<E> {",
+    "impl TrailingSliceLayout {",
+    "impl SizeInfo {",
+    "const fn max_elems_for_bytes(",
+    "pub enum CastType {",
+    "pub(crate) enum MetadataCastError {",
+    "impl DstLayout {",
+    "unsafe fn add_scaled_metadata(",
+    "struct CastParams<Src: ?Sized, Dst: ?Sized> {",
+    "enum CastParamsInner {",
+    "impl<Src: ?Sized, Dst: ?Sized> CastParams<Src, Dst> {",
+    "impl<Src: KnownLayout + ?Sized, Dst: KnownLayout + ?Sized> CastParams<Src, Dst> {",
+]
+
+# (old text, new text, how often).
+# Each assertion that is a refusal of document 01 is given its number.
+ASSERTIONS = [
+    # A panic that carries a number is not to be had in a `const fn`.
+    ("const fn ", "fn ", 29),
+    ("debug_assert!(align.is_power_of_two());", "debug_require(align.is_power_of_two(), 1);", 1),
+    ("const_assert!(align.get().is_power_of_two());", "require(align.get().is_power_of_two(), 1);", 2),
+    ("const_assert!(phase < align.get());", "require(phase < align.get(), 3);", 1),
+    ("const_assert!(max_align.get().is_power_of_two());", "require(max_align.get().is_power_of_two(), 5);", 1),
+    (
+        "const_debug_assert!(self.align.get() <= DstLayout::CURRENT_MAX_ALIGN.get());",
+        "debug_require(self.align.get() <= DstLayout::CURRENT_MAX_ALIGN.get(), 6);",
+        1,
+    ),
+    (
+        "const_debug_assert!(field.align.get() <= DstLayout::CURRENT_MAX_ALIGN.get());",
+        "debug_require(field.align.get() <= DstLayout::CURRENT_MAX_ALIGN.get(), 6);",
+        1,
+    ),
+    (
+        "const_debug_assert!(repr_packed.get() <= DstLayout::CURRENT_MAX_ALIGN.get());",
+        "debug_require(repr_packed.get() <= DstLayout::CURRENT_MAX_ALIGN.get(), 6);",
+        1,
+    ),
+    ('const_panic!("Cannot extend a DST with additional fields.")', "refuse(7)", 1),
+    ('const_panic!("Adding padding to `self`\'s size overflows `usize`.")', "refuse(8)", 1),
+    ('const_panic!("Adding padding caused size to overflow `usize`.")', "refuse(8)", 4),
+    (
+        'const_panic!("`field` cannot be appended without the total size overflowing `usize`")',
+        "refuse(9)",
+        3,
+    ),
+    ('const_panic!("attempted to cast to slice type with zero-sized element")', "refuse(10)", 1),
+    (
+        "__const_debug_assert!(\n"
+        "            addr.checked_add(bytes_len).is_some(),\n"
+        '            "`addr` + `bytes_len` > usize::MAX"\n'
+        "        );",
+        "debug_require(addr.checked_add(bytes_len).is_some(), 11);",
+        1,
+    ),
+]
+NUMBERS_FOR_TYPES = [
+    # The size and the alignment of a type become two numbers. (Three of the five hits of each are in attributes for Kani,
+    # which are not in force here.)
+    ("fn for_type<T>()", "fn for_type(size: usize, align: usize)", 1),
+    ("fn for_unpadded_type<T>()", "fn for_unpadded_type(size: usize, align: usize)", 1),
+    ("fn for_slice<T>()", "fn for_slice(size: usize, align: usize)", 1),
+    ("Self::for_type::<T>()", "Self::for_type(size, align)", 1),
+    ("mem::align_of::<T>()", "align", 5),
+    ("mem::size_of::<T>()", "size", 5),
+    # The parameters of a conversion stand without the two types that they are for, and a count is a number.
+    ("struct CastParams<Src: ?Sized, Dst: ?Sized> {", "struct CastParams {", 1),
+    ("_src: PhantomData<Src>,", "", 1),
+    ("_dst: PhantomData<Dst>,", "", 1),
+    ("impl<Src: ?Sized, Dst: ?Sized> CastParams<Src, Dst> {", "impl CastParams {", 1),
+    ("impl<Src: KnownLayout + ?Sized, Dst: KnownLayout + ?Sized> CastParams<Src, Dst> {", "impl CastParams {", 1),
+    ("Option<CastParams<Src, Dst>>", "Option<CastParams>", 1),
+    ("CastParams { inner, _src: PhantomData, _dst: PhantomData }", "CastParams { inner }", 1),
+    ("src_meta: Src::PointerMetadata,", "src_meta: usize,", 1),
+    ("-> Dst::PointerMetadata {", "-> usize {", 1),
+    ("src_meta.to_elem_count()", "src_meta", 1),
+    ("Dst::PointerMetadata::from_elem_count(dst_meta)", "dst_meta", 1),
+    # Those items stood two modules deeper.
+    ("super::max_elems_for_bytes(", "max_elems_for_bytes(", 2),
+    ("super::add_scaled_metadata(", "add_scaled_metadata(", 1),
+]
+
+
+def stop(message):
+    sys.exit(f"extract.py: {message}")
+
+
+def cut(file, start):
+    """The one item of the file that starts so."""
+    lines = file.read_text(encoding="utf-8").split("\n")
+    places = [at for at, line in enumerate(lines) if line.lstrip().startswith(start)]
+    if len(places) != 1:
+        stop(f"{file.name}: expected one item '{start}', found {len(places)}")
+    first = last = places[0]
+    indent = lines[first][: len(lines[first]) - len(lines[first].lstrip())]
+    while lines[first - 1].strip() and lines[first - 1].startswith(indent):
+        first -= 1
+    if not lines[last].endswith(";"):
+        while lines[last] != indent + "}":
+            last += 1
+    return "\n".join(lines[first : last + 1]) + "\n"
+
+
+def substitute(text, substitutions):
+    for old, new, times in substitutions:
+        found = text.count(old)
+        if found != times:
+            stop(f"expected {times} of '{old}', found {found}")
+        text = text.replace(old, new)
+    return text
+
+
+def main():
+    if len(sys.argv) != 3:
+        stop("usage: extract.py SOURCE_DIR OUT_FILE")
+    source, out = pathlib.Path(sys.argv[1]), pathlib.Path(sys.argv[2])
+    layout, util = source / "src/layout.rs", source / "src/util/mod.rs"
+    if not layout.is_file() or not util.is_file():
+        stop(f"no zerocopy source at {source}: pass the folder that holds src/layout.rs")
+    text = "mod util {\nuse super::*;\n"
+    text += "\n".join(cut(util, item) for item in UTIL)
+    text += "}\n\n"
+    text += "\n".join(cut(layout, item) for item in LAYOUT)
+    text = substitute(text, ASSERTIONS + NUMBERS_FOR_TYPES)
+    out.parent.mkdir(parents=True, exist_ok=True)
+    text = "// Cut from zerocopy 0.8.63 by rust/oracle/extract.py; its licences apply.\n" + text
+    out.write_text(text, encoding="utf-8")
+
+
+main()

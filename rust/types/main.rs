@@ -1,0 +1,154 @@
+//! Compares the exports with the compiler on repr(C) structs: alignments, sizes, the places of members, and where a struct
+//! ends in a slice its sizes at some counts. tools/rustc-types writes the structs, builds and runs.
+
+#[path = "../exports.rs"]
+mod exports;
+
+use exports::*;
+use std::mem::{align_of, align_of_val, offset_of, size_of, size_of_val};
+use std::process::ExitCode;
+use std::ptr::slice_from_raw_parts;
+
+/// How many comparisons were made, or what differs.
+type Checked = Result<usize, String>;
+type Check = fn() -> Checked;
+
+/// Counts of elements to compare sizes at.
+const COUNTS: [usize; 8] = [0, 1, 2, 3, 4, 7, 8, 33];
+
+/// What values that end in a slice are looked at in: all zeros, which every type here has as a value.
+#[repr(align(65536))]
+struct Bytes([u8; 1 << 24]);
+static BYTES: Bytes = Bytes([0; 1 << 24]);
+
+/// A type that can be a member: its layout as six words, of a struct by the exports.
+trait Member {
+    fn layout() -> [u64; 6];
+}
+
+fn sized<T>() -> [u64; 6] {
+    [align_of::<T>() as u64, 1, size_of::<T>() as u64, 0, 0, 0]
+}
+
+macro_rules! scalars {
+    ($($scalar:ty),*) => { $(impl Member for $scalar { fn layout() -> [u64; 6] { sized::<$scalar>() } })* };
+}
+scalars!(u8, u16, u32, u64, u128, f32, f64, char, bool, usize);
+
+impl<T, const N: usize> Member for [T; N] {
+    fn layout() -> [u64; 6] {
+        sized::<[T; N]>()
+    }
+}
+
+impl<T> Member for [T] {
+    fn layout() -> [u64; 6] {
+        [align_of::<T>() as u64, 3, 0, 0, size_of::<T>() as u64, align_of::<T>() as u64]
+    }
+}
+
+type Compose = unsafe extern "C" fn(u64, u64, *const u8, usize) -> Told<7>;
+
+/// A composition by an export; refused, it is all zeros, which no layout is.
+fn composed(by: Compose, align: u64, packing: u64, members: &[[u64; 6]]) -> [u64; 6] {
+    let bytes: Vec<u8> = members.as_flattened().iter().flat_map(|word| word.to_le_bytes()).collect();
+    // SAFETY: the bytes are as many as said.
+    let told = unsafe { by(align, packing, bytes.as_ptr(), bytes.len()) };
+    told.values[1..].try_into().unwrap()
+}
+
+fn equal(what: &str, ours: u64, compiler: usize) -> Result<(), String> {
+    if ours == compiler as u64 {
+        return Ok(());
+    }
+    Err(format!("{what}: ours {ours}, the compiler's {compiler}"))
+}
+
+/// A member's place is where a composition that ends with it has its size, less the member's own; of a trailing part, its
+/// offset.
+fn check_places(align: u64, packing: u64, members: &[[u64; 6]], places: &[usize]) -> Result<(), String> {
+    for (at, place) in places.iter().enumerate() {
+        let [_, kind, size, offset, ..] = composed(lukaripe_compose, align, packing, &members[..=at]);
+        let [_, _, own_size, own_offset, ..] = members[at];
+        let ours = if kind < 2 { size.wrapping_sub(own_size) } else { offset.wrapping_sub(own_offset) };
+        equal(&format!("place of f{at}"), ours, *place)?;
+    }
+    Ok(())
+}
+
+/// Defines a struct, and its layout by the exports.
+macro_rules! define {
+    ($repr:meta, $align:literal, $packing:literal, $name:ident { $($field:ident: $type:ty),* }) => {
+        #[$repr]
+        #[allow(dead_code)]
+        struct $name { $($field: $type),* }
+
+        impl Member for $name {
+            fn layout() -> [u64; 6] {
+                composed(lukaripe_for_repr_c_struct, $align, $packing, &[$(<$type>::layout()),*])
+            }
+        }
+    };
+}
+
+macro_rules! fixed {
+    ($repr:meta, $align:literal, $packing:literal, $name:ident { $($field:ident: $type:ty),* }) => {
+        define!($repr, $align, $packing, $name { $($field: $type),* });
+
+        impl $name {
+            fn check() -> Checked {
+                let [align, _, size, ..] = $name::layout();
+                equal("alignment", align, align_of::<$name>())?;
+                equal("size", size, size_of::<$name>())?;
+                let places: &[usize] = &[$(offset_of!($name, $field)),*];
+                check_places($align, $packing, &[$(<$type>::layout()),*], places)?;
+                Ok(2 + places.len())
+            }
+        }
+    };
+}
+
+macro_rules! ends_in_slice {
+    ($repr:meta, $align:literal, $packing:literal, $name:ident { $($field:ident: $type:ty),* }) => {
+        define!($repr, $align, $packing, $name { $($field: $type),* });
+
+        impl $name {
+            fn at(count: usize) -> &'static $name {
+                let start = slice_from_raw_parts(BYTES.0.as_ptr(), count) as *const $name;
+                // SAFETY: the bytes are zeros, aligned, and more than the few members and elements take.
+                unsafe { &*start }
+            }
+
+            fn check() -> Checked {
+                let [align, _, base, offset, elem_size, word] = $name::layout();
+                let empty = $name::at(0);
+                equal("alignment", align, align_of_val(empty))?;
+                let start = (empty as *const $name).cast::<u8>() as usize;
+                let places: &[usize] = &[$((&raw const empty.$field).cast::<u8>() as usize - start),*];
+                check_places($align, $packing, &[$(<$type>::layout()),*], places)?;
+                for count in COUNTS {
+                    let told = lukaripe_size_for_elems(Words([offset, elem_size, base, word]), count as u64);
+                    equal(&format!("size at {count}"), told.values[0], size_of_val($name::at(count)))?;
+                }
+                Ok(1 + places.len() + COUNTS.len())
+            }
+        }
+    };
+}
+
+include!(env!("TYPES"));
+
+fn main() -> ExitCode {
+    let mut compared = 0;
+    for (at, check) in CHECKS.iter().enumerate() {
+        match check() {
+            Ok(count) => compared += count,
+            Err(what) => {
+                eprintln!("DIFFERENCE in S{at} of {}: {what}", env!("TYPES"));
+                return ExitCode::FAILURE;
+            }
+        }
+    }
+    println!("{} structs: {compared} alignments, sizes and places are the compiler's", CHECKS.len());
+    ExitCode::SUCCESS
+}
