@@ -2,8 +2,11 @@
 use mathlib.Core.Path.{_≡_, sym, subst}
 use Prim.Native.Nat.{ℕ, _^_, _<_}
 use Rattle.util.specs.Refusal.{Outcome, refused, Tells, fails, Meets, refuses, Decided}
-use Rattle.util.proofs.Refusals.{tells-eq, meets, stopped}
+use Rattle.util.proofs.Refusals.{tells-eq, meets, granted, stopped}
 use Rattle.util.proofs.Helpers.{align-decided}
+use Rattle.layout.specs.declared.Check.{Check}
+use Rattle.layout.specs.declared.Check.the-variants as Check
+use Rattle.layout.specs.View.{checkSays}
 use Rattle.layout.specs.Layout.{Info, fixed, trailing, Layout, noWord, layoutCauses, HeldIn, checkFor}
 
 -- a fixed layout has no rounding word; that of a trailing one is tested
@@ -25,3 +28,7 @@ check-refused {k} w l h e = (e, refuses (stopped m))
   where
     m : Meets (layoutCauses w l) (λ (_ : Unit {0}). Unit {0}) (refused k)
     m = subst (λ (o : Outcome (Unit {0})). Meets (layoutCauses w l) (λ (_ : Unit {0}). Unit {0}) o) (sym e) (meets (layoutCauses w l) tt (layout-decided w l h) (λ _. tt))
+
+-- the numbers of a layout that passed its check are held
+pub held-accepted : {w : ℕ} {l : Layout} (r : Check) → Meets (layoutCauses w l) (λ _. HeldIn w l) (checkSays r) → r ≡ Check.Accepted → HeldIn w l
+held-accepted {w} {l} r m e = granted (subst (λ (x : Check). Meets (layoutCauses w l) (λ _. HeldIn w l) (checkSays x)) e m) .1

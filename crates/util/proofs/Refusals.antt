@@ -100,6 +100,10 @@ clear (c ∷ cs) {x} d n = simp (told-false (d .0) (n .0)) (clear cs (d .1 (n .0
 pub told : {T : Type 0} {cs : List Cause} {P : T → Type 0} {r o : Outcome T} → Meets cs P o → r ≡ o → (r ≡ o) × Meets cs P r
 told {T} {cs} {P} m e = (e, subst (λ (x : Outcome T). Meets cs P x) (sym e) m)
 
+-- the same beside another fact
+pub told-also : {T H : Type 0} {cs : List Cause} {P : T → Type 0} {r o : Outcome T} → Meets cs P o → r ≡ o → H → (r ≡ o) × (Meets cs P r × H)
+told-also {T} {H} {cs} {P} m e h = (e, (subst (λ (x : Outcome T). Meets cs P x) (sym e) m, h))
+
 -- what an answer, and what a refusal, that means what it should says
 pub granted : {T : Type 0} {cs : List Cause} {P : T → Type 0} {x : T} → Meets cs P (answered x) → None cs × P x
 granted (grants n p) = (n, p)

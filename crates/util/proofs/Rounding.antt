@@ -159,3 +159,20 @@ mod-cancel N r s c hr hs e =
     let y = div-add-mod' (s + c) N in
     let q : (r + c) / N ≡ (s + c) / N = same-multiple N ((r + c) / N) ((s + c) / N) (omega arith) (omega arith) in
     omega (arith, ap (λ (z : ℕ). z * N) q)
+
+-- a difference of multiples is one
+pub difference-multiple : (A m n : ℕ) → 0 < A → m % A ≡ 0 → n % A ≡ 0 → n ≤ m → (m - n) % A ≡ 0
+difference-multiple A m n p em en h =
+    let k = m / A - n / A in
+    let dm : m / A * A ≡ m = multiple m A em in
+    let dn : n / A * A ≡ n = multiple n A en in
+    let l : n / A < m / A + 1 = lt-of-mul-lt-mul-right A (omega arith) in
+    let s : (k + n / A) * A ≡ m / A * A = ap (λ (x : ℕ). x * A) (omega arith) in
+    let e : k * A ≡ m - n = omega arith in
+    sym (ap (λ (x : ℕ). x % A) e) ∙ mul-mod-left k A
+
+-- a multiple less u, rounded up, is it less u rounded down
+pub up-less : (D u A : ℕ) → 0 < A → D % A ≡ 0 → u ≤ D → up (D - u) A ≡ D - down u A
+up-less D u A h e l =
+    sym (up-is (D - u) A (D - down u A) h (difference-multiple A D (down u A) h e (down-multiple u A) (omega (arith, down-le u A)))
+    (omega (arith, down-le u A)) (omega (arith, down-le u A, down-near u A h)))

@@ -1,0 +1,3 @@
+pub mod Cast
+pub mod Exact
+pub mod View

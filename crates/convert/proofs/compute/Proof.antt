@@ -1,0 +1,63 @@
+-- `convert::compute` meets its contract. Assumes nothing.
+use mathlib.Core.Path.{sym, ap, _∙_, subst}
+use borrow.Author.Tests.{lt-ltb, le-ltb}
+use native.Mathlib.Omega.{arith}
+use Rattle.trailing.specs.Sequence.{sameSequence}
+use Rattle.layout.specs.Layout.{noWord}
+use Rattle.layout.specs.declared.SizeInfo.{SizeInfo}
+use Rattle.layout.specs.View.{infoOf, layoutOf}
+use Rattle.convert.specs.Convert.{kindRules, conversionOf}
+use borrow.Author.Needs.{needs}
+use Rattle.convert.proofs.compute.Statement.{statement}
+use Rattle.convert.proofs.compute.Tie as tie
+
+returns : tie.Need-returns
+unfolding conversionOf
+returns c =
+    let k = c .before .before .before in
+    let s = layoutOf (k .args .src-layout) in
+    let t = layoutOf (k .args .dst-layout) in
+    simp (lt-ltb (s .align) (t .align) (c .if1 .taken))
+
+enum-known-size-info : tie.Need-enum-known-size-info
+enum-known-size-info c = search needs
+
+compute-from-sized-requires : tie.Need-compute-from-sized-requires
+compute-from-sized-requires c κs = search needs
+
+enum-known-size-info-2 : tie.Need-enum-known-size-info-2
+enum-known-size-info-2 c = search needs
+
+compute-from-unsized-requires : tie.Need-compute-from-unsized-requires
+compute-from-unsized-requires c κs =
+    let k = c .before .before .before .before .before .before in
+    let w = subst (λ (i : SizeInfo). noWord (infoOf i) .means → ⊥) (c .before .size-info2 .given .1) (k .pre .0) in
+    (omega (arith, w), k .pre .1)
+
+returns-2 : tie.Need-returns-2
+unfolding conversionOf
+returns-2 c =
+    let k = c .before .before .before .before .before .before .before in
+    let s = layoutOf (k .args .src-layout) in
+    let t = layoutOf (k .args .dst-layout) in
+    c .compute-from-sized .ensures ∙ ap (λ (i : SizeInfo). kindRules 64 (sameSequence 64) (infoOf i) t (t .info)) (sym (c .before .before .size-info .given .1)) ∙ simp (le-ltb (s .align) (t .align) (c .before .before .before .before .if1 .left))
+
+returns-3 : tie.Need-returns-3
+unfolding conversionOf
+returns-3 c =
+    let k = c .before .before .before .before .before .before .before in
+    let s = layoutOf (k .args .src-layout) in
+    let t = layoutOf (k .args .dst-layout) in
+    c .compute-from-unsized .ensures ∙ ap (λ (i : SizeInfo). kindRules 64 (sameSequence 64) (infoOf i) t (t .info)) (sym (c .before .before .size-info2 .given .1)) ∙ simp (le-ltb (s .align) (t .align) (c .before .before .before .before .if1 .left))
+
+pub compute-spec : {M : Type 1} → statement M
+compute-spec =
+    tie.close
+    (tie.spec
+    returns
+    enum-known-size-info
+    compute-from-sized-requires
+    enum-known-size-info-2
+    compute-from-unsized-requires
+    returns-2
+    returns-3)

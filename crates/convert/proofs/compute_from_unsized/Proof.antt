@@ -1,0 +1,34 @@
+-- `convert::compute_from_unsized` meets its contract. Assumes nothing.
+use mathlib.Core.Path.{sym, ap, _∙_, subst}
+use native.Mathlib.Omega.{arith}
+use Rattle.trailing.specs.Sequence.{sameSequence}
+use Rattle.trailing.specs.View.{trailingOf}
+use Rattle.layout.specs.Layout.{trailing, noWord}
+use Rattle.layout.specs.declared.SizeInfo.{SizeInfo}
+use Rattle.layout.specs.View.{infoOf, layoutOf}
+use Rattle.convert.specs.Convert.{kindRules}
+use borrow.Author.Needs.{needs}
+use Rattle.convert.proofs.compute_from_unsized.Statement.{statement}
+use Rattle.convert.proofs.compute_from_unsized.Tie as tie
+
+enum-told : tie.Need-enum-told
+enum-told c = search needs
+
+enum-known-size-info : tie.Need-enum-known-size-info
+enum-known-size-info c = search needs
+
+compute-unsized-requires : tie.Need-compute-unsized-requires
+compute-unsized-requires c κs =
+    let k = c .before .before .before in
+    let w = subst (λ (i : SizeInfo). noWord (infoOf i) .means → ⊥) (c .before .size-info .given .1) (k .pre .1) in
+    (k .pre .0, omega (arith, w))
+
+returns : tie.Need-returns
+returns c = let k = c .before .before in ap (λ (i : SizeInfo). kindRules 64 (sameSequence 64) (trailing (trailingOf (k .args .src))) (layoutOf (k .args .dst-layout)) (infoOf i)) (sym (c .enum-told .given .1))
+
+returns-2 : tie.Need-returns-2
+returns-2 c = let k = c .before .before .before .before in c .compute-unsized .ensures ∙ ap (λ (i : SizeInfo). kindRules 64 (sameSequence 64) (trailing (trailingOf (k .args .src))) (layoutOf (k .args .dst-layout)) (infoOf i)) (sym (c .before .before .size-info .given .1))
+
+pub compute-from-unsized-spec : {M : Type 1} → statement M
+compute-from-unsized-spec =
+    tie.close (tie.spec enum-told enum-known-size-info compute-unsized-requires returns returns-2)

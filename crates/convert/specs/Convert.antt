@@ -1,0 +1,173 @@
+-- Conversions (document 01, module 6): when a value of one layout may be read as another, and the count it then has. Assumes nothing.
+use mathlib.Core.Path.{_≡_}
+use mathlib.Core.Bool.{Bool, true, false, cond, _&&_}
+use mathlib.Core.List.{List, [], _∷_, _++_}
+use mathlib.Core.Logic.{_⊎_}
+use Prim.Native.Nat.{ℕ, _+_, _-_, _*_, _/_, _%_, _≤_, _<_}
+use lib.Dec.{eqb, leb, ltb}
+use Rattle.util.specs.Width.{M}
+use Rattle.util.specs.Refusal.{Outcome, answered, refused, Cause, unless}
+use Rattle.trailing.specs.Size.{Trailing, sizeAt, HasSize, sizeOffset}
+use Rattle.layout.specs.Layout.{Info, fixed, trailing, Layout, layoutCauses}
+use Rattle.cast.specs.Exact.{ExactCount, exactFor}
+use Rattle.convert.specs.Match.{Comparison, Matches, matches}
+
+-- what an accepted conversion is: fixed to fixed; fixed to trailing, with the exact count; trailing to trailing, with the shift d and the multiple k
+pub data Params : Type 0 where
+  sizedToSized : Params
+  sizedToUnsized : (count : ℕ) → Params
+  unsizedToUnsized : (d k : ℕ) → Params
+
+-- why there is no conversion, in the order tested
+pub data NoConversion : Type 0 where
+  sourceAlignLower : NoConversion
+  fixedSizesDiffer : NoConversion
+  trailingToFixed : NoConversion
+  noExactCount : NoConversion
+  targetElemZero : NoConversion
+  sourceElemSmaller : NoConversion
+  noWholeMultiple : NoConversion
+  noShift : NoConversion
+
+-- the number of each of these causes
+abbrev pub reasonNumber : NoConversion → ℕ
+reasonNumber r = 18
+
+pub data Conversion : Type 0 where
+  accepted : Params → Conversion
+  none : NoConversion → Conversion
+
+-- a shift that there is, or not
+pub data Shift : Type 0 where
+  by : ℕ → Shift
+  missing : Shift
+
+-- the first way: the difference of the size offsets in whole target elements
+abbrev pub byOffset : ℕ → Trailing → Trailing → Shift
+byOffset w s t =
+    cond (leb (sizeOffset w t) (sizeOffset w s) && eqb ((sizeOffset w s - sizeOffset w t) % t .elem) 0)
+    (by ((sizeOffset w s - sizeOffset w t) / t .elem))
+    missing
+
+-- the second way: the target's exact count of the source's size at 0, where that exists
+abbrev pub answeredBy : Outcome ℕ → Shift
+answeredBy (answered d) = by d
+answeredBy (refused k) = missing
+
+abbrev pub bySize : ℕ → Trailing → Layout → Shift
+bySize w s l = cond (leb (sizeAt w s 0) (M w)) (answeredBy (exactFor w l (sizeAt w s 0))) missing
+
+-- a shift at which the two match
+abbrev pub matching : ℕ → Comparison → Trailing → Trailing → Shift → Shift
+matching w same s t (by d) = cond (matches w same s t d) (by d) missing
+matching w same s t missing = missing
+
+abbrev pub orElse : Shift → Shift → Shift
+orElse (by d) other = by d
+orElse missing other = other
+
+-- the shift from s to the trailing part t of the layout l: by the first way, else by the second
+unfoldable pub shiftOf : ℕ → Comparison → Trailing → Layout → Trailing → Shift
+shiftOf w same s l t = orElse (matching w same s t (byOffset w s t)) (matching w same s t (bySize w s l))
+
+abbrev pub withShift : ℕ → Shift → Conversion
+withShift k (by d) = accepted (unsizedToUnsized d k)
+withShift k missing = none noShift
+
+abbrev pub withCount : Outcome ℕ → Conversion
+withCount (answered n) = accepted (sizedToUnsized n)
+withCount (refused k) = none noExactCount
+
+-- trailing to trailing: target e nonzero, source e a whole multiple k ≥ 1 of it, and a shift
+abbrev pub trailingRules : ℕ → Comparison → Trailing → Layout → Trailing → Conversion
+trailingRules w same s l t =
+    cond (eqb (t .elem) 0) (none targetElemZero)
+    (cond (ltb (s .elem) (t .elem)) (none sourceElemSmaller)
+    (cond (eqb (s .elem % t .elem) 0) (withShift (s .elem / t .elem) (shiftOf w same s l t)) (none noWholeMultiple)))
+
+-- by the kinds of the source and of the target l
+abbrev pub kindRules : ℕ → Comparison → Info → Layout → Info → Conversion
+kindRules w same (fixed a) l (fixed b) = cond (eqb a b) (accepted sizedToSized) (none fixedSizesDiffer)
+kindRules w same (fixed a) l (trailing t) = withCount (exactFor w l a)
+kindRules w same (trailing s) l (fixed b) = none trailingToFixed
+kindRules w same (trailing s) l (trailing t) = trailingRules w same s l t
+
+-- document 01's rules: no conversion if the source alignment is lower
+unfoldable pub conversionOf : ℕ → Comparison → Layout → Layout → Conversion
+conversionOf w same s t = cond (ltb (s .align) (t .align)) (none sourceAlignLower) (kindRules w same (s .info) t (t .info))
+
+-- the rules as statements: d is the shift of the first way; of the second, where the first gives none that matches
+pub record FirstWay (w : ℕ) (same : Comparison) (s t : Trailing) (d : ℕ) : Type 0 where
+  pub offsets : sizeOffset w s ≡ sizeOffset w t + d * t .elem
+  pub match : Matches w same s t d
+
+pub record SecondWay (w : ℕ) (same : Comparison) (s t : Trailing) (d : ℕ) : Type 0 where
+  pub notFirst : (c : ℕ) → FirstWay w same s t c → ⊥
+  pub start : HasSize w s 0
+  pub exact : ExactCount w t (sizeAt w s 0) d
+  pub match : Matches w same s t d
+
+abbrev pub IsShift : ℕ → Comparison → Trailing → Trailing → ℕ → Type 0
+IsShift w same s t d = FirstWay w same s t d ⊎ SecondWay w same s t d
+
+pub record IsMultiple (s t : Trailing) (k : ℕ) : Type 0 where
+  pub target : 0 < t .elem
+  pub least : 1 ≤ k
+  pub multiple : s .elem ≡ k * t .elem
+
+-- what the kinds of source and target ask
+pub data KindsConvert (w : ℕ) (same : Comparison) : Info → Info → Params → Type 0 where
+  fixedToFixed : {a : ℕ} → KindsConvert w same (fixed a) (fixed a) sizedToSized
+  fixedToTrailing : {a n : ℕ} {t : Trailing} → ExactCount w t a n → KindsConvert w same (fixed a) (trailing t) (sizedToUnsized n)
+  trailingToTrailing : {s t : Trailing} {d k : ℕ} → IsMultiple s t k → IsShift w same s t d → KindsConvert w same (trailing s) (trailing t) (unsizedToUnsized d k)
+
+-- document 01's rules give the conversion q from s to t
+pub record Converts (w : ℕ) (same : Comparison) (s t : Layout) (q : Params) : Type 0 where
+  pub align : t .align ≤ s .align
+  pub kinds : KindsConvert w same (s .info) (t .info) q
+
+-- 18: there is no conversion
+abbrev pub isNone : Conversion → Bool
+isNone (accepted q) = false
+isNone (none r) = true
+
+abbrev pub noneNumber : Conversion → ℕ
+noneNumber (accepted q) = 0
+noneNumber (none r) = reasonNumber r
+
+abbrev pub noConversion : ℕ → Comparison → Layout → Layout → Cause
+noConversion w same s t = record {
+  number = noneNumber (conversionOf w same s t);
+  test = isNone (conversionOf w same s t);
+  means = (q : Params) → Converts w same s t q → ⊥;
+}
+
+-- what refuses a conversion: the first layout's causes, then the second's, then 18
+abbrev pub computeCauses : ℕ → Comparison → Layout → Layout → List Cause
+computeCauses w same s t = layoutCauses w s ++ (layoutCauses w t ++ (noConversion w same s t ∷ []))
+
+-- the parameters of an accepted conversion (18 refuses the others)
+abbrev pub paramsOf : Conversion → Params
+paramsOf (accepted q) = q
+paramsOf (none r) = sizedToSized
+
+-- `try_compute`
+unfoldable pub computeFor : ℕ → Comparison → Layout → Layout → Outcome Params
+computeFor w same s t = unless (computeCauses w same s t) (paramsOf (conversionOf w same s t))
+
+-- the converted count of n, over unlimited whole numbers; a fixed source ignores n
+abbrev pub converted : Params → ℕ → ℕ
+converted sizedToSized n = 0
+converted (sizedToUnsized m) n = m
+converted (unsizedToUnsized d k) n = d + n * k
+
+-- 19: the converted count passes M
+abbrev pub countPasses : ℕ → Params → ℕ → Cause
+countPasses w q n = record { number = 19; test = ltb (M w) (converted q n); means = M w < converted q n }
+
+abbrev pub metadataCauses : ℕ → Params → ℕ → List Cause
+metadataCauses w q n = countPasses w q n ∷ []
+
+-- `cast_metadata`
+unfoldable pub metadataFor : ℕ → Params → ℕ → Outcome ℕ
+metadataFor w q n = unless (metadataCauses w q n) (converted q n)

@@ -1,0 +1,43 @@
+-- When two trailing layouts have the same sizes, the counts of one being shifted counts of the other (document 01, module 6). Assumes nothing.
+use mathlib.Core.Path.{_≡_}
+use mathlib.Core.Bool.{Bool, true, _&&_}
+use mathlib.Core.List.{List, [], _∷_}
+use Prim.Native.Nat.{ℕ, _+_, _*_, _^_, _≤_, _<_}
+use lib.Dec.{leb}
+use Rattle.util.specs.Width.{M}
+use Rattle.util.specs.Refusal.{Outcome, Cause, unless, Tells}
+use Rattle.rounding.specs.Word.{wordZero}
+use Rattle.trailing.specs.Size.{Trailing, sizeAt, HasSize, sizeOffset}
+use Rattle.trailing.specs.Sequence.{EqualSizes}
+use Rattle.trailing.specs.Calls.{advanced, sameCauses}
+
+-- a comparison of two sequences of sizes, as `sameSequence` is one
+abbrev pub Comparison : Type 0
+Comparison = Trailing → Trailing → Bool
+
+-- all that is assumed of a comparison: of layouts whose words w bits hold, a yes means equal sizes at every count
+abbrev pub Sound : ℕ → Comparison → Type 0
+Sound w same =
+    (s t : Trailing) → 0 < s .word → s .word < 2 ^ w → 0 < t .word → t .word < 2 ^ w → same s t ≡ true → EqualSizes w s t
+
+-- the target advanced by d of its elements and given the source's element size
+abbrev pub shifted : ℕ → Trailing → Trailing → ℕ → Trailing
+shifted w s t d = advanced w t (d * t .elem) (s .elem)
+
+-- the two match at d: the source has a size at 0, the advance is not refused, and the comparison says yes
+pub record Matches (w : ℕ) (same : Comparison) (s t : Trailing) (d : ℕ) : Type 0 where
+  pub start : HasSize w s 0
+  pub advance : sizeOffset w t + d * t .elem ≤ M w
+  pub equal : same s (shifted w s t d) ≡ true
+
+unfoldable pub matches : ℕ → Comparison → Trailing → Trailing → ℕ → Bool
+matches w same s t d = leb (sizeAt w s 0) (M w) && (leb (sizeOffset w t + d * t .elem) (M w) && same s (shifted w s t d))
+
+-- `size_sequences_match`: the first layout's 2, then the second's
+unfoldable pub matchFor : ℕ → Comparison → Trailing → Trailing → ℕ → Outcome Bool
+matchFor w same s t d = unless (sameCauses s t) (matches w same s t d)
+
+-- a yes means that the source's sizes are the target's, from d on, with the source's elements
+pub record MatchAnswer (w : ℕ) (same : Comparison) (s t : Trailing) (d : ℕ) (r : Bool) : Type 0 where
+  pub exactly : Tells (Matches w same s t d) r
+  pub equal : r ≡ true → EqualSizes w s (shifted w s t d)

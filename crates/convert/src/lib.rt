@@ -1,0 +1,374 @@
+// Conversions, after zerocopy's CastParams: whether a value of one layout may be read as another, and the count it then has.
+ghost use mathlib.Core.Path.{_≡_};
+ghost use Prim.Native.Nat.{_+_, _<_};
+ghost use Rattle.util.specs.Refusal.{answered, None, Meets, unless};
+ghost use Rattle.util.specs.View.{numberSays, decisionSays};
+ghost use Rattle.trailing.specs.Sequence.{sameSequence};
+ghost use Rattle.trailing.specs.Calls.{sameCauses};
+ghost use Rattle.trailing.specs.View.{trailingOf};
+ghost use mathlib.Core.List.{[], _∷_};
+ghost use Rattle.layout.specs.Layout.{fixed, trailing, noWord, layoutCauses, HeldIn};
+ghost use Rattle.layout.specs.View.{infoOf, layoutOf};
+ghost use Rattle.convert.specs.Match.{matches, matchFor, MatchAnswer};
+ghost use Rattle.convert.specs.Convert.{Params, byOffset, bySize, matching, shiftOf, trailingRules, kindRules, conversionOf, reasonNumber, noConversion, paramsOf, unsizedToUnsized, Converts, computeCauses, computeFor, converted, metadataCauses, metadataFor};
+ghost use Rattle.convert.specs.Demand.{countAfter, answersOf, Demand3Of};
+ghost use Rattle.convert.specs.View.{paramsIn, reasonIn, shiftIn, computedIn, computeSays, answersIn};
+use cast::CastAnswer;
+use cast::CastType;
+use layout::Check;
+use layout::DstLayout;
+use layout::SizeInfo;
+use trailing::AdvanceAnswer;
+use trailing::SizeAnswer;
+use trailing::TrailingSliceLayout;
+use util::Answer;
+use util::Decision;
+use util::Product;
+use util::refusal;
+
+// How a count is converted.
+pub enum CastParamsInner {
+    // A trailing source: offset_delta_elems and elem_multiple for each of its elements.
+    UnsizedToUnsized {
+        offset_delta_elems: u64,
+        elem_multiple: u64,
+    },
+    // A fixed source and a trailing target: this count.
+    SizedToUnsized {
+        dst_meta: u64,
+    },
+    SizedToSized,
+}
+
+// Why there is no conversion, in the order tested.
+pub enum Reason {
+    SourceAlignLower,
+    FixedSizesDiffer,
+    TrailingToFixed,
+    NoExactCount,
+    TargetElemZero,
+    SourceElemSmaller,
+    NoWholeMultiple,
+    NoShift,
+}
+
+// A conversion, or why there is none.
+pub enum Computed {
+    Accepted(CastParamsInner),
+    None(Reason),
+}
+
+// A conversion, or the number of the refusal.
+pub enum ComputeAnswer {
+    Params(CastParamsInner),
+    Refused(u64),
+}
+
+// A shift in whole target elements, or none.
+pub enum Shift {
+    By(u64),
+    Missing,
+}
+
+// Whether the target, advanced by dst_base of its elements and given the source's, is found to have the source's sizes.
+fn sequences_match(src: TrailingSliceLayout, dst: TrailingSliceLayout, dst_base: u64) -> bool
+    requires { ⌜ (0 < trailingOf src .word) × (0 < trailingOf dst .word) ⌝ }
+    ensures { λ r. ⌜ r ≡ matches 64 (sameSequence 64) (trailingOf src) (trailingOf dst) «dst_base» ⌝ }
+{
+    let Product::Fits(base_bytes) = util::checked_mul(dst_base, dst.elem_size) else {
+        return false;
+    };
+    let AdvanceAnswer::Layout(shifted_dst) = dst.advance(base_bytes, src.elem_size) else {
+        return false;
+    };
+    match src.has_same_size_sequence(shifted_dst) {
+        Decision::Is(same) => same,
+        Decision::Refused(_) => false,
+    }
+}
+
+// The same of any two layouts.
+pub fn size_sequences_match(
+    src: TrailingSliceLayout,
+    dst: TrailingSliceLayout,
+    dst_base: u64,
+) -> Decision
+    ensures answer { λ r. ⌜ decisionSays r ≡ matchFor 64 (sameSequence 64) (trailingOf src) (trailingOf dst) «dst_base» ⌝ }
+    ensures meaning { λ r. ⌜ Meets (sameCauses (trailingOf src) (trailingOf dst)) (MatchAnswer 64 (sameSequence 64) (trailingOf src) (trailingOf dst) «dst_base») (decisionSays r) ⌝ }
+{
+    let src_word = src.size_rounding_align_and_phase;
+    if src_word.0 == 0 {
+        return Decision::Refused(refusal::ROUNDING_WORD_ZERO);
+    }
+    let dst_word = dst.size_rounding_align_and_phase;
+    if dst_word.0 == 0 {
+        return Decision::Refused(refusal::ROUNDING_WORD_ZERO);
+    }
+    Decision::Is(sequences_match(src, dst, dst_base))
+}
+
+// The first way: the difference of the size offsets in whole target elements.
+fn exact_offset_delta_elems(src: TrailingSliceLayout, dst: TrailingSliceLayout) -> Shift
+    requires { ⌜ (0 < trailingOf src .word) × (0 < trailingOf dst .word) × (0 < trailingOf dst .elem) ⌝ }
+    ensures { λ r. ⌜ shiftIn r ≡ byOffset 64 (trailingOf src) (trailingOf dst) ⌝ }
+{
+    let Answer::Number(src_offset) = src.size_offset() else {
+        return Shift::Missing;
+    };
+    let Answer::Number(dst_offset) = dst.size_offset() else {
+        return Shift::Missing;
+    };
+    if src_offset < dst_offset {
+        return Shift::Missing;
+    }
+    let delta = src_offset - dst_offset;
+    let dst_elem_size = dst.elem_size;
+    if delta % dst_elem_size == 0 {
+        Shift::By(delta / dst_elem_size)
+    } else {
+        Shift::Missing
+    }
+}
+
+// The second way: the target's exact count of the source's size at 0.
+fn offset_delta_by_size(src: TrailingSliceLayout, dst_layout: DstLayout) -> Shift
+    requires { ⌜ 0 < trailingOf src .word ⌝ }
+    ensures { λ r. ⌜ shiftIn r ≡ bySize 64 (trailingOf src) (layoutOf «dst_layout») ⌝ }
+{
+    let SizeAnswer::Size(src_zero_size) = src.size_for_elems(0) else {
+        return Shift::Missing;
+    };
+    match cast::metadata_for_exact_size(dst_layout, src_zero_size) {
+        Answer::Number(elems) => Shift::By(elems),
+        Answer::Refused(_) => Shift::Missing,
+    }
+}
+
+// A shift at which the sequences match.
+fn matching_shift(src: TrailingSliceLayout, dst: TrailingSliceLayout, shift: Shift) -> Shift
+    requires { ⌜ (0 < trailingOf src .word) × (0 < trailingOf dst .word) ⌝ }
+    ensures { λ r. ⌜ shiftIn r ≡ matching 64 (sameSequence 64) (trailingOf src) (trailingOf dst) (shiftIn shift) ⌝ }
+{
+    match shift {
+        Shift::By(elems) => {
+            if sequences_match(src, dst, elems) {
+                Shift::By(elems)
+            } else {
+                Shift::Missing
+            }
+        }
+        Shift::Missing => Shift::Missing,
+    }
+}
+
+fn offset_delta_elems(
+    src: TrailingSliceLayout,
+    dst_layout: DstLayout,
+    dst: TrailingSliceLayout,
+) -> Shift
+    requires { ⌜ (0 < trailingOf src .word) × (0 < trailingOf dst .word) × (0 < trailingOf dst .elem) ⌝ }
+    ensures { λ r. ⌜ shiftIn r ≡ shiftOf 64 (sameSequence 64) (trailingOf src) (layoutOf «dst_layout») (trailingOf dst) ⌝ }
+{
+    match matching_shift(src, dst, exact_offset_delta_elems(src, dst)) {
+        Shift::By(elems) => Shift::By(elems),
+        Shift::Missing => matching_shift(src, dst, offset_delta_by_size(src, dst_layout)),
+    }
+}
+
+// Trailing to trailing.
+fn compute_unsized(
+    src: TrailingSliceLayout,
+    dst_layout: DstLayout,
+    dst: TrailingSliceLayout,
+) -> Computed
+    requires { ⌜ (0 < trailingOf src .word) × (0 < trailingOf dst .word) ⌝ }
+    ensures { λ r. ⌜ computedIn r ≡ trailingRules 64 (sameSequence 64) (trailingOf src) (layoutOf «dst_layout») (trailingOf dst) ⌝ }
+{
+    let dst_elem_size = dst.elem_size;
+    if dst_elem_size == 0 {
+        return Computed::None(Reason::TargetElemZero);
+    }
+    let src_elem_size = src.elem_size;
+    if src_elem_size < dst_elem_size {
+        return Computed::None(Reason::SourceElemSmaller);
+    }
+    if src_elem_size % dst_elem_size != 0 {
+        return Computed::None(Reason::NoWholeMultiple);
+    }
+    match offset_delta_elems(src, dst_layout, dst) {
+        Shift::By(elems) => Computed::Accepted(CastParamsInner::UnsizedToUnsized {
+            offset_delta_elems: elems,
+            elem_multiple: src_elem_size / dst_elem_size,
+        }),
+        Shift::Missing => Computed::None(Reason::NoShift),
+    }
+}
+
+fn compute_from_sized(src_size: u64, dst_layout: DstLayout) -> Computed
+    ensures { λ r. ⌜ computedIn r ≡ kindRules 64 (sameSequence 64) (fixed «src_size») (layoutOf «dst_layout») (infoOf («dst_layout» .«size_info»)) ⌝ }
+{
+    let size_info = dst_layout.size_info;
+    match size_info {
+        SizeInfo::Sized { size } => {
+            if src_size == size {
+                Computed::Accepted(CastParamsInner::SizedToSized)
+            } else {
+                Computed::None(Reason::FixedSizesDiffer)
+            }
+        }
+        SizeInfo::SliceDst(_) => match cast::metadata_for_exact_size(dst_layout, src_size) {
+            Answer::Number(dst_meta) => {
+                Computed::Accepted(CastParamsInner::SizedToUnsized { dst_meta })
+            }
+            Answer::Refused(_) => Computed::None(Reason::NoExactCount),
+        },
+    }
+}
+
+fn compute_from_unsized(src: TrailingSliceLayout, dst_layout: DstLayout) -> Computed
+    requires { ⌜ (0 < trailingOf src .word) × (noWord (infoOf («dst_layout» .«size_info»)) .means → ⊥) ⌝ }
+    ensures { λ r. ⌜ computedIn r ≡ kindRules 64 (sameSequence 64) (trailing (trailingOf src)) (layoutOf «dst_layout») (infoOf («dst_layout» .«size_info»)) ⌝ }
+{
+    let size_info = dst_layout.size_info;
+    match size_info {
+        SizeInfo::Sized { size: _ } => Computed::None(Reason::TrailingToFixed),
+        SizeInfo::SliceDst(dst) => compute_unsized(src, dst_layout, dst),
+    }
+}
+
+// The conversion between two layouts that passed their checks, or why there is none.
+fn compute(src_layout: DstLayout, dst_layout: DstLayout) -> Computed
+    requires { ⌜ (noWord (infoOf («src_layout» .«size_info»)) .means → ⊥) × (noWord (infoOf («dst_layout» .«size_info»)) .means → ⊥) ⌝ }
+    ensures { λ r. ⌜ computedIn r ≡ conversionOf 64 (sameSequence 64) (layoutOf «src_layout») (layoutOf «dst_layout») ⌝ }
+{
+    if src_layout.align < dst_layout.align {
+        return Computed::None(Reason::SourceAlignLower);
+    }
+    let size_info = src_layout.size_info;
+    match size_info {
+        SizeInfo::Sized { size } => compute_from_sized(size, dst_layout),
+        SizeInfo::SliceDst(src) => compute_from_unsized(src, dst_layout),
+    }
+}
+
+// The refusal number of a reason.
+fn reason_number(reason: Reason) -> u64
+    ensures { λ r. ⌜ r ≡ reasonNumber (reasonIn reason) ⌝ }
+{
+    match reason {
+        Reason::SourceAlignLower => refusal::NO_CONVERSION,
+        Reason::FixedSizesDiffer => refusal::NO_CONVERSION,
+        Reason::TrailingToFixed => refusal::NO_CONVERSION,
+        Reason::NoExactCount => refusal::NO_CONVERSION,
+        Reason::TargetElemZero => refusal::NO_CONVERSION,
+        Reason::SourceElemSmaller => refusal::NO_CONVERSION,
+        Reason::NoWholeMultiple => refusal::NO_CONVERSION,
+        Reason::NoShift => refusal::NO_CONVERSION,
+    }
+}
+
+fn compute_answer(src_layout: DstLayout, dst_layout: DstLayout) -> ComputeAnswer
+    requires { ⌜ None (layoutCauses 64 (layoutOf «src_layout»)) × None (layoutCauses 64 (layoutOf «dst_layout»)) ⌝ }
+    ensures { λ r. ⌜ computeSays r ≡ unless (noConversion 64 (sameSequence 64) (layoutOf «src_layout») (layoutOf «dst_layout») ∷ []) (paramsOf (conversionOf 64 (sameSequence 64) (layoutOf «src_layout») (layoutOf «dst_layout»))) ⌝ }
+{
+    match compute(src_layout, dst_layout) {
+        Computed::Accepted(params) => ComputeAnswer::Params(params),
+        Computed::None(reason) => ComputeAnswer::Refused(reason_number(reason)),
+    }
+}
+
+// How counts of the first layout are converted to the second, where a value of the first may be read as the second.
+pub fn try_compute(src_layout: DstLayout, dst_layout: DstLayout) -> ComputeAnswer
+    ensures answer { λ r. ⌜ computeSays r ≡ computeFor 64 (sameSequence 64) (layoutOf «src_layout») (layoutOf «dst_layout») ⌝ }
+    ensures meaning { λ r. ⌜ Meets (computeCauses 64 (sameSequence 64) (layoutOf «src_layout») (layoutOf «dst_layout»)) (Converts 64 (sameSequence 64) (layoutOf «src_layout») (layoutOf «dst_layout»)) (computeSays r) ⌝ }
+    ensures held { λ r. ⌜ ((q : Params) → computeSays r ≡ answered q → HeldIn 64 (layoutOf «src_layout») × HeldIn 64 (layoutOf «dst_layout»)) ⌝ }
+{
+    match src_layout.check() {
+        Check::Accepted => match dst_layout.check() {
+            Check::Accepted => compute_answer(src_layout, dst_layout),
+            Check::Refused(number) => ComputeAnswer::Refused(number),
+        },
+        Check::Refused(number) => ComputeAnswer::Refused(number),
+    }
+}
+
+// base + metadata * multiple, where 64 bits hold it.
+fn add_scaled_metadata(base: u64, metadata: u64, multiple: u64) -> Answer
+    ensures { λ r. ⌜ numberSays r ≡ metadataFor 64 (unsizedToUnsized base multiple) metadata ⌝ }
+{
+    let Product::Fits(scaled) = util::checked_mul(metadata, multiple) else {
+        return Answer::Refused(refusal::CONVERTED_COUNT_PASSES_MAX);
+    };
+    if u64::MAX - base < scaled {
+        Answer::Refused(refusal::CONVERTED_COUNT_PASSES_MAX)
+    } else {
+        Answer::Number(base + scaled)
+    }
+}
+
+// The count of the target that src_meta of the source becomes.
+pub fn cast_metadata(params: CastParamsInner, src_meta: u64) -> Answer
+    ensures answer { λ r. ⌜ numberSays r ≡ metadataFor 64 (paramsIn params) «src_meta» ⌝ }
+    ensures meaning { λ r. ⌜ Meets (metadataCauses 64 (paramsIn params) «src_meta») (λ n. n ≡ converted (paramsIn params) «src_meta») (numberSays r) ⌝ }
+{
+    match params {
+        CastParamsInner::UnsizedToUnsized {
+            offset_delta_elems,
+            elem_multiple,
+        } => add_scaled_metadata(offset_delta_elems, src_meta, elem_multiple),
+        CastParamsInner::SizedToUnsized { dst_meta } => Answer::Number(dst_meta),
+        CastParamsInner::SizedToSized => Answer::Number(0),
+    }
+}
+
+// The answers of a conversion of src_meta elements and of two prefix casts of its target.
+pub struct Carried {
+    pub computed: ComputeAnswer,
+    pub count: Answer,
+    pub first: CastAnswer,
+    pub second: CastAnswer,
+}
+
+fn converted_count(computed: ComputeAnswer, src_meta: u64) -> Answer
+    ensures { λ r. ⌜ numberSays r ≡ countAfter 64 (computeSays computed) «src_meta» ⌝ }
+{
+    match computed {
+        ComputeAnswer::Params(params) => cast_metadata(params, src_meta),
+        ComputeAnswer::Refused(number) => Answer::Refused(number),
+    }
+}
+
+// Converts src_meta elements of the first layout to the second, and casts bytes at addr to the second over two lengths.
+// What it promises of the four answers is the conversion guarantee.
+pub fn convert_and_cast(
+    src_layout: DstLayout,
+    dst_layout: DstLayout,
+    src_meta: u64,
+    addr: u64,
+    bytes_len: u64,
+    more_len: u64,
+) -> Carried
+    ensures answer { λ r. ⌜ answersIn r ≡ answersOf 64 (sameSequence 64) (layoutOf «src_layout») (layoutOf «dst_layout») «src_meta» addr «bytes_len» «more_len» ⌝ }
+    ensures meaning { λ r. ⌜ Demand3Of 64 (sameSequence 64) (layoutOf «src_layout») (layoutOf «dst_layout») «src_meta» addr «bytes_len» «more_len» (answersIn r) ⌝ }
+{
+    let computed = try_compute(src_layout, dst_layout);
+    let count = converted_count(computed, src_meta);
+    let first = cast::validate_cast_and_convert_metadata(
+        dst_layout,
+        addr,
+        bytes_len,
+        CastType::Prefix,
+    );
+    let second = cast::validate_cast_and_convert_metadata(
+        dst_layout,
+        addr,
+        more_len,
+        CastType::Prefix,
+    );
+    Carried {
+        computed,
+        count,
+        first,
+        second,
+    }
+}
