@@ -92,6 +92,102 @@ lukaripe_number lukaripe_size_for_elems(lukaripe_trailing layout, uint64_t elems
 lukaripe_trailing_answer lukaripe_advance(lukaripe_trailing layout, uint64_t bytes, uint64_t elem_size);
 lukaripe_number lukaripe_has_same_size_sequence(lukaripe_trailing layout, lukaripe_trailing other);
 
+/* ---- layouts ---- */
+
+/* A layout is the six words of its record and is tested as a record is: 21, 1, then 22 or 2.
+ * kind: 0 fixed, 1 fixed with the mark, 2 trailing, 3 trailing with the mark. A fixed layout's last three words are 0. */
+typedef struct {
+    uint64_t align;
+    uint64_t kind;
+    uint64_t size_or_base;
+    uint64_t offset;
+    uint64_t elem_size;
+    uint64_t word;
+} lukaripe_layout;
+
+typedef struct {
+    uint64_t refusal;
+    uint64_t align;
+    uint64_t kind;
+    uint64_t size_or_base;
+    uint64_t offset;
+    uint64_t elem_size;
+    uint64_t word;
+} lukaripe_layout_answer;
+
+/* An alignment or packing of 0 means that none was asked for, in these parameters only. */
+lukaripe_layout_answer lukaripe_new_zst(uint64_t repr_align);
+lukaripe_layout_answer lukaripe_for_type(uint64_t size, uint64_t align);
+lukaripe_layout_answer lukaripe_for_unpadded_type(uint64_t size, uint64_t align);
+lukaripe_layout_answer lukaripe_for_slice(uint64_t size, uint64_t align);
+lukaripe_layout_answer lukaripe_extend(lukaripe_layout layout, lukaripe_layout field, uint64_t repr_packed);
+lukaripe_layout_answer lukaripe_pad_to_align(lukaripe_layout layout);
+lukaripe_number lukaripe_requires_static_padding(lukaripe_layout layout);
+lukaripe_number lukaripe_requires_dynamic_padding(lukaripe_layout layout);
+
+/* ---- records, scalars and member lists ---- */
+
+/* A record has 48 bytes, six little-endian words. A member list is records end to end. */
+lukaripe_layout_answer lukaripe_decode(const uint8_t *record, size_t len);
+
+/* Gives the refusal number; 20 for the length of out comes first. */
+uint64_t lukaripe_encode(lukaripe_layout layout, uint8_t *out, size_t len);
+
+/* Codes: 0 u8, 1 u16, 2 u32, 3 u64, 4 f32, 5 f64, 6 char, 7 bool, 8 usize. */
+lukaripe_layout_answer lukaripe_scalar(uint64_t code);
+
+/* place: the index of the member at fault, the member count for final padding, else 0. */
+typedef struct {
+    uint64_t refusal;
+    uint64_t place;
+    uint64_t align;
+    uint64_t kind;
+    uint64_t size_or_base;
+    uint64_t offset;
+    uint64_t elem_size;
+    uint64_t word;
+} lukaripe_composed;
+
+/* compose is for_repr_c_struct before its closing padding. */
+lukaripe_composed lukaripe_compose(uint64_t repr_align, uint64_t repr_packed, const uint8_t *members, size_t len);
+lukaripe_composed lukaripe_for_repr_c_struct(uint64_t repr_align, uint64_t repr_packed, const uint8_t *members,
+                                             size_t len);
+
+/* ---- casts ---- */
+
+typedef struct {
+    uint64_t refusal;
+    uint64_t count;
+    uint64_t split;
+} lukaripe_cast;
+
+lukaripe_cast lukaripe_validate_cast_and_convert_metadata(lukaripe_layout layout, uint64_t addr, uint64_t bytes_len,
+                                                          bool suffix);
+lukaripe_number lukaripe_metadata_for_exact_size(lukaripe_layout layout, uint64_t size);
+
+/* ---- conversions ---- */
+
+/* kind: 0 fixed to fixed, 1 fixed to trailing (dst_meta), 2 trailing to trailing (offset_delta_elems, elem_multiple).
+ * A kind above 2 that is handed over is read as 2. */
+typedef struct {
+    uint64_t kind;
+    uint64_t offset_delta_elems;
+    uint64_t elem_multiple;
+    uint64_t dst_meta;
+} lukaripe_cast_params;
+
+typedef struct {
+    uint64_t refusal;
+    uint64_t kind;
+    uint64_t offset_delta_elems;
+    uint64_t elem_multiple;
+    uint64_t dst_meta;
+} lukaripe_cast_params_answer;
+
+lukaripe_number lukaripe_size_sequences_match(lukaripe_trailing src, lukaripe_trailing dst, uint64_t dst_base);
+lukaripe_cast_params_answer lukaripe_try_compute(lukaripe_layout src, lukaripe_layout dst);
+lukaripe_number lukaripe_cast_metadata(lukaripe_cast_params params, uint64_t src_meta);
+
 #ifdef __cplusplus
 }
 #endif

@@ -6,7 +6,32 @@ ghost use Rattle.util.specs.View.{numberSays, decisionSays};
 ghost use Rattle.rounding.specs.Word.{newFor, componentsFor, alignFor};
 ghost use Rattle.trailing.specs.Calls.{sizeOffsetFor, maxTrailingFor, paddingForElems, sizeFor, advanceFor, sameFor};
 ghost use Rattle.trailing.specs.View.{trailingOf};
-ghost use Rattle.lukaripe.specs.Export.{numberOut, decisionOut, componentsOut, trailingIn, trailingOut};
+ghost use mathlib.Core.Bool.{true, false};
+ghost use lib.ListN.{length};
+ghost use Rattle.trailing.specs.Sequence.{sameSequence};
+ghost use Rattle.layout.specs.Make.{newZstFor, typeFor, sliceFor};
+ghost use Rattle.layout.specs.Extend.{extendFor};
+ghost use Rattle.layout.specs.Pad.{padFor, staticFor, dynamicFor};
+ghost use Rattle.layout.specs.View.{layoutSays};
+ghost use Rattle.record.specs.Record.{wordsFor, decodeFor};
+ghost use Rattle.record.specs.Scalar.{target64, scalarFor};
+ghost use Rattle.record.specs.Compose.{composeFor, structFor};
+ghost use Rattle.record.specs.View.{composeSays};
+ghost use Rattle.cast.specs.Cast.{castFor};
+ghost use Rattle.cast.specs.Exact.{exactFor};
+ghost use Rattle.cast.specs.View.{sideOf, castSays};
+ghost use Rattle.convert.specs.Match.{matchFor};
+ghost use Rattle.convert.specs.Convert.{computeFor, metadataFor};
+ghost use Rattle.convert.specs.View.{paramsIn, computeSays};
+ghost use Rattle.lukaripe.specs.Export.{numberOut, decisionOut, componentsOut, trailingIn, trailingOut, wordsGiven, layoutOut, withLayout, composedOut, castOut, sideGiven, paramsGiven, paramsOut, refusalOut, encodeGiven, encodedGiven};
+use cast::CastAnswer;
+use cast::CastType;
+use convert::CastParamsInner;
+use convert::ComputeAnswer;
+use layout::DstLayout;
+use layout::LayoutAnswer;
+use record::ComposeAnswer;
+use record::EncodeAnswer;
 use rounding::ComponentsAnswer;
 use rounding::NewAnswer;
 use rounding::RoundingAlignAndPhase;
@@ -15,6 +40,7 @@ use trailing::SizeAnswer;
 use trailing::TrailingSliceLayout;
 use util::Answer;
 use util::Decision;
+use util::refusal;
 
 #[repr(C)]
 pub struct Number {
@@ -44,6 +70,64 @@ pub struct TrailingAnswer {
     pub elem_size: u64,
     pub size_base: u64,
     pub size_rounding_align_and_phase: u64,
+}
+
+// A layout, as the six words of its record.
+#[repr(C)]
+pub struct Layout {
+    pub align: u64,
+    pub kind: u64,
+    pub size_or_base: u64,
+    pub offset: u64,
+    pub elem_size: u64,
+    pub word: u64,
+}
+
+#[repr(C)]
+pub struct LayoutOut {
+    pub refusal: u64,
+    pub align: u64,
+    pub kind: u64,
+    pub size_or_base: u64,
+    pub offset: u64,
+    pub elem_size: u64,
+    pub word: u64,
+}
+
+#[repr(C)]
+pub struct ComposedOut {
+    pub refusal: u64,
+    pub place: u64,
+    pub align: u64,
+    pub kind: u64,
+    pub size_or_base: u64,
+    pub offset: u64,
+    pub elem_size: u64,
+    pub word: u64,
+}
+
+#[repr(C)]
+pub struct CastOut {
+    pub refusal: u64,
+    pub count: u64,
+    pub split: u64,
+}
+
+#[repr(C)]
+pub struct CastParams {
+    pub kind: u64,
+    pub offset_delta_elems: u64,
+    pub elem_multiple: u64,
+    pub dst_meta: u64,
+}
+
+#[repr(C)]
+pub struct CastParamsOut {
+    pub refusal: u64,
+    pub kind: u64,
+    pub offset_delta_elems: u64,
+    pub elem_multiple: u64,
+    pub dst_meta: u64,
 }
 
 fn number_out(a: Answer) -> Number
@@ -84,6 +168,161 @@ fn trailing_in(t: Trailing) -> TrailingSliceLayout
         elem_size: t.elem_size,
         size_base: t.size_base,
         size_rounding_align_and_phase: RoundingAlignAndPhase(t.size_rounding_align_and_phase),
+    }
+}
+
+fn layout_in(l: Layout) -> LayoutAnswer
+    ensures { λ r. ⌜ layoutSays r ≡ wordsFor 64 (wordsGiven l) ⌝ }
+{
+    record::layout_from_words(
+        l.align,
+        l.kind,
+        l.size_or_base,
+        l.offset,
+        l.elem_size,
+        l.word,
+    )
+}
+
+fn layout_out(a: LayoutAnswer) -> LayoutOut
+    ensures { λ r. ⌜ r ≡ layoutOut (layoutSays a) ⌝ }
+{
+    match a {
+        LayoutAnswer::Layout(l) => {
+            let words = record::words_from_layout(l);
+            LayoutOut {
+                refusal: 0,
+                align: words.align,
+                kind: words.kind,
+                size_or_base: words.size,
+                offset: words.offset,
+                elem_size: words.elem_size,
+                word: words.word,
+            }
+        }
+        LayoutAnswer::Refused(refusal) => LayoutOut {
+            refusal,
+            align: 0,
+            kind: 0,
+            size_or_base: 0,
+            offset: 0,
+            elem_size: 0,
+            word: 0,
+        },
+    }
+}
+
+fn composed_out(a: ComposeAnswer) -> ComposedOut
+    ensures { λ r. ⌜ r ≡ composedOut (composeSays a) ⌝ }
+{
+    match a {
+        ComposeAnswer::Layout(l) => {
+            let words = record::words_from_layout(l);
+            ComposedOut {
+                refusal: 0,
+                place: 0,
+                align: words.align,
+                kind: words.kind,
+                size_or_base: words.size,
+                offset: words.offset,
+                elem_size: words.elem_size,
+                word: words.word,
+            }
+        }
+        ComposeAnswer::Refused { number, place } => ComposedOut {
+            refusal: number,
+            place,
+            align: 0,
+            kind: 0,
+            size_or_base: 0,
+            offset: 0,
+            elem_size: 0,
+            word: 0,
+        },
+    }
+}
+
+fn cast_out(a: CastAnswer) -> CastOut
+    ensures { λ r. ⌜ r ≡ castOut (castSays a) ⌝ }
+{
+    match a {
+        CastAnswer::Granted { elems, split_at } => CastOut {
+            refusal: 0,
+            count: elems,
+            split: split_at,
+        },
+        CastAnswer::Refused(refusal) => CastOut {
+            refusal,
+            count: 0,
+            split: 0,
+        },
+    }
+}
+
+fn params_out(a: ComputeAnswer) -> CastParamsOut
+    ensures { λ r. ⌜ r ≡ paramsOut (computeSays a) ⌝ }
+{
+    match a {
+        ComputeAnswer::Params(params) => match params {
+            CastParamsInner::UnsizedToUnsized {
+                offset_delta_elems,
+                elem_multiple,
+            } => CastParamsOut {
+                refusal: 0,
+                kind: 2,
+                offset_delta_elems,
+                elem_multiple,
+                dst_meta: 0,
+            },
+            CastParamsInner::SizedToUnsized { dst_meta } => CastParamsOut {
+                refusal: 0,
+                kind: 1,
+                offset_delta_elems: 0,
+                elem_multiple: 0,
+                dst_meta,
+            },
+            CastParamsInner::SizedToSized => CastParamsOut {
+                refusal: 0,
+                kind: 0,
+                offset_delta_elems: 0,
+                elem_multiple: 0,
+                dst_meta: 0,
+            },
+        },
+        ComputeAnswer::Refused(refusal) => CastParamsOut {
+            refusal,
+            kind: 0,
+            offset_delta_elems: 0,
+            elem_multiple: 0,
+            dst_meta: 0,
+        },
+    }
+}
+
+fn params_in(q: CastParams) -> CastParamsInner
+    ensures { λ r. ⌜ paramsIn r ≡ paramsGiven q ⌝ }
+{
+    if q.kind == 0 {
+        return CastParamsInner::SizedToSized;
+    }
+    if q.kind == 1 {
+        return CastParamsInner::SizedToUnsized {
+            dst_meta: q.dst_meta,
+        };
+    }
+    CastParamsInner::UnsizedToUnsized {
+        offset_delta_elems: q.offset_delta_elems,
+        elem_multiple: q.elem_multiple,
+    }
+}
+
+fn cast_type(suffix: bool) -> CastType
+    ensures { λ r. ⌜ sideOf r ≡ sideGiven suffix ⌝ }
+{
+    if suffix {
+        CastType::Suffix
+    } else {
+        CastType::Prefix
     }
 }
 
@@ -221,4 +460,187 @@ pub extern "C" fn lukaripe_has_same_size_sequence(layout: Trailing, other: Trail
     ensures { λ r. ⌜ r ≡ decisionOut (sameFor 64 (trailingIn layout) (trailingIn other)) ⌝ }
 {
     decision_out(trailing_in(layout).has_same_size_sequence(trailing_in(other)))
+}
+
+#[no_mangle]
+pub extern "C" fn lukaripe_new_zst(repr_align: u64) -> LayoutOut
+    ensures { λ r. ⌜ r ≡ layoutOut (newZstFor 64 «repr_align») ⌝ }
+{
+    layout_out(DstLayout::new_zst(repr_align))
+}
+
+#[no_mangle]
+pub extern "C" fn lukaripe_for_type(size: u64, align: u64) -> LayoutOut
+    ensures { λ r. ⌜ r ≡ layoutOut (typeFor 64 false size align) ⌝ }
+{
+    layout_out(DstLayout::for_type(size, align))
+}
+
+#[no_mangle]
+pub extern "C" fn lukaripe_for_unpadded_type(size: u64, align: u64) -> LayoutOut
+    ensures { λ r. ⌜ r ≡ layoutOut (typeFor 64 true size align) ⌝ }
+{
+    layout_out(DstLayout::for_unpadded_type(size, align))
+}
+
+#[no_mangle]
+pub extern "C" fn lukaripe_for_slice(size: u64, align: u64) -> LayoutOut
+    ensures { λ r. ⌜ r ≡ layoutOut (sliceFor 64 size align) ⌝ }
+{
+    layout_out(DstLayout::for_slice(size, align))
+}
+
+#[no_mangle]
+pub extern "C" fn lukaripe_extend(layout: Layout, field: Layout, repr_packed: u64) -> LayoutOut
+    ensures { λ r. ⌜ r ≡ layoutOut (withLayout layout (λ l. withLayout field (λ m. extendFor 64 l m «repr_packed»))) ⌝ }
+{
+    match layout_in(layout) {
+        LayoutAnswer::Layout(l) => match layout_in(field) {
+            LayoutAnswer::Layout(m) => layout_out(l.extend(m, repr_packed)),
+            LayoutAnswer::Refused(refusal) => layout_out(LayoutAnswer::Refused(refusal)),
+        },
+        LayoutAnswer::Refused(refusal) => layout_out(LayoutAnswer::Refused(refusal)),
+    }
+}
+
+#[no_mangle]
+pub extern "C" fn lukaripe_pad_to_align(layout: Layout) -> LayoutOut
+    ensures { λ r. ⌜ r ≡ layoutOut (withLayout layout (λ l. padFor 64 l)) ⌝ }
+{
+    match layout_in(layout) {
+        LayoutAnswer::Layout(l) => layout_out(l.pad_to_align()),
+        LayoutAnswer::Refused(refusal) => layout_out(LayoutAnswer::Refused(refusal)),
+    }
+}
+
+#[no_mangle]
+pub extern "C" fn lukaripe_requires_static_padding(layout: Layout) -> Number
+    ensures { λ r. ⌜ r ≡ decisionOut (withLayout layout (λ l. staticFor 64 l)) ⌝ }
+{
+    match layout_in(layout) {
+        LayoutAnswer::Layout(l) => decision_out(l.requires_static_padding()),
+        LayoutAnswer::Refused(refusal) => decision_out(Decision::Refused(refusal)),
+    }
+}
+
+#[no_mangle]
+pub extern "C" fn lukaripe_requires_dynamic_padding(layout: Layout) -> Number
+    ensures { λ r. ⌜ r ≡ decisionOut (withLayout layout (λ l. dynamicFor 64 l)) ⌝ }
+{
+    match layout_in(layout) {
+        LayoutAnswer::Layout(l) => decision_out(l.requires_dynamic_padding()),
+        LayoutAnswer::Refused(refusal) => decision_out(Decision::Refused(refusal)),
+    }
+}
+
+#[no_mangle]
+pub extern "C" fn lukaripe_decode(bytes: &[u8]) -> LayoutOut
+    ensures { λ r. ⌜ r ≡ layoutOut (decodeFor 64 (now (bytes .entry))) ⌝ }
+{
+    layout_out(record::decode(bytes))
+}
+
+// The record of a layout into 48 lent bytes: the refusal number, and then no byte has changed.
+#[no_mangle]
+pub extern "C" fn lukaripe_encode(layout: Layout, out: &mut [u8]) -> u64
+    ensures { λ r. ⌜ r ≡ refusalOut (encodeGiven layout (length (now (out .entry)))) ⌝ }
+    ensures { λ _. ⌜ now (out .exit) ≡ encodedGiven layout (now (out .entry)) ⌝ }
+{
+    if out.len() != 48 {
+        return refusal::RECORD_LENGTH;
+    }
+    match layout_in(layout) {
+        LayoutAnswer::Layout(l) => match record::encode(l, out) {
+            EncodeAnswer::Encoded => 0,
+            EncodeAnswer::Refused(number) => number,
+        },
+        LayoutAnswer::Refused(number) => number,
+    }
+}
+
+#[no_mangle]
+pub extern "C" fn lukaripe_scalar(code: u64) -> LayoutOut
+    ensures { λ r. ⌜ r ≡ layoutOut (scalarFor target64 code) ⌝ }
+{
+    layout_out(record::scalar(code))
+}
+
+#[no_mangle]
+pub extern "C" fn lukaripe_compose(repr_align: u64, repr_packed: u64, members: &[u8]) -> ComposedOut
+    ensures { λ r. ⌜ r ≡ composedOut (composeFor 64 «repr_align» «repr_packed» (now (members .entry))) ⌝ }
+{
+    composed_out(record::compose(repr_align, repr_packed, members))
+}
+
+#[no_mangle]
+pub extern "C" fn lukaripe_for_repr_c_struct(
+    repr_align: u64,
+    repr_packed: u64,
+    members: &[u8],
+) -> ComposedOut
+    ensures { λ r. ⌜ r ≡ composedOut (structFor 64 «repr_align» «repr_packed» (now (members .entry))) ⌝ }
+{
+    composed_out(record::for_repr_c_struct(repr_align, repr_packed, members))
+}
+
+#[no_mangle]
+pub extern "C" fn lukaripe_validate_cast_and_convert_metadata(
+    layout: Layout,
+    addr: u64,
+    bytes_len: u64,
+    suffix: bool,
+) -> CastOut
+    ensures { λ r. ⌜ r ≡ castOut (withLayout layout (λ l. castFor 64 l (sideGiven suffix) addr «bytes_len»)) ⌝ }
+{
+    let side = cast_type(suffix);
+    match layout_in(layout) {
+        LayoutAnswer::Layout(l) => cast_out(cast::validate_cast_and_convert_metadata(
+            l,
+            addr,
+            bytes_len,
+            side,
+        )),
+        LayoutAnswer::Refused(refusal) => cast_out(CastAnswer::Refused(refusal)),
+    }
+}
+
+#[no_mangle]
+pub extern "C" fn lukaripe_metadata_for_exact_size(layout: Layout, size: u64) -> Number
+    ensures { λ r. ⌜ r ≡ numberOut (withLayout layout (λ l. exactFor 64 l size)) ⌝ }
+{
+    match layout_in(layout) {
+        LayoutAnswer::Layout(l) => number_out(cast::metadata_for_exact_size(l, size)),
+        LayoutAnswer::Refused(refusal) => number_out(Answer::Refused(refusal)),
+    }
+}
+
+#[no_mangle]
+pub extern "C" fn lukaripe_size_sequences_match(
+    src: Trailing,
+    dst: Trailing,
+    dst_base: u64,
+) -> Number
+    ensures { λ r. ⌜ r ≡ decisionOut (matchFor 64 (sameSequence 64) (trailingIn src) (trailingIn dst) «dst_base») ⌝ }
+{
+    decision_out(convert::size_sequences_match(trailing_in(src), trailing_in(dst), dst_base))
+}
+
+#[no_mangle]
+pub extern "C" fn lukaripe_try_compute(src: Layout, dst: Layout) -> CastParamsOut
+    ensures { λ r. ⌜ r ≡ paramsOut (withLayout src (λ l. withLayout dst (λ m. computeFor 64 (sameSequence 64) l m))) ⌝ }
+{
+    match layout_in(src) {
+        LayoutAnswer::Layout(l) => match layout_in(dst) {
+            LayoutAnswer::Layout(m) => params_out(convert::try_compute(l, m)),
+            LayoutAnswer::Refused(refusal) => params_out(ComputeAnswer::Refused(refusal)),
+        },
+        LayoutAnswer::Refused(refusal) => params_out(ComputeAnswer::Refused(refusal)),
+    }
+}
+
+#[no_mangle]
+pub extern "C" fn lukaripe_cast_metadata(params: CastParams, src_meta: u64) -> Number
+    ensures { λ r. ⌜ r ≡ numberOut (metadataFor 64 (paramsGiven params) «src_meta») ⌝ }
+{
+    number_out(convert::cast_metadata(params_in(params), src_meta))
 }

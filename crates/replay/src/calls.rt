@@ -1,5 +1,6 @@
 // A function for each recorded function: it takes the inputs from the line and tells the answer as a line has it.
 // The number of a function and the order of its inputs are those of rust/differential/recorded.rs and its rows.
+use crate::layouts;
 use crate::lines::WIDTH;
 use libc::STDOUT_FILENO;
 use rounding::ComponentsAnswer;
@@ -31,7 +32,7 @@ fn tell_none() -> Told {
     }
 }
 
-fn tell_number(inputs: usize, refusal: u64, value: u64) -> Told {
+pub fn tell_number(inputs: usize, refusal: u64, value: u64) -> Told {
     Told {
         inputs,
         length: 2,
@@ -39,7 +40,7 @@ fn tell_number(inputs: usize, refusal: u64, value: u64) -> Told {
     }
 }
 
-fn tell_answer(inputs: usize, answer: Answer) -> Told {
+pub fn tell_answer(inputs: usize, answer: Answer) -> Told {
     match answer {
         Answer::Number(value) => tell_number(inputs, 0, value),
         Answer::Refused(refusal) => tell_number(inputs, refusal, 0),
@@ -54,7 +55,7 @@ fn tell_yes(inputs: usize, yes: bool) -> Told {
     }
 }
 
-fn tell_decision(inputs: usize, decision: Decision) -> Told {
+pub fn tell_decision(inputs: usize, decision: Decision) -> Told {
     match decision {
         Decision::Is(yes) => tell_yes(inputs, yes),
         Decision::Refused(refusal) => tell_number(inputs, refusal, 0),
@@ -116,7 +117,7 @@ fn rounding_align(line: &[u64; WIDTH]) -> Told {
 
 // Trailing layouts.
 
-fn trailing(offset: u64, elem_size: u64, size_base: u64, word: u64) -> TrailingSliceLayout {
+pub fn trailing(offset: u64, elem_size: u64, size_base: u64, word: u64) -> TrailingSliceLayout {
     TrailingSliceLayout {
         offset,
         elem_size,
@@ -188,6 +189,19 @@ pub fn call(line: &[u64; WIDTH]) -> Told {
         12 => size_for_elems(line),
         13 => advance(line),
         14 => has_same_size_sequence(line),
+        15 => layouts::new_zst(line),
+        16 => layouts::for_type(line),
+        17 => layouts::for_unpadded_type(line),
+        18 => layouts::for_slice(line),
+        19 => layouts::extend(line),
+        20 => layouts::pad_to_align(line),
+        21 => layouts::requires_static_padding(line),
+        22 => layouts::requires_dynamic_padding(line),
+        28 => layouts::validate_cast_and_convert_metadata(line),
+        29 => layouts::metadata_for_exact_size(line),
+        30 => layouts::size_sequences_match(line),
+        31 => layouts::try_compute(line),
+        32 => layouts::cast_metadata(line),
         _ => tell_none(),
     }
 }
@@ -208,6 +222,19 @@ pub fn print_name(function: u64) -> bool {
         12 => io::write_all(STDOUT_FILENO, b"size_for_elems"),
         13 => io::write_all(STDOUT_FILENO, b"advance"),
         14 => io::write_all(STDOUT_FILENO, b"has_same_size_sequence"),
+        15 => io::write_all(STDOUT_FILENO, b"new_zst"),
+        16 => io::write_all(STDOUT_FILENO, b"for_type"),
+        17 => io::write_all(STDOUT_FILENO, b"for_unpadded_type"),
+        18 => io::write_all(STDOUT_FILENO, b"for_slice"),
+        19 => io::write_all(STDOUT_FILENO, b"extend"),
+        20 => io::write_all(STDOUT_FILENO, b"pad_to_align"),
+        21 => io::write_all(STDOUT_FILENO, b"requires_static_padding"),
+        22 => io::write_all(STDOUT_FILENO, b"requires_dynamic_padding"),
+        28 => io::write_all(STDOUT_FILENO, b"validate_cast_and_convert_metadata"),
+        29 => io::write_all(STDOUT_FILENO, b"metadata_for_exact_size"),
+        30 => io::write_all(STDOUT_FILENO, b"size_sequences_match"),
+        31 => io::write_all(STDOUT_FILENO, b"try_compute"),
+        32 => io::write_all(STDOUT_FILENO, b"cast_metadata"),
         _ => io::print_decimal(STDOUT_FILENO, function),
     }
 }

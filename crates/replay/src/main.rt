@@ -1,6 +1,7 @@
 // Reads recorded answers of the Rust, calls the same functions here, and compares.
 // How a line reads is written in rust/differential/recorded.rs; tools/record makes the file.
 mod calls;
+mod layouts;
 mod lines;
 mod tally;
 

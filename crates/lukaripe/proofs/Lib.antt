@@ -1,0 +1,2 @@
+-- What the exports share.
+pub mod Exports

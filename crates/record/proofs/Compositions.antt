@@ -1,0 +1,100 @@
+-- Compositions, over any width w: what one member more makes of them, and the members of a list of bytes. Assumes nothing.
+use mathlib.Core.Path.{_≡_, refl, sym, ap, _∙_}
+use mathlib.Core.Bool.{Bool, true, false, cond}
+use mathlib.Core.List.{List, [], _∷_}
+use Prim.Native.Nat.{ℕ, zero, suc, _+_, _-_, _*_, _/_, _%_, _≤_, _<_}
+use native.Mathlib.Omega.{arith}
+use borrow.Author.Tests.{eq-eqb, ne-eqb}
+use lib.Dec.{eqb}
+use lib.ListN.{length, take, drop, length-drop}
+use lib.Seq.{take-take, drop-drop, length-take-le}
+use Rattle.util.specs.Refusal.{Outcome, answered, refused}
+use Rattle.layout.specs.Layout.{Layout}
+use Rattle.layout.specs.Make.{newZstFor}
+use Rattle.layout.specs.Pad.{padFor}
+use Rattle.record.specs.Bytes.{valueOf, wordAt}
+use Rattle.record.specs.Record.{Words, wordsAt, wordsFor, decodeFor}
+use Rattle.record.specs.Compose.{Composed, composed, refusedAt, Member, andThen, bind, memberStep, addMembers, composeMembers, composeStruct, membersOf, composeFor, structFor}
+use Rattle.record.proofs.Records.{decode-words}
+
+-- a part of the front is a part of the whole
+part : (j m n : ℕ) (s : List ℕ) → j + m ≤ n → take m (drop j (take n s)) ≡ take m (drop j s)
+part zero m n s h = take-take m n s (omega arith)
+part (suc j) m zero s h = absurd (omega arith)
+part (suc j) m (suc n) [] h = refl
+part (suc j) m (suc n) (x ∷ s) h = part j m n s (omega arith)
+
+word-part : (s : List ℕ) (k j i : ℕ) → j + 8 ≤ 48 → i ≡ k + j → wordAt (take 48 (drop k s)) j ≡ wordAt s i
+word-part s k j i h e = ap valueOf (part j 8 48 (drop k s) h ∙ ap (take 8) (drop-drop j k s ∙ ap (λ (x : ℕ). drop x s) (sym e)))
+
+-- the record at k, cut out of a list, is the one that is read there
+pub member-at : (w : ℕ) (s : List ℕ) (k : ℕ) → k + 48 ≤ length s → decodeFor w (take 48 (drop k s)) ≡ wordsFor w (wordsAt s k)
+member-at w s k h =
+    decode-words w (take 48 (drop k s)) (length-take-le 48 (drop k s) (omega (arith, length-drop k s)))
+    ∙ ap (wordsFor w) same
+  where
+    same : wordsAt (take 48 (drop k s)) 0 ≡ wordsAt s k
+    same = rw (word-part s k 0 k (omega arith) (omega arith), word-part s k 8 (k + 8) (omega arith) refl, word-part s k 16 (k + 16) (omega arith) refl, word-part s k 24 (k + 24) (omega arith) refl, word-part s k 32 (k + 32) (omega arith) refl, word-part s k 40 (k + 40) (omega arith) refl)
+
+pub members-length : (w n : ℕ) (s : List ℕ) → length (membersOf w n s) ≡ n
+unfolding membersOf
+members-length w zero s = refl
+members-length w (suc n) s = ap suc (members-length w n (drop 48 s))
+
+-- the members from the one at i on: that one, and those after it
+next : (w n i : ℕ) (s : List ℕ) → i < n → n * 48 ≤ length s
+    → membersOf w (n - i) (drop (i * 48) s) ≡ wordsFor w (wordsAt s (i * 48)) ∷ membersOf w (n - (i + 1)) (drop ((i + 1) * 48) s)
+unfolding membersOf
+next w n i s h b =
+    let e : n - i ≡ suc (n - (i + 1)) = omega arith in
+    let f : i * 48 + 48 ≡ (i + 1) * 48 = omega arith in
+    rw (e, member-at w s (i * 48) (omega arith), drop-drop 48 (i * 48) s, f)
+
+-- one turn: the member is taken, or it stops the composition
+module _ (w p n i : ℕ) (s : List ℕ) (l : Layout) (h : i < n) (b : n * 48 ≤ length s) where
+  pub turn-on : {m : Layout} → memberStep w p l (wordsFor w (wordsAt s (i * 48))) ≡ answered m
+      → addMembers w p i l (membersOf w (n - i) (drop (i * 48) s)) ≡ addMembers w p (i + 1) m (membersOf w (n - (i + 1)) (drop ((i + 1) * 48) s))
+  unfolding addMembers
+  turn-on e = let f : i + 1 ≡ suc i = omega arith in rw (next w n i s h b, e, f)
+
+  pub turn-off : {k : ℕ} → memberStep w p l (wordsFor w (wordsAt s (i * 48))) ≡ refused k
+      → addMembers w p i l (membersOf w (n - i) (drop (i * 48) s)) ≡ refusedAt k i
+  unfolding addMembers
+  turn-off e = rw (next w n i s h b, e)
+
+-- before the first member nothing is done, after the last all
+pub begun : (w p n : ℕ) (s : List ℕ) (l : Layout) → addMembers w p 0 l (membersOf w (n - 0) (drop (0 * 48) s)) ≡ addMembers w p 0 l (membersOf w n s)
+begun w p n s l = let e : n - 0 ≡ n = omega arith in rw e
+
+pub ended : (w p n i : ℕ) (s : List ℕ) (l : Layout) → n ≤ i → addMembers w p i l (membersOf w (n - i) s) ≡ composed l
+unfolding addMembers membersOf
+ended w p n i s l h = let e : n - i ≡ 0 = omega arith in rw e
+
+-- a list of whole records composes to what its members do, onto the empty layout
+pub compose-on : (w a p : ℕ) (s : List ℕ) {l : Layout} → length s % 48 ≡ 0 → newZstFor w a ≡ answered l
+    → composeFor w a p s ≡ addMembers w p 0 l (membersOf w (length s / 48) s)
+unfolding composeFor
+compose-on w a p s h e = rw (eq-eqb (length s % 48) 0 h, e)
+
+pub compose-off : (w a p : ℕ) (s : List ℕ) {k : ℕ} → length s % 48 ≡ 0 → newZstFor w a ≡ refused k → composeFor w a p s ≡ refusedAt k 0
+unfolding composeFor
+compose-off w a p s h e = rw (eq-eqb (length s % 48) 0 h, e)
+
+pub compose-length : (w a p : ℕ) (s : List ℕ) → (length s % 48 ≡ 0 → ⊥) → composeFor w a p s ≡ refusedAt 20 0
+unfolding composeFor
+compose-length w a p s n = rw (ne-eqb (length s % 48) 0 n)
+
+-- the struct of a list is its composition, padded
+abbrev pub closing : ℕ → ℕ → Layout → Composed
+closing w n l = andThen (padFor w l) n composed
+
+pub struct-closes : (w a p : ℕ) (s : List ℕ) → structFor w a p s ≡ bind (composeFor w a p s) (closing w (length s / 48))
+unfolding structFor composeFor
+struct-closes w a p s = go (eqb (length s % 48) 0)
+  where
+    n : ℕ
+    n = length s / 48
+
+    go : (b : Bool) → cond b (composeStruct w a p (membersOf w (length s / 48) s)) (refusedAt 20 0) ≡ bind (cond b (composeMembers w a p (membersOf w (length s / 48) s)) (refusedAt 20 0)) (closing w (length s / 48))
+    go true = rw (members-length w (length s / 48) s)
+    go false = refl

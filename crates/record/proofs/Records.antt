@@ -1,0 +1,89 @@
+-- What records mean, and what encoding leaves, over any width w. Assumes nothing.
+use mathlib.Core.Path.{_≡_, refl, sym, ap, _∙_}
+use mathlib.Core.Bool.{Bool, true, false, cond, _&&_}
+use mathlib.Core.List.{List, [], _∷_}
+use Prim.Native.Nat.{ℕ, zero, suc, _+_, _^_, _≤_, _<_}
+use native.Mathlib.Omega.{arith}
+use borrow.Author.Tests.{eq-eqb, ne-eqb}
+use lib.Dec.{eqb}
+use lib.ListN.{length}
+use lib.Seq.{sets}
+use Rattle.util.specs.Refusal.{Outcome, answered, refused, unless, Tells, None, Meets, Decided}
+use Rattle.util.proofs.Refusals.{known, tells-eq, tells-le, tells-lt, tells-not, tells-and, meets}
+use Rattle.util.proofs.Helpers.{align-decided}
+use Rattle.trailing.specs.Size.{Trailing}
+use Rattle.layout.specs.Layout.{Info, fixed, trailing, Layout, checkFor}
+use Rattle.record.specs.Bytes.{wordAt}
+use Rattle.record.specs.Record.{Words, wordsAt, recordBytes, wordsOf, wordsLayout, laterWord, trailingWordZero, wordsCauses, recordCauses, wordsFor, decodeFor, Decodes, infoWords, encodeFor, after, encodedInto}
+use Rattle.record.proofs.LittleEndian.{sets-whole, record-length}
+
+zeros : (o e v : ℕ) → Tells ((o ≡ 0) × ((e ≡ 0) × (v ≡ 0))) (eqb o 0 && (eqb e 0 && eqb v 0))
+zeros o e v = tells-and (tells-eq o 0) (tells-and (tells-eq e 0) (tells-eq v 0))
+
+pub later-decided : (r : Words) → Tells (laterWord r .means) (laterWord r .test)
+later-decided r = tells-and (tells-lt (r .kind) 2) (tells-not (zeros (r .offset) (r .elem) (r .word)))
+
+zero-decided : (r : Words) → Tells (trailingWordZero r .means) (trailingWordZero r .test)
+zero-decided r = tells-and (tells-le 2 (r .kind)) (tells-eq (r .word) 0)
+
+pub words-decided : (w : ℕ) (r : Words) → r .align < 2 ^ w → Decided (wordsCauses w r)
+words-decided w r h = (tells-lt 3 (r .kind), λ _. (align-decided w (r .align) h, λ _. (later-decided r, λ _. (zero-decided r, λ _. tt))))
+
+pub record-decided : (w : ℕ) (s : List ℕ) → wordAt s 0 < 2 ^ w → Decided (recordCauses w s)
+record-decided w s h = (tells-not (tells-eq (length s) 48), λ _. words-decided w (wordsAt s 0) h)
+
+-- words that are not refused are those of their layout
+pub decoded : (a k b o e v : ℕ) → (3 < k → ⊥) → ((k < 2) × ((o ≡ 0) × ((e ≡ 0) × (v ≡ 0)) → ⊥) → ⊥)
+    → let r : Words = record { align = a; kind = k; size = b; offset = o; elem = e; word = v } in wordsOf (wordsLayout r) ≡ r
+decoded a zero b o e v g f = let z = known (zeros o e v) (λ n. f (omega arith, n)) in rw (z .0, z .1 .0, z .1 .1)
+decoded a (suc zero) b o e v g f = let z = known (zeros o e v) (λ n. f (omega arith, n)) in rw (z .0, z .1 .0, z .1 .1)
+decoded a (suc (suc zero)) b o e v g f = refl
+decoded a (suc (suc (suc zero))) b o e v g f = refl
+decoded a (suc (suc (suc (suc k)))) b o e v g f = absurd (g (omega arith))
+
+pub words-decode : (w : ℕ) (r : Words) → None (wordsCauses w r) → Decodes r (wordsLayout r)
+words-decode w r n = decoded (r .align) (r .kind) (r .size) (r .offset) (r .elem) (r .word) (n .0) (n .1 .1 .0)
+
+pub words-meets : (w : ℕ) (r : Words) → r .align < 2 ^ w → Meets (wordsCauses w r) (Decodes r) (wordsFor w r)
+unfolding wordsFor
+words-meets w r h = meets (wordsCauses w r) (wordsLayout r) (words-decided w r h) (words-decode w r)
+
+pub record-meets : (w : ℕ) (s : List ℕ) → wordAt s 0 < 2 ^ w → Meets (recordCauses w s) (Decodes (wordsAt s 0)) (decodeFor w s)
+unfolding decodeFor
+record-meets w s h = meets (recordCauses w s) (wordsLayout (wordsAt s 0)) (record-decided w s h) (λ n. words-decode w (wordsAt s 0) (n .1))
+
+-- a record of the right length is its words
+pub decode-words : (w : ℕ) (s : List ℕ) → length s ≡ 48 → decodeFor w s ≡ wordsFor w (wordsAt s 0)
+unfolding decodeFor wordsFor unless
+decode-words w s h = simp (eq-eqb (length s) 48 h)
+
+-- the words of a layout, of which the kind is one more where it has the mark
+pub fixed-words : (a k s : ℕ) (m : Bool) → k ≡ cond m (0 + 1) 0 → infoWords a k (fixed s) ≡ wordsOf (record { align = a; info = fixed s; mark = m })
+fixed-words a k s true e = rw e
+fixed-words a k s false e = rw e
+
+pub trailing-words : (a k : ℕ) (t : Trailing) (m : Bool) → k ≡ cond m (2 + 1) 2 → infoWords a k (trailing t) ≡ wordsOf (record { align = a; info = trailing t; mark = m })
+trailing-words a k t true e = rw e
+trailing-words a k t false e = rw e
+
+-- what encoding gives and leaves: the record where the layout is accepted, and the bytes as they were where it is not
+pub encode-checked : (w : ℕ) (l : Layout) (n : ℕ) → n ≡ 48 → encodeFor w l n ≡ checkFor w l
+unfolding encodeFor checkFor unless
+encode-checked w l n h = simp (eq-eqb n 48 h)
+
+pub encode-done : (w : ℕ) (l : Layout) (s x : List ℕ) → length s ≡ 48 → checkFor w l ≡ answered tt → x ≡ sets s 0 (recordBytes (wordsOf l))
+    → (answered tt ≡ encodeFor w l (length s)) × (x ≡ encodedInto w l s)
+encode-done w l s x h n e =
+    let k = encode-checked w l (length s) h ∙ n in
+    (sym k, e ∙ sets-whole (recordBytes (wordsOf l)) s (record-length (wordsOf l) ∙ sym h) ∙ sym (ap (λ (o : Outcome (Unit {0})). after o (recordBytes (wordsOf l)) s) k))
+
+left : (w : ℕ) (l : Layout) (s : List ℕ) {k : ℕ} → encodeFor w l (length s) ≡ refused k → (refused k ≡ encodeFor w l (length s)) × (s ≡ encodedInto w l s)
+left w l s e = (sym e, sym (ap (λ (o : Outcome (Unit {0})). after o (recordBytes (wordsOf l)) s) e))
+
+pub encode-refused : (w : ℕ) (l : Layout) (s : List ℕ) {k : ℕ} → length s ≡ 48 → checkFor w l ≡ refused k
+    → (refused k ≡ encodeFor w l (length s)) × (s ≡ encodedInto w l s)
+encode-refused w l s h n = left w l s (encode-checked w l (length s) h ∙ n)
+
+pub encode-other : (w : ℕ) (l : Layout) (s : List ℕ) → (length s ≡ 48 → ⊥) → (refused 20 ≡ encodeFor w l (length s)) × (s ≡ encodedInto w l s)
+unfolding encodeFor unless
+encode-other w l s n = left w l s (simp (ne-eqb (length s) 48 n))

@@ -1,0 +1,146 @@
+-- One layout, one record: what is decoded of an encoded layout is the layout, and what is encoded of a decoded record is the
+-- record. Over any width w. Assumes nothing.
+use mathlib.Core.Path.{_≡_, refl, sym, ap, subst, _∙_}
+use mathlib.Core.Bool.{Bool, true, false, cond}
+use mathlib.Core.List.{List, [], _∷_, _++_}
+use mathlib.Core.Logic.{_⊎_, inl, inr, ⊎-elim}
+use Prim.Native.Nat.{ℕ, zero, suc, _+_, _*_, _/_, _%_, _^_, _≤_, _<_}
+use native.Mathlib.Omega.{arith}
+use borrow.Author.Tests.{ltb-true, ltb-false}
+use lib.Dec.{eqb, ltb}
+use lib.ListN.{length, getD, take, drop, length-take, length-drop, List·getD-eq-default}
+use lib.Seq.{getD-take, getD-drop, length-take-le, take-add, take-all}
+use Rattle.util.specs.Refusal.{Outcome, answered, refused, unless}
+use Rattle.util.proofs.Refusals.{no, known, tells-eq, tells-lt, tells-not}
+use Rattle.util.proofs.Tables.{apart, answer-is, accepted-as}
+use Rattle.util.specs.Helpers.{badAlign}
+use Rattle.layout.specs.Layout.{Info, fixed, trailing, Layout, layoutCauses, checkFor}
+use Rattle.record.specs.Bytes.{valueOf, bytesOf, wordAt, wordBytes}
+use Rattle.record.specs.Record.{Words, wordsAt, recordBytes, wordsOf, wordsLayout, laterWord, wordsCauses, badLength, wordsFor, decodeFor, encodeFor, after, encodedInto}
+use Rattle.record.proofs.LittleEndian.{value-bytes, record-length}
+use Rattle.record.proofs.Records.{later-decided, decoded, decode-words, encode-checked}
+
+-- a test that did not refuse, and what follows it
+past : {T : Type 0} (b : Bool) (n : ℕ) (o : Outcome T) {z : T} → cond b (refused n) o ≡ answered z → (b ≡ false) × (o ≡ answered z)
+past true n o e = absurd (apart e)
+past false n o e = (refl, e)
+
+-- the words of a layout are read as the layout, where it is accepted
+pub words-checked : (w a : ℕ) (i : Info) (m : Bool)
+    → let l : Layout = record { align = a; info = i; mark = m } in wordsFor w (wordsOf l) ≡ unless (layoutCauses w l) l
+unfolding wordsFor unless
+words-checked w a (fixed s) true = refl
+words-checked w a (fixed s) false = refl
+words-checked w a (trailing t) true = refl
+words-checked w a (trailing t) false = refl
+
+-- each word is held in its eight bytes
+pub record Fits (r : Words) : Type 0 where
+  pub align : r .align < 256 ^ 8
+  pub kind : r .kind < 256 ^ 8
+  pub size : r .size < 256 ^ 8
+  pub offset : r .offset < 256 ^ 8
+  pub elem : r .elem < 256 ^ 8
+  pub word : r .word < 256 ^ 8
+
+-- the words of a record's bytes are those of the record
+pub words-back : (r : Words) → Fits r → wordsAt (recordBytes r) 0 ≡ r
+unfolding bytesOf
+words-back r f =
+    let a : wordAt (recordBytes r) 0 ≡ r .align = value-bytes 8 (r .align) (f .align) in
+    let k : wordAt (recordBytes r) 8 ≡ r .kind = value-bytes 8 (r .kind) (f .kind) in
+    let b : wordAt (recordBytes r) 16 ≡ r .size = value-bytes 8 (r .size) (f .size) in
+    let o : wordAt (recordBytes r) 24 ≡ r .offset = value-bytes 8 (r .offset) (f .offset) in
+    let e : wordAt (recordBytes r) 32 ≡ r .elem = value-bytes 8 (r .elem) (f .elem) in
+    let v : wordAt (recordBytes r) 40 ≡ r .word = value-bytes 8 (r .word) (f .word) in
+    six a k b o e v
+  where
+    six : {a k b o e v a′ k′ b′ o′ e′ v′ : ℕ} → a ≡ a′ → k ≡ k′ → b ≡ b′ → o ≡ o′ → e ≡ e′ → v ≡ v′
+        → _≡_ {A = Words} (record { align = a; kind = k; size = b; offset = o; elem = e; word = v }) (record { align = a′; kind = k′; size = b′; offset = o′; elem = e′; word = v′ })
+    six ea ek eb eo ee ev = cc
+
+-- decoding the record of an accepted layout gives the layout
+pub layout-back : (w : ℕ) (l : Layout) → Fits (wordsOf l) → checkFor w l ≡ answered tt → decodeFor w (recordBytes (wordsOf l)) ≡ answered l
+unfolding checkFor
+layout-back w l f e =
+    decode-words w (recordBytes (wordsOf l)) (record-length (wordsOf l))
+    ∙ ap (wordsFor w) (words-back (wordsOf l) f)
+    ∙ words-checked w (l .align) (l .info) (l .mark)
+    ∙ accepted-as (layoutCauses w l) tt l e
+
+encode-accepts : (w : ℕ) (l : Layout) (n : ℕ) → encodeFor w l n ≡ answered tt → checkFor w l ≡ answered tt
+unfolding encodeFor checkFor unless
+encode-accepts w l n e = past (badLength n .test) 20 (unless (layoutCauses w l) tt) e .1
+
+-- so does decoding what `encode` wrote
+pub decode-encoded : (w : ℕ) (l : Layout) (s : List ℕ) → Fits (wordsOf l) → encodeFor w l (length s) ≡ answered tt → decodeFor w (encodedInto w l s) ≡ answered l
+decode-encoded w l s f e =
+    ap (λ (o : Outcome (Unit {0})). decodeFor w (after o (recordBytes (wordsOf l)) s)) e ∙ layout-back w l f (encode-accepts w l (length s) e)
+
+abbrev pub AllBytes : List ℕ → Type 0
+AllBytes s = (i : ℕ) → getD s i 0 < 256
+
+bytes-value : (n : ℕ) (s : List ℕ) → length s ≡ n → AllBytes s → bytesOf n (valueOf s) ≡ s
+unfolding valueOf bytesOf
+bytes-value zero [] e h = refl
+bytes-value zero (b ∷ s) e h = absurd (omega arith)
+bytes-value (suc n) [] e h = absurd (omega arith)
+bytes-value (suc n) (b ∷ s) e h =
+    let lt : b < 256 = h 0 in
+    let m : (b + 256 * valueOf s) % 256 ≡ b = omega arith in
+    let d : (b + 256 * valueOf s) / 256 ≡ valueOf s = omega arith in
+    rw (m, d, bytes-value n s (omega arith) (λ i. h (suc i)))
+
+lt-or-le : (j n : ℕ) → (j < n) ⊎ (n ≤ j)
+lt-or-le j n = go (ltb j n) refl
+  where
+    go : (b : Bool) → ltb j n ≡ b → (j < n) ⊎ (n ≤ j)
+    go true e = inl (ltb-true j n e)
+    go false e = inr (ltb-false j n e)
+
+part-bytes : (s : List ℕ) (n i : ℕ) → AllBytes s → AllBytes (take n (drop i s))
+part-bytes s n i h j =
+    ⊎-elim (λ l. let e : getD (take n (drop i s)) j 0 ≡ getD s (i + j) 0 = rw (getD-take n (drop i s) j 0 l, getD-drop) in omega (arith, h (i + j)))
+    (λ g. let e : getD (take n (drop i s)) j 0 ≡ 0 = List·getD-eq-default (take n (drop i s)) 0 {n = j} (omega (arith, length-take n (drop i s))) in omega arith)
+    (lt-or-le j n)
+
+word-back : (s : List ℕ) (i : ℕ) → AllBytes s → i + 8 ≤ length s → wordBytes (wordAt s i) ≡ take 8 (drop i s)
+word-back s i h l = bytes-value 8 (take 8 (drop i s)) (length-take-le 8 (drop i s) (omega (arith, length-drop i s))) (part-bytes s 8 i h)
+
+-- the bytes of the words of 48 bytes are those bytes
+pub bytes-back : (s : List ℕ) → AllBytes s → length s ≡ 48 → recordBytes (wordsAt s 0) ≡ s
+bytes-back s h n =
+    rw (word-back s 0 h (omega arith), word-back s 8 h (omega arith), word-back s 16 h (omega arith), word-back s 24 h (omega arith), word-back s 32 h (omega arith), word-back s 40 h (omega arith), ← take-add 8 8 s, ← take-add 16 8 s, ← take-add 24 8 s, ← take-add 32 8 s, ← take-add 40 8 s)
+    (take-all 48 s (omega arith))
+
+decoded-length : (w : ℕ) (s : List ℕ) {l : Layout} → decodeFor w s ≡ answered l → length s ≡ 48
+unfolding decodeFor unless
+decoded-length w s e = known (tells-eq (length s) 48) (no (tells-not (tells-eq (length s) 48)) (past (badLength (length s) .test) 20 _ e .0))
+
+-- words that are read as a layout are the words of that layout
+words-kept : (w : ℕ) (r : Words) {l : Layout} → wordsFor w r ≡ answered l → wordsOf l ≡ r
+unfolding wordsFor unless
+words-kept w r {l} e =
+    let q1 = past (ltb 3 (r .kind)) 21 _ e in
+    let q2 = past (badAlign w (r .align) .test) 1 _ (q1 .1) in
+    let q3 = past (laterWord r .test) 22 _ (q2 .1) in
+    ap wordsOf (answer-is (wordsCauses w r) (wordsLayout r) e) ∙ decoded (r .align) (r .kind) (r .size) (r .offset) (r .elem) (r .word) (no (tells-lt 3 (r .kind)) (q1 .0)) (no (later-decided r) (q3 .0))
+
+decoded-words : (w : ℕ) (s : List ℕ) {l : Layout} → decodeFor w s ≡ answered l → wordsFor w (wordsAt s 0) ≡ answered l
+decoded-words w s e = sym (decode-words w s (decoded-length w s e)) ∙ e
+
+-- the record of a decoded layout is the bytes that it was decoded of
+pub record-back : (w : ℕ) (s : List ℕ) {l : Layout} → AllBytes s → decodeFor w s ≡ answered l → recordBytes (wordsOf l) ≡ s
+record-back w s h e = ap recordBytes (words-kept w (wordsAt s 0) (decoded-words w s e)) ∙ bytes-back s h (decoded-length w s e)
+
+-- what is decoded is accepted, so that `encode` writes those bytes
+decoded-accepted : (w : ℕ) (s : List ℕ) {l : Layout} → decodeFor w s ≡ answered l → checkFor w l ≡ answered tt
+unfolding checkFor
+decoded-accepted w s {l} e =
+    let k = words-kept w (wordsAt s 0) (decoded-words w s e) in
+    accepted-as (layoutCauses w l) l tt (sym (words-checked w (l .align) (l .info) (l .mark)) ∙ ap (wordsFor w) k ∙ decoded-words w s e)
+
+pub encode-decoded : (w : ℕ) (s out : List ℕ) {l : Layout} → AllBytes s → length out ≡ 48 → decodeFor w s ≡ answered l → encodedInto w l out ≡ s
+encode-decoded w s out {l} h n e =
+    ap (λ (o : Outcome (Unit {0})). after o (recordBytes (wordsOf l)) out) (encode-checked w l (length out) n ∙ decoded-accepted w s e)
+    ∙ record-back w s h e

@@ -1,0 +1,46 @@
+-- `record::for_repr_c_struct` meets its contract. Assumes nothing.
+use mathlib.Core.Path.{sym, ap, _∙_}
+use Prim.Native.Nat.{_/_}
+use lib.ListN.{length}
+use Rattle.record.specs.Compose.{Composed, bind}
+use Rattle.record.specs.View.{composeSays}
+use Rattle.record.proofs.Compositions.{closing, struct-closes}
+use borrow.Author.Needs.{needs}
+use Rattle.record.proofs.for_repr_c_struct.Statement.{statement}
+use Rattle.record.proofs.for_repr_c_struct.Tie as tie
+
+compose-requires : tie.Need-compose-requires
+compose-requires c κs = search needs
+
+enum-known-l : tie.Need-enum-known-l
+enum-known-l c = search needs
+
+pad-composed-requires : tie.Need-pad-composed-requires
+pad-composed-requires c κs = search needs
+
+enum-known-number : tie.Need-enum-known-number
+enum-known-number c = search needs
+
+returns : tie.Need-returns
+returns c =
+    let x = c .before .before .before .before .before .before .args in
+    c .pad-composed .ensures
+    ∙ sym (struct-closes 64 (x .repr-align) (x .repr-packed) (x .members .now)
+    ∙ ap (λ (o : Composed). bind o (closing 64 (length (x .members .now) / 48))) (sym (c .before .before .before .before .compose .ensures) ∙ ap composeSays (c .before .before .l .given .1)))
+
+returns-2 : tie.Need-returns-2
+returns-2 c =
+    let x = c .before .before .before .before .before .args in
+    sym (struct-closes 64 (x .repr-align) (x .repr-packed) (x .members .now)
+    ∙ ap (λ (o : Composed). bind o (closing 64 (length (x .members .now) / 48))) (sym (c .before .before .before .compose .ensures) ∙ ap composeSays (c .before .number .given .1)))
+
+pub for-repr-c-struct-spec : {M : Type 1} → statement M
+for-repr-c-struct-spec =
+    tie.close
+    (tie.spec
+    compose-requires
+    enum-known-l
+    pad-composed-requires
+    enum-known-number
+    returns
+    returns-2)

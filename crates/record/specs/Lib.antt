@@ -1,0 +1,5 @@
+pub mod Bytes
+pub mod Record
+pub mod Scalar
+pub mod Compose
+pub mod View

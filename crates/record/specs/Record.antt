@@ -1,0 +1,127 @@
+-- Records of layouts (document 01, module 7). Assumes nothing.
+use mathlib.Core.Path.{_≡_}
+use mathlib.Core.Bool.{Bool, true, false, cond, not, _&&_, _||_}
+use mathlib.Core.List.{List, [], _∷_, _++_}
+use Prim.Native.Nat.{ℕ, _+_, _*_, _%_, _≤_, _<_}
+use lib.Dec.{eqb, leb, ltb}
+use lib.ListN.{length, take, drop}
+use Rattle.util.specs.Refusal.{Outcome, answered, refused, Cause, unless}
+use Rattle.util.specs.Helpers.{badAlign}
+use Rattle.layout.specs.Layout.{Info, fixed, trailing, Layout, layoutCauses}
+use Rattle.record.specs.Bytes.{wordLength, wordAt, wordBytes}
+
+-- the six words of a record: alignment, kind, size or base, o, e, rounding word
+pub record Words : Type 0 where
+  pub align : ℕ
+  pub kind : ℕ
+  pub size : ℕ
+  pub offset : ℕ
+  pub elem : ℕ
+  pub word : ℕ
+
+-- a record has 48 bytes
+abbrev pub recordLength : ℕ
+recordLength = 6 * wordLength
+
+-- the words of the record at byte i, and the bytes of a record
+abbrev pub wordsAt : List ℕ → ℕ → Words
+wordsAt s i = record {
+  align = wordAt s i;
+  kind = wordAt s (i + 8);
+  size = wordAt s (i + 16);
+  offset = wordAt s (i + 24);
+  elem = wordAt s (i + 32);
+  word = wordAt s (i + 40);
+}
+
+abbrev pub recordBytes : Words → List ℕ
+recordBytes r = wordBytes (r .align) ++ wordBytes (r .kind) ++ wordBytes (r .size) ++ wordBytes (r .offset) ++ wordBytes (r .elem) ++ wordBytes (r .word)
+
+-- the kind: 0 fixed, 1 fixed with the mark, 2 trailing, 3 trailing with the mark
+abbrev pub greatestKind : ℕ
+greatestKind = 3
+
+abbrev pub isFixedKind : ℕ → Bool
+isFixedKind k = ltb k 2
+
+abbrev pub isMarkedKind : ℕ → Bool
+isMarkedKind k = eqb (k % 2) 1
+
+abbrev pub kindOf : Info → Bool → ℕ
+kindOf (fixed s) false = 0
+kindOf (fixed s) true = 1
+kindOf (trailing t) false = 2
+kindOf (trailing t) true = 3
+
+-- the words of a layout; the last three are 0 when it is fixed
+abbrev pub infoWords : ℕ → ℕ → Info → Words
+infoWords a k (fixed s) = record { align = a; kind = k; size = s; offset = 0; elem = 0; word = 0 }
+infoWords a k (trailing t) = record { align = a; kind = k; size = t .base; offset = t .offset; elem = t .elem; word = t .word }
+
+abbrev pub wordsOf : Layout → Words
+wordsOf l = infoWords (l .align) (kindOf (l .info) (l .mark)) (l .info)
+
+-- the layout of words that are not refused
+abbrev pub wordsInfo : Words → Info
+wordsInfo r = cond (isFixedKind (r .kind)) (fixed (r .size)) (trailing (record { offset = r .offset; elem = r .elem; base = r .size; word = r .word }))
+
+abbrev pub wordsLayout : Words → Layout
+wordsLayout r = record { align = r .align; info = wordsInfo r; mark = isMarkedKind (r .kind) }
+
+-- 20: a record is not 48 bytes long
+abbrev pub badLength : ℕ → Cause
+badLength n = record { number = 20; test = not (eqb n recordLength); means = n ≡ recordLength → ⊥ }
+
+-- 21: the kind is above the greatest
+abbrev pub kindAbove : ℕ → Cause
+kindAbove k = record { number = 21; test = ltb greatestKind k; means = greatestKind < k }
+
+-- 22: a fixed record has a later word that is not 0
+abbrev pub laterWord : Words → Cause
+laterWord r = record {
+  number = 22;
+  test = isFixedKind (r .kind) && not (eqb (r .offset) 0 && (eqb (r .elem) 0 && eqb (r .word) 0));
+  means = (r .kind < 2) × ((r .offset ≡ 0) × ((r .elem ≡ 0) × (r .word ≡ 0)) → ⊥);
+}
+
+-- 2: a trailing record's rounding word is 0
+abbrev pub trailingWordZero : Words → Cause
+trailingWordZero r = record {
+  number = 2;
+  test = leb 2 (r .kind) && eqb (r .word) 0;
+  means = (2 ≤ r .kind) × (r .word ≡ 0);
+}
+
+-- what refuses six words; what refuses a record, whose length is tested before
+abbrev pub wordsCauses : ℕ → Words → List Cause
+wordsCauses w r = kindAbove (r .kind) ∷ badAlign w (r .align) ∷ laterWord r ∷ trailingWordZero r ∷ []
+
+abbrev pub recordCauses : ℕ → List ℕ → List Cause
+recordCauses w s = badLength (length s) ∷ wordsCauses w (wordsAt s 0)
+
+-- six words as a layout
+unfoldable pub wordsFor : ℕ → Words → Outcome Layout
+wordsFor w r = unless (wordsCauses w r) (wordsLayout r)
+
+-- `decode`: a record as a layout
+unfoldable pub decodeFor : ℕ → List ℕ → Outcome Layout
+decodeFor w s = unless (recordCauses w s) (wordsLayout (wordsAt s 0))
+
+-- what decoding means: the layout's words are those of the record
+abbrev pub Decodes : Words → Layout → Type 0
+Decodes r l = wordsOf l ≡ r
+
+-- `encode`: 20 for the lent bytes, then what refuses the layout
+abbrev pub encodeCauses : ℕ → Layout → ℕ → List Cause
+encodeCauses w l n = badLength n ∷ layoutCauses w l
+
+unfoldable pub encodeFor : ℕ → Layout → ℕ → Outcome (Unit {0})
+encodeFor w l n = unless (encodeCauses w l n) tt
+
+-- the lent bytes after it: the record; on a refusal, as they were
+abbrev pub after : Outcome (Unit {0}) → List ℕ → List ℕ → List ℕ
+after (answered u) new old = new
+after (refused k) new old = old
+
+abbrev pub encodedInto : ℕ → Layout → List ℕ → List ℕ
+encodedInto w l old = after (encodeFor w l (length old)) (recordBytes (wordsOf l)) old

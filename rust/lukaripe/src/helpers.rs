@@ -1,0 +1,55 @@
+use crate::exports;
+use crate::Result;
+
+/// Whether `align` is a power of two.
+///
+/// ```
+/// assert!(lukaripe::is_power_of_two(8));
+/// assert!(!lukaripe::is_power_of_two(0));
+/// ```
+pub fn is_power_of_two(align: u64) -> bool {
+    exports::lukaripe_is_power_of_two(align) != 0
+}
+
+/// The smallest number of bytes that takes `len` to a multiple of `align`, modulo 2^64.
+///
+/// ```
+/// use lukaripe::padding_needed_for;
+///
+/// assert_eq!(padding_needed_for(0, 8), Ok(0));
+/// assert_eq!(padding_needed_for(1, 8), Ok(7));
+/// assert_eq!(padding_needed_for(u64::MAX, 8), Ok(1));
+/// ```
+pub fn padding_needed_for(len: u64, align: u64) -> Result<u64> {
+    exports::lukaripe_padding_needed_for(len, align).number()
+}
+
+/// The greatest multiple of `align` that is at most `n`.
+///
+/// ```
+/// assert_eq!(lukaripe::round_down_to_next_multiple_of_alignment(15, 8), Ok(8));
+/// ```
+pub fn round_down_to_next_multiple_of_alignment(n: u64, align: u64) -> Result<u64> {
+    exports::lukaripe_round_down_to_next_multiple_of_alignment(n, align).number()
+}
+
+/// The larger of two alignments.
+///
+/// ```
+/// assert_eq!(lukaripe::max(2, 8), Ok(8));
+/// ```
+pub fn max(a: u64, b: u64) -> Result<u64> {
+    exports::lukaripe_max(a, b).number()
+}
+
+/// The smaller of two alignments.
+///
+/// ```
+/// use lukaripe::Refusal;
+///
+/// assert_eq!(lukaripe::min(2, 8), Ok(2));
+/// assert_eq!(lukaripe::min(2, 3), Err(Refusal::AlignNotPowerOfTwo));
+/// ```
+pub fn min(a: u64, b: u64) -> Result<u64> {
+    exports::lukaripe_min(a, b).number()
+}

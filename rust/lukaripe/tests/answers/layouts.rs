@@ -1,0 +1,124 @@
+//! Whole layouts, records, casts and conversions.
+
+use super::{decision, number, told, Inputs};
+use lukaripe::*;
+use std::num::NonZeroU64;
+
+impl Inputs<'_> {
+    fn words(&mut self) -> [u64; 6] {
+        std::array::from_fn(|_| self.number())
+    }
+
+    /// None where the six words are those of no layout, whatever its numbers are.
+    fn layout(&mut self) -> Option<Layout> {
+        let [align, kind, size, offset, elem_size, word] = self.words();
+        let size_rounding_align_and_phase = RoundingAlignAndPhase(word);
+        let size_info = match (kind, offset, elem_size, word) {
+            (0 | 1, 0, 0, 0) => SizeInfo::Sized { size },
+            (2 | 3, ..) => {
+                SizeInfo::SliceDst(Trailing { offset, elem_size, size_base: size, size_rounding_align_and_phase })
+            }
+            _ => return None,
+        };
+        Some(Layout { align, size_info, statically_shallow_unpadded: kind % 2 == 1 })
+    }
+
+    fn asked(&mut self) -> Option<NonZeroU64> {
+        NonZeroU64::new(self.number())
+    }
+
+    /// The length, and then words of 8 bytes, the last one of what is left.
+    fn bytes(&mut self) -> Vec<u8> {
+        let len = self.number() as usize;
+        let words: Vec<[u8; 8]> = (0..len.div_ceil(8)).map(|_| self.number().to_le_bytes()).collect();
+        words.concat()[..len].to_vec()
+    }
+
+    fn cast_type(&mut self) -> CastType {
+        if self.number() == 0 {
+            CastType::Prefix
+        } else {
+            CastType::Suffix
+        }
+    }
+
+    fn params(&mut self) -> CastParams {
+        let [kind, offset_delta_elems, elem_multiple, dst_meta] = std::array::from_fn(|_| self.number());
+        match kind {
+            0 => CastParams::SizedToSized,
+            1 => CastParams::SizedToUnsized { dst_meta },
+            _ => CastParams::UnsizedToUnsized { offset_delta_elems, elem_multiple },
+        }
+    }
+}
+
+fn words(layout: Layout) -> [u64; 6] {
+    let mark = u64::from(layout.statically_shallow_unpadded);
+    match layout.size_info {
+        SizeInfo::Sized { size } => [layout.align, mark, size, 0, 0, 0],
+        SizeInfo::SliceDst(t) => {
+            let word = t.size_rounding_align_and_phase.0;
+            [layout.align, 2 + mark, t.size_base, t.offset, t.elem_size, word]
+        }
+    }
+}
+
+fn layout(answer: Result<Layout>) -> Vec<u64> {
+    told(answer.map(words))
+}
+
+/// The six words that were written, and nothing on a refusal.
+fn encoded(layout: Layout, len: usize) -> Vec<u64> {
+    let mut out = vec![0; len];
+    let answer = layout.encode(&mut out);
+    if answer.is_err() {
+        assert_eq!(out, vec![0; len]);
+    }
+    told::<6>(answer.map(|()| {
+        let mut words = out.chunks(8).map(|word| u64::from_le_bytes(word.try_into().unwrap()));
+        std::array::from_fn(|_| words.next().unwrap())
+    }))
+}
+
+/// The place comes before the words, and stays on a refusal.
+fn composed(answer: std::result::Result<Layout, Refused>) -> Vec<u64> {
+    match answer {
+        Ok(layout) => [&[0, 0], &words(layout)[..]].concat(),
+        Err(refused) => [&[refused.refusal.number(), refused.place], &[0; 6][..]].concat(),
+    }
+}
+
+fn cast_params(answer: Result<CastParams>) -> Vec<u64> {
+    told(answer.map(|params| match params {
+        CastParams::SizedToSized => [0, 0, 0, 0],
+        CastParams::SizedToUnsized { dst_meta } => [1, 0, 0, dst_meta],
+        CastParams::UnsizedToUnsized { offset_delta_elems, elem_multiple } => [2, offset_delta_elems, elem_multiple, 0],
+    }))
+}
+
+pub fn call(function: u64, i: &mut Inputs) -> Option<Vec<u64>> {
+    Some(match function {
+        15 => layout(Layout::new_zst(i.asked())),
+        16 => layout(Layout::for_type(i.number(), i.number())),
+        17 => layout(Layout::for_unpadded_type(i.number(), i.number())),
+        18 => layout(Layout::for_slice(i.number(), i.number())),
+        19 => layout(i.layout()?.extend(i.layout()?, i.asked())),
+        20 => layout(i.layout()?.pad_to_align()),
+        21 => decision(i.layout()?.requires_static_padding()),
+        22 => decision(i.layout()?.requires_dynamic_padding()),
+        23 => layout(Layout::decode(&i.bytes())),
+        24 => encoded(i.layout()?, i.number() as usize),
+        25 => layout(Layout::scalar(i.number())),
+        26 => composed(compose(i.asked(), i.asked(), &i.bytes())),
+        27 => composed(for_repr_c_struct(i.asked(), i.asked(), &i.bytes())),
+        28 => {
+            let cast = i.layout()?.validate_cast_and_convert_metadata(i.number(), i.number(), i.cast_type());
+            told(cast.map(|cast| [cast.count, cast.split]))
+        }
+        29 => number(i.layout()?.metadata_for_exact_size(i.number())),
+        30 => decision(size_sequences_match(i.trailing(), i.trailing(), i.number())),
+        31 => cast_params(CastParams::try_compute(i.layout()?, i.layout()?)),
+        32 => number(i.params().cast_metadata(i.number())),
+        _ => panic!("no function {function}"),
+    })
+}
