@@ -8,13 +8,13 @@ use borrow.Author.Tests.{eq-eqb, ne-eqb}
 use lib.Dec.{eqb}
 use lib.ListN.{length, take, drop, length-drop}
 use lib.Seq.{take-take, drop-drop, length-take-le}
-use Rattle.util.specs.Refusal.{Outcome, answered, refused}
+use Rattle.util.specs.Refusal.{answered, refused}
 use Rattle.layout.specs.Layout.{Layout}
 use Rattle.layout.specs.Make.{newZstFor}
 use Rattle.layout.specs.Pad.{padFor}
 use Rattle.record.specs.Bytes.{valueOf, wordAt}
-use Rattle.record.specs.Record.{Words, wordsAt, wordsFor, decodeFor}
-use Rattle.record.specs.Compose.{Composed, composed, refusedAt, Member, andThen, bind, memberStep, addMembers, composeMembers, composeStruct, membersOf, composeFor, structFor}
+use Rattle.record.specs.Record.{wordsAt, wordsFor, decodeFor}
+use Rattle.record.specs.Compose.{Composed, composed, refusedAt, andThen, bind, memberStep, addMembers, composeMembers, composeStruct, membersOf, composeFor, structFor}
 use Rattle.record.proofs.Records.{decode-words}
 
 -- a part of the front is a part of the whole
@@ -92,9 +92,6 @@ pub struct-closes : (w a p : ℕ) (s : List ℕ) → structFor w a p s ≡ bind 
 unfolding structFor composeFor
 struct-closes w a p s = go (eqb (length s % 48) 0)
   where
-    n : ℕ
-    n = length s / 48
-
     go : (b : Bool) → cond b (composeStruct w a p (membersOf w (length s / 48) s)) (refusedAt 20 0) ≡ bind (cond b (composeMembers w a p (membersOf w (length s / 48) s)) (refusedAt 20 0)) (closing w (length s / 48))
     go true = rw (members-length w (length s / 48) s)
     go false = refl

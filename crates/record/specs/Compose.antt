@@ -1,7 +1,7 @@
 -- The composition of a member list (document 01, `for_repr_c_struct`; the Reference's rule layout.repr.c.struct.size-field-offset). Assumes nothing.
-use mathlib.Core.Bool.{Bool, cond}
+use mathlib.Core.Bool.{cond}
 use mathlib.Core.List.{List, [], _∷_}
-use Prim.Native.Nat.{ℕ, zero, suc, _+_, _*_, _/_, _%_}
+use Prim.Native.Nat.{ℕ, zero, suc, _/_, _%_}
 use lib.Dec.{eqb}
 use lib.ListN.{length, take, drop}
 use Rattle.util.specs.Refusal.{Outcome, answered, refused}

@@ -1,10 +1,10 @@
 -- Records of layouts (document 01, module 7). Assumes nothing.
 use mathlib.Core.Path.{_≡_}
-use mathlib.Core.Bool.{Bool, true, false, cond, not, _&&_, _||_}
+use mathlib.Core.Bool.{Bool, true, false, cond, not, _&&_}
 use mathlib.Core.List.{List, [], _∷_, _++_}
 use Prim.Native.Nat.{ℕ, _+_, _*_, _%_, _≤_, _<_}
 use lib.Dec.{eqb, leb, ltb}
-use lib.ListN.{length, take, drop}
+use lib.ListN.{length}
 use Rattle.util.specs.Refusal.{Outcome, answered, refused, Cause, unless}
 use Rattle.util.specs.Helpers.{badAlign}
 use Rattle.layout.specs.Layout.{Info, fixed, trailing, Layout, layoutCauses}

@@ -1,5 +1,4 @@
 -- What the types of this crate are, over numbers: document 01's number and values for each case of an answer. Assumes nothing.
-use Prim.Native.Nat.{ℕ}
 use Rattle.util.specs.Refusal.{Outcome, answered, refused}
 use Rattle.layout.specs.View.{layoutOf}
 use Rattle.record.specs.Record.{Words}

@@ -1,15 +1,19 @@
 // Records of layouts, scalars by code, and the composition of a list of member records.
 ghost use mathlib.Core.Path.{_≡_};
+ghost use mathlib.Core.List.{[], _∷_};
 ghost use mathlib.Core.Bool.{cond, _&&_};
-ghost use Prim.Native.Nat.{_+_, _*_, _/_, _%_, _^_, _≤_, _<_};
+ghost use Prim.Native.Nat.{_+_, _/_, _^_, _≤_, _<_};
 ghost use lib.Dec.{eqb};
 ghost use lib.ListN.{length, getD};
 ghost use lib.Seq.{sets};
-ghost use Rattle.util.specs.Refusal.{Meets};
+ghost use Rattle.util.specs.Refusal.{unless, Meets};
+ghost use Rattle.util.specs.Helpers.{badAlign};
+ghost use Rattle.rounding.specs.Word.{wordZero};
+ghost use Rattle.layout.specs.Layout.{fixed, trailing};
 ghost use Rattle.layout.specs.Pad.{padFor};
 ghost use Rattle.layout.specs.View.{layoutOf, layoutSays};
 ghost use Rattle.record.specs.Bytes.{wordAt, wordBytes};
-ghost use Rattle.record.specs.Record.{wordsAt, recordBytes, wordsOf, wordsCauses, recordCauses, wordsFor, decodeFor, Decodes, encodeCauses, encodeFor, encodedInto};
+ghost use Rattle.record.specs.Record.{wordsAt, recordBytes, wordsOf, laterWord, wordsCauses, recordCauses, wordsFor, decodeFor, Decodes, encodeFor, encodedInto};
 ghost use Rattle.record.specs.Scalar.{target64, scalarCauses, scalarLayout, scalarFor};
 ghost use Rattle.record.specs.Compose.{composed, andThen, memberStep, addMembers, membersOf, composeFor, structFor};
 ghost use Rattle.record.specs.View.{wordsIn, encodeSays, composeSays};
@@ -48,12 +52,16 @@ pub enum ComposeAnswer {
 // The bytes of a record.
 pub const RECORD_BYTES: usize = 48;
 
-// The kinds: fixed and trailing, each with the mark one above it.
+// The kinds of a record.
 pub const KIND_FIXED: u64 = 0;
+
+pub const KIND_FIXED_MARKED: u64 = 1;
 
 pub const KIND_TRAILING: u64 = 2;
 
-pub const GREATEST_KIND: u64 = 3;
+pub const KIND_TRAILING_MARKED: u64 = 3;
+
+pub const GREATEST_KIND: u64 = KIND_TRAILING_MARKED;
 
 // A fixed record has nothing after its size.
 fn later_words_zero(offset: u64, elem_size: u64, word: u64) -> bool
@@ -66,7 +74,63 @@ fn later_words_zero(offset: u64, elem_size: u64, word: u64) -> bool
     }
 }
 
-// The layout of the six words of a record.
+fn fixed_from_words(
+    align: u64,
+    size: u64,
+    offset: u64,
+    elem_size: u64,
+    word: u64,
+    unpadded: bool,
+) -> LayoutAnswer
+    ensures { λ r. ⌜ layoutSays r ≡ unless (badAlign 64 align ∷ laterWord (record { align = align; kind = 0; size = size; offset = offset; elem = «elem_size»; word = word }) ∷ []) (record { align = align; info = fixed size; mark = unpadded }) ⌝ }
+{
+    if util::is_power_of_two(align) {
+        if later_words_zero(offset, elem_size, word) {
+            LayoutAnswer::Layout(DstLayout {
+                align,
+                size_info: SizeInfo::Sized { size },
+                statically_shallow_unpadded: unpadded,
+            })
+        } else {
+            LayoutAnswer::Refused(refusal::FIXED_RECORD)
+        }
+    } else {
+        LayoutAnswer::Refused(refusal::ALIGN_NOT_POWER_OF_TWO)
+    }
+}
+
+fn trailing_from_words(
+    align: u64,
+    size_base: u64,
+    offset: u64,
+    elem_size: u64,
+    word: u64,
+    unpadded: bool,
+) -> LayoutAnswer
+    ensures { λ r. ⌜ layoutSays r ≡ unless (badAlign 64 align ∷ wordZero word ∷ []) (record { align = align; info = trailing (record { offset = offset; elem = «elem_size»; base = «size_base»; word = word }); mark = unpadded }) ⌝ }
+{
+    if util::is_power_of_two(align) {
+        if word == 0 {
+            LayoutAnswer::Refused(refusal::ROUNDING_WORD_ZERO)
+        } else {
+            LayoutAnswer::Layout(DstLayout {
+                align,
+                size_info: SizeInfo::SliceDst(TrailingSliceLayout {
+                    offset,
+                    elem_size,
+                    size_base,
+                    size_rounding_align_and_phase: RoundingAlignAndPhase(word),
+                }),
+                statically_shallow_unpadded: unpadded,
+            })
+        }
+    } else {
+        LayoutAnswer::Refused(refusal::ALIGN_NOT_POWER_OF_TWO)
+    }
+}
+
+// The layout of the six words of a record. It compares the whole kind, since the compiler would read the bytes of the kind
+// apart to get at its lowest bit.
 pub fn layout_from_words(
     align: u64,
     kind: u64,
@@ -78,37 +142,19 @@ pub fn layout_from_words(
     ensures answer { λ r. ⌜ layoutSays r ≡ wordsFor 64 (record { align = align; kind = kind; size = size; offset = offset; elem = «elem_size»; word = word }) ⌝ }
     ensures meaning { λ r. ⌜ Meets (wordsCauses 64 (record { align = align; kind = kind; size = size; offset = offset; elem = «elem_size»; word = word })) (Decodes (record { align = align; kind = kind; size = size; offset = offset; elem = «elem_size»; word = word })) (layoutSays r) ⌝ }
 {
-    if kind > GREATEST_KIND {
-        return LayoutAnswer::Refused(refusal::KIND);
+    if kind == KIND_FIXED {
+        return fixed_from_words(align, size, offset, elem_size, word, false);
     }
-    if util::is_power_of_two(align) {
-        if kind < KIND_TRAILING {
-            if later_words_zero(offset, elem_size, word) {
-                LayoutAnswer::Layout(DstLayout {
-                    align,
-                    size_info: SizeInfo::Sized { size },
-                    statically_shallow_unpadded: kind % 2 == 1,
-                })
-            } else {
-                LayoutAnswer::Refused(refusal::FIXED_RECORD)
-            }
-        } else if word == 0 {
-            LayoutAnswer::Refused(refusal::ROUNDING_WORD_ZERO)
-        } else {
-            LayoutAnswer::Layout(DstLayout {
-                align,
-                size_info: SizeInfo::SliceDst(TrailingSliceLayout {
-                    offset,
-                    elem_size,
-                    size_base: size,
-                    size_rounding_align_and_phase: RoundingAlignAndPhase(word),
-                }),
-                statically_shallow_unpadded: kind % 2 == 1,
-            })
-        }
-    } else {
-        LayoutAnswer::Refused(refusal::ALIGN_NOT_POWER_OF_TWO)
+    if kind == KIND_FIXED_MARKED {
+        return fixed_from_words(align, size, offset, elem_size, word, true);
     }
+    if kind == KIND_TRAILING {
+        return trailing_from_words(align, size, offset, elem_size, word, false);
+    }
+    if kind == GREATEST_KIND {
+        return trailing_from_words(align, size, offset, elem_size, word, true);
+    }
+    LayoutAnswer::Refused(refusal::KIND)
 }
 
 fn marked_kind(kind: u64, unpadded: bool) -> u64

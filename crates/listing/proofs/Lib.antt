@@ -1,0 +1,2 @@
+-- Laws of decimal digits and of lines.
+pub mod Lines
