@@ -2,3 +2,4 @@
 pub mod Grants
 pub mod Exact
 pub mod Told
+pub mod At32

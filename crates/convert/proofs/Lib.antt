@@ -3,3 +3,4 @@ pub mod Matching
 pub mod Conversions
 pub mod Demand
 pub mod Stars
+pub mod At32

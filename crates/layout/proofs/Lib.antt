@@ -6,3 +6,4 @@ pub mod Steps
 pub mod Padding
 pub mod Settled
 pub mod Marks
+pub mod At32

@@ -326,6 +326,7 @@ fn cast_type(suffix: bool) -> CastType
     }
 }
 
+// Whether align is a power of two.
 #[no_mangle]
 pub extern "C" fn lukaripe_is_power_of_two(align: u64) -> bool
     ensures { λ r. ⌜ r ≡ powerOfTwo 64 align ⌝ }
@@ -333,6 +334,7 @@ pub extern "C" fn lukaripe_is_power_of_two(align: u64) -> bool
     util::is_power_of_two(align)
 }
 
+// The bytes that pad len to a multiple of align.
 #[no_mangle]
 pub extern "C" fn lukaripe_padding_needed_for(len: u64, align: u64) -> Number
     ensures { λ r. ⌜ r ≡ numberOut (paddingFor 64 len align) ⌝ }
@@ -340,6 +342,7 @@ pub extern "C" fn lukaripe_padding_needed_for(len: u64, align: u64) -> Number
     number_out(util::padding_needed_for(len, align))
 }
 
+// The greatest multiple of align that is at most n.
 #[no_mangle]
 pub extern "C" fn lukaripe_round_down_to_next_multiple_of_alignment(n: u64, align: u64) -> Number
     ensures { λ r. ⌜ r ≡ numberOut (roundDownFor 64 n align) ⌝ }
@@ -347,6 +350,7 @@ pub extern "C" fn lukaripe_round_down_to_next_multiple_of_alignment(n: u64, alig
     number_out(util::round_down_to_next_multiple_of_alignment(n, align))
 }
 
+// The larger of two alignments.
 #[no_mangle]
 pub extern "C" fn lukaripe_max(a: u64, b: u64) -> Number
     ensures { λ r. ⌜ r ≡ numberOut (maxFor 64 a b) ⌝ }
@@ -354,6 +358,7 @@ pub extern "C" fn lukaripe_max(a: u64, b: u64) -> Number
     number_out(util::max(a, b))
 }
 
+// The smaller of two alignments.
 #[no_mangle]
 pub extern "C" fn lukaripe_min(a: u64, b: u64) -> Number
     ensures { λ r. ⌜ r ≡ numberOut (minFor 64 a b) ⌝ }
@@ -361,6 +366,7 @@ pub extern "C" fn lukaripe_min(a: u64, b: u64) -> Number
     number_out(util::min(a, b))
 }
 
+// The rounding word of an alignment and a phase.
 #[no_mangle]
 pub extern "C" fn lukaripe_rounding_new(align: u64, phase: u64) -> Number
     ensures { λ r. ⌜ r ≡ numberOut (newFor 64 align phase) ⌝ }
@@ -374,6 +380,7 @@ pub extern "C" fn lukaripe_rounding_new(align: u64, phase: u64) -> Number
     }
 }
 
+// The alignment and the phase of a rounding word.
 #[no_mangle]
 pub extern "C" fn lukaripe_rounding_components(word: u64) -> Components
     ensures { λ r. ⌜ r ≡ componentsOut (componentsFor 64 word) ⌝ }
@@ -392,6 +399,7 @@ pub extern "C" fn lukaripe_rounding_components(word: u64) -> Components
     }
 }
 
+// The alignment of a rounding word.
 #[no_mangle]
 pub extern "C" fn lukaripe_rounding_align(word: u64) -> Number
     ensures { λ r. ⌜ r ≡ numberOut (alignFor 64 word) ⌝ }
@@ -399,6 +407,7 @@ pub extern "C" fn lukaripe_rounding_align(word: u64) -> Number
     number_out(RoundingAlignAndPhase(word).align())
 }
 
+// The size offset of a trailing layout.
 #[no_mangle]
 pub extern "C" fn lukaripe_size_offset(layout: Trailing) -> Number
     ensures { λ r. ⌜ r ≡ numberOut (sizeOffsetFor 64 (trailingIn layout)) ⌝ }
@@ -406,6 +415,7 @@ pub extern "C" fn lukaripe_size_offset(layout: Trailing) -> Number
     number_out(trailing_in(layout).size_offset())
 }
 
+// The greatest number of trailing bytes whose size is at most available_bytes.
 #[no_mangle]
 pub extern "C" fn lukaripe_max_trailing_bytes(layout: Trailing, available_bytes: u64) -> Number
     ensures { λ r. ⌜ r ≡ numberOut (maxTrailingFor 64 (trailingIn layout) «available_bytes») ⌝ }
@@ -413,6 +423,7 @@ pub extern "C" fn lukaripe_max_trailing_bytes(layout: Trailing, available_bytes:
     number_out(trailing_in(layout).max_trailing_bytes(available_bytes))
 }
 
+// The padding after elems elements, modulo 2^64.
 #[no_mangle]
 pub extern "C" fn lukaripe_padding_for_elems(layout: Trailing, elems: u64) -> Number
     ensures { λ r. ⌜ r ≡ numberOut (paddingForElems 64 (trailingIn layout) elems) ⌝ }
@@ -420,6 +431,7 @@ pub extern "C" fn lukaripe_padding_for_elems(layout: Trailing, elems: u64) -> Nu
     number_out(trailing_in(layout).padding_for_elems(elems))
 }
 
+// The size at elems elements.
 #[no_mangle]
 pub extern "C" fn lukaripe_size_for_elems(layout: Trailing, elems: u64) -> Number
     ensures { λ r. ⌜ r ≡ numberOut (sizeFor 64 (trailingIn layout) elems) ⌝ }
@@ -430,6 +442,7 @@ pub extern "C" fn lukaripe_size_for_elems(layout: Trailing, elems: u64) -> Numbe
     }
 }
 
+// The layout advanced by bytes, with another element size.
 #[no_mangle]
 pub extern "C" fn lukaripe_advance(layout: Trailing, bytes: u64, elem_size: u64) -> TrailingAnswer
     ensures { λ r. ⌜ r ≡ trailingOut (advanceFor 64 (trailingIn layout) bytes «elem_size») ⌝ }
@@ -455,6 +468,7 @@ pub extern "C" fn lukaripe_advance(layout: Trailing, bytes: u64, elem_size: u64)
     }
 }
 
+// Whether two layouts are found to have the same size at every count.
 #[no_mangle]
 pub extern "C" fn lukaripe_has_same_size_sequence(layout: Trailing, other: Trailing) -> Number
     ensures { λ r. ⌜ r ≡ decisionOut (sameFor 64 (trailingIn layout) (trailingIn other)) ⌝ }
@@ -462,6 +476,7 @@ pub extern "C" fn lukaripe_has_same_size_sequence(layout: Trailing, other: Trail
     decision_out(trailing_in(layout).has_same_size_sequence(trailing_in(other)))
 }
 
+// The empty layout.
 #[no_mangle]
 pub extern "C" fn lukaripe_new_zst(repr_align: u64) -> LayoutOut
     ensures { λ r. ⌜ r ≡ layoutOut (newZstFor 64 «repr_align») ⌝ }
@@ -469,6 +484,7 @@ pub extern "C" fn lukaripe_new_zst(repr_align: u64) -> LayoutOut
     layout_out(DstLayout::new_zst(repr_align))
 }
 
+// The layout of a type, its padding not known.
 #[no_mangle]
 pub extern "C" fn lukaripe_for_type(size: u64, align: u64) -> LayoutOut
     ensures { λ r. ⌜ r ≡ layoutOut (typeFor 64 false size align) ⌝ }
@@ -476,6 +492,7 @@ pub extern "C" fn lukaripe_for_type(size: u64, align: u64) -> LayoutOut
     layout_out(DstLayout::for_type(size, align))
 }
 
+// The layout of a type without padding.
 #[no_mangle]
 pub extern "C" fn lukaripe_for_unpadded_type(size: u64, align: u64) -> LayoutOut
     ensures { λ r. ⌜ r ≡ layoutOut (typeFor 64 true size align) ⌝ }
@@ -483,6 +500,7 @@ pub extern "C" fn lukaripe_for_unpadded_type(size: u64, align: u64) -> LayoutOut
     layout_out(DstLayout::for_unpadded_type(size, align))
 }
 
+// The layout of a slice.
 #[no_mangle]
 pub extern "C" fn lukaripe_for_slice(size: u64, align: u64) -> LayoutOut
     ensures { λ r. ⌜ r ≡ layoutOut (sliceFor 64 size align) ⌝ }
@@ -490,6 +508,7 @@ pub extern "C" fn lukaripe_for_slice(size: u64, align: u64) -> LayoutOut
     layout_out(DstLayout::for_slice(size, align))
 }
 
+// The layout with one member more.
 #[no_mangle]
 pub extern "C" fn lukaripe_extend(layout: Layout, field: Layout, repr_packed: u64) -> LayoutOut
     ensures { λ r. ⌜ r ≡ layoutOut (withLayout layout (λ l. withLayout field (λ m. extendFor 64 l m «repr_packed»))) ⌝ }
@@ -503,6 +522,7 @@ pub extern "C" fn lukaripe_extend(layout: Layout, field: Layout, repr_packed: u6
     }
 }
 
+// The layout with its closing padding.
 #[no_mangle]
 pub extern "C" fn lukaripe_pad_to_align(layout: Layout) -> LayoutOut
     ensures { λ r. ⌜ r ≡ layoutOut (withLayout layout (λ l. padFor 64 l)) ⌝ }
@@ -513,6 +533,7 @@ pub extern "C" fn lukaripe_pad_to_align(layout: Layout) -> LayoutOut
     }
 }
 
+// Whether padding is not known to be absent.
 #[no_mangle]
 pub extern "C" fn lukaripe_requires_static_padding(layout: Layout) -> Number
     ensures { λ r. ⌜ r ≡ decisionOut (withLayout layout (λ l. staticFor 64 l)) ⌝ }
@@ -523,6 +544,7 @@ pub extern "C" fn lukaripe_requires_static_padding(layout: Layout) -> Number
     }
 }
 
+// Whether padding depends on the count.
 #[no_mangle]
 pub extern "C" fn lukaripe_requires_dynamic_padding(layout: Layout) -> Number
     ensures { λ r. ⌜ r ≡ decisionOut (withLayout layout (λ l. dynamicFor 64 l)) ⌝ }
@@ -533,6 +555,7 @@ pub extern "C" fn lukaripe_requires_dynamic_padding(layout: Layout) -> Number
     }
 }
 
+// The layout of a record.
 #[no_mangle]
 pub extern "C" fn lukaripe_decode(bytes: &[u8]) -> LayoutOut
     ensures { λ r. ⌜ r ≡ layoutOut (decodeFor 64 (now (bytes .entry))) ⌝ }
@@ -558,6 +581,7 @@ pub extern "C" fn lukaripe_encode(layout: Layout, out: &mut [u8]) -> u64
     }
 }
 
+// The layout of a scalar.
 #[no_mangle]
 pub extern "C" fn lukaripe_scalar(code: u64) -> LayoutOut
     ensures { λ r. ⌜ r ≡ layoutOut (scalarFor target64 code) ⌝ }
@@ -565,6 +589,7 @@ pub extern "C" fn lukaripe_scalar(code: u64) -> LayoutOut
     layout_out(record::scalar(code))
 }
 
+// The layout of a member list before its closing padding.
 #[no_mangle]
 pub extern "C" fn lukaripe_compose(repr_align: u64, repr_packed: u64, members: &[u8]) -> ComposedOut
     ensures { λ r. ⌜ r ≡ composedOut (composeFor 64 «repr_align» «repr_packed» (now (members .entry))) ⌝ }
@@ -572,6 +597,7 @@ pub extern "C" fn lukaripe_compose(repr_align: u64, repr_packed: u64, members: &
     composed_out(record::compose(repr_align, repr_packed, members))
 }
 
+// The layout of a member list.
 #[no_mangle]
 pub extern "C" fn lukaripe_for_repr_c_struct(
     repr_align: u64,
@@ -583,6 +609,7 @@ pub extern "C" fn lukaripe_for_repr_c_struct(
     composed_out(record::for_repr_c_struct(repr_align, repr_packed, members))
 }
 
+// How many elements the bytes at an address hold, and where they split.
 #[no_mangle]
 pub extern "C" fn lukaripe_validate_cast_and_convert_metadata(
     layout: Layout,
@@ -604,6 +631,7 @@ pub extern "C" fn lukaripe_validate_cast_and_convert_metadata(
     }
 }
 
+// The greatest count of exactly this size.
 #[no_mangle]
 pub extern "C" fn lukaripe_metadata_for_exact_size(layout: Layout, size: u64) -> Number
     ensures { λ r. ⌜ r ≡ numberOut (withLayout layout (λ l. exactFor 64 l size)) ⌝ }
@@ -614,6 +642,7 @@ pub extern "C" fn lukaripe_metadata_for_exact_size(layout: Layout, size: u64) ->
     }
 }
 
+// Whether the target, shifted, is found to have the sizes of the source.
 #[no_mangle]
 pub extern "C" fn lukaripe_size_sequences_match(
     src: Trailing,
@@ -625,6 +654,7 @@ pub extern "C" fn lukaripe_size_sequences_match(
     decision_out(convert::size_sequences_match(trailing_in(src), trailing_in(dst), dst_base))
 }
 
+// How counts of one layout are converted to another.
 #[no_mangle]
 pub extern "C" fn lukaripe_try_compute(src: Layout, dst: Layout) -> CastParamsOut
     ensures { λ r. ⌜ r ≡ paramsOut (withLayout src (λ l. withLayout dst (λ m. computeFor 64 (sameSequence 64) l m))) ⌝ }
@@ -638,6 +668,7 @@ pub extern "C" fn lukaripe_try_compute(src: Layout, dst: Layout) -> CastParamsOu
     }
 }
 
+// The converted count.
 #[no_mangle]
 pub extern "C" fn lukaripe_cast_metadata(params: CastParams, src_meta: u64) -> Number
     ensures { λ r. ⌜ r ≡ numberOut (metadataFor 64 (paramsGiven params) «src_meta») ⌝ }

@@ -4,3 +4,4 @@ pub mod Records
 pub mod Compositions
 pub mod Scalars
 pub mod RoundTrips
+pub mod At32

@@ -2,6 +2,7 @@
 // The number of a function and the order of its inputs are those of rust/differential/recorded.rs and its rows.
 use crate::layouts;
 use crate::lines::WIDTH;
+use crate::records;
 use libc::STDOUT_FILENO;
 use rounding::ComponentsAnswer;
 use rounding::NewAnswer;
@@ -18,13 +19,13 @@ pub const LENGTH: usize = 8;
 pub struct Told {
     // How many inputs the line has.
     pub inputs: usize,
-    // How many numbers the answer has, with the refusal number; 0 where no function has the line's number.
+    // How many numbers the answer has, with the refusal number; 0 where the line is skipped.
     pub length: usize,
     // The refusal number and the answer, and 0 after them.
     pub numbers: [u64; LENGTH],
 }
 
-fn tell_none() -> Told {
+pub fn tell_none() -> Told {
     Told {
         inputs: 0,
         length: 0,
@@ -197,6 +198,11 @@ pub fn call(line: &[u64; WIDTH]) -> Told {
         20 => layouts::pad_to_align(line),
         21 => layouts::requires_static_padding(line),
         22 => layouts::requires_dynamic_padding(line),
+        23 => records::decode(line),
+        24 => records::encode(line),
+        25 => records::scalar(line),
+        26 => records::compose(line),
+        27 => records::for_repr_c_struct(line),
         28 => layouts::validate_cast_and_convert_metadata(line),
         29 => layouts::metadata_for_exact_size(line),
         30 => layouts::size_sequences_match(line),
@@ -230,6 +236,11 @@ pub fn print_name(function: u64) -> bool {
         20 => io::write_all(STDOUT_FILENO, b"pad_to_align"),
         21 => io::write_all(STDOUT_FILENO, b"requires_static_padding"),
         22 => io::write_all(STDOUT_FILENO, b"requires_dynamic_padding"),
+        23 => io::write_all(STDOUT_FILENO, b"decode"),
+        24 => io::write_all(STDOUT_FILENO, b"encode"),
+        25 => io::write_all(STDOUT_FILENO, b"scalar"),
+        26 => io::write_all(STDOUT_FILENO, b"compose"),
+        27 => io::write_all(STDOUT_FILENO, b"for_repr_c_struct"),
         28 => io::write_all(STDOUT_FILENO, b"validate_cast_and_convert_metadata"),
         29 => io::write_all(STDOUT_FILENO, b"metadata_for_exact_size"),
         30 => io::write_all(STDOUT_FILENO, b"size_sequences_match"),

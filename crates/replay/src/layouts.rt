@@ -51,7 +51,7 @@ fn given(align: u64, kind: u64, size: u64, offset: u64, elem_size: u64, word: u6
 }
 
 // The layout that the inputs start with.
-fn first(line: &[u64; WIDTH]) -> LayoutAnswer {
+pub fn first(line: &[u64; WIDTH]) -> LayoutAnswer {
     given(line[1], line[2], line[3], line[4], line[5], line[6])
 }
 
@@ -67,48 +67,25 @@ fn refused_second(own: DstLayout, second: u64) -> u64 {
     }
 }
 
-fn kind(mark: bool, unmarked: u64) -> u64 {
-    if mark { unmarked | 1 } else { unmarked }
-}
-
 fn tell_words(inputs: usize, l: DstLayout) -> Told {
-    let info = l.size_info;
-    match info {
-        SizeInfo::Sized { size } => Told {
-            inputs,
-            length: 7,
-            numbers: [
-                0,
-                l.align,
-                kind(l.statically_shallow_unpadded, 0),
-                size,
-                0,
-                0,
-                0,
-                0,
-            ],
-        },
-        SizeInfo::SliceDst(t) => {
-            let word = t.size_rounding_align_and_phase;
-            Told {
-                inputs,
-                length: 7,
-                numbers: [
-                    0,
-                    l.align,
-                    kind(l.statically_shallow_unpadded, 2),
-                    t.size_base,
-                    t.offset,
-                    t.elem_size,
-                    word.0,
-                    0,
-                ],
-            }
-        }
+    let words = record::words_from_layout(l);
+    Told {
+        inputs,
+        length: 7,
+        numbers: [
+            0,
+            words.align,
+            words.kind,
+            words.size,
+            words.offset,
+            words.elem_size,
+            words.word,
+            0,
+        ],
     }
 }
 
-fn tell_refusal(inputs: usize, length: usize, refusal: u64) -> Told {
+pub fn tell_refusal(inputs: usize, length: usize, refusal: u64) -> Told {
     Told {
         inputs,
         length,
@@ -116,7 +93,7 @@ fn tell_refusal(inputs: usize, length: usize, refusal: u64) -> Told {
     }
 }
 
-fn tell_layout(inputs: usize, answer: LayoutAnswer) -> Told {
+pub fn tell_layout(inputs: usize, answer: LayoutAnswer) -> Told {
     match answer {
         LayoutAnswer::Layout(l) => tell_words(inputs, l),
         LayoutAnswer::Refused(refusal) => tell_refusal(inputs, 7, refusal),

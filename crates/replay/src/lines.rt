@@ -79,7 +79,7 @@ fn read_number(text: &[u8], from: usize) -> Number
 }
 
 // The line that starts at from.
-pub fn read_line(text: &[u8], from: usize) -> Line
+pub(crate) fn read_line(text: &[u8], from: usize) -> Line
     requires { do ⌜ from < (← ⟦text.len()⟧) ⌝ }
     ensures { λ r. do ⌜ (from < r .next) × (r .next ≤ (← ⟦text.len()⟧ .entry)) ⌝ }
 {

@@ -3,6 +3,7 @@
 mod calls;
 mod layouts;
 mod lines;
+mod records;
 mod tally;
 
 use libc::STDOUT_FILENO;

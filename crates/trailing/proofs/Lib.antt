@@ -2,3 +2,4 @@ pub mod Sizes
 pub mod Sequences
 pub mod Calls
 pub mod Told
+pub mod At32

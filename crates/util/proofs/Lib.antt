@@ -7,3 +7,4 @@ pub mod Helpers
 pub mod Products
 pub mod Told
 pub mod Tables
+pub mod At32

@@ -1,0 +1,131 @@
+-- The laws of this crate at 32 bits: each holds at any width. Assumes nothing.
+use mathlib.Core.Path.{_≡_}
+use mathlib.Core.List.{[], _∷_}
+use Prim.Native.Nat.{ℕ, _≤_, _<_, _^_}
+use Rattle.util.specs.Width.{M}
+use Rattle.util.specs.Refusal.{answered, refused, unless, Meets, Decided, Tells, None}
+use Rattle.util.specs.View.{numberSays}
+use Rattle.util.specs.declared.Answer.{Answer}
+use Rattle.util.specs.declared.Answer.the-variants as Answer
+use Rattle.layout.specs.Extend.{passes8, memberAlign, extended, badPacking, memberPasses, placeCauses, stepCauses, extendCauses, extendFor, Extended}
+use Rattle.layout.specs.declared.Check.{Check}
+use Rattle.layout.specs.declared.Check.the-variants as Check
+use Rattle.layout.specs.View.{checkSays}
+use Rattle.layout.specs.Layout.{Layout, layoutCauses, HeldIn, checkFor, fixed, Info, noWord}
+use mathlib.Core.Bool.{Bool, _||_, false}
+use Rattle.util.specs.Helpers.{alignCauses}
+use Rattle.layout.specs.Make.{asked, emptyLayout, newZstFor, typeCauses, typeLayout, typeFor, sliceLayout, sliceFor}
+use mathlib.Core.Logic.{_⊎_}
+use lib.Dec.{eqb}
+use Rattle.util.specs.Power.{PowerOfTwo, powerOfTwo}
+use Rattle.util.specs.Round.{up}
+use Rattle.trailing.specs.Size.{Trailing, A, sizeAt}
+use Rattle.layout.specs.Pad.{coarser, paddedTail, padded, padCauses, padFor, Padded, paddedInfo, paddingNeeds, staticFor, DynamicPadding, dynamicPadding, dynamicFor}
+use Rattle.rounding.specs.Word.{alignOf, alignFor}
+use Rattle.layout.proofs.Settled.{Settled}
+use Rattle.layout.proofs.Passes as Passes
+use Rattle.layout.proofs.Layouts as Layouts
+use Rattle.layout.proofs.Made as Made
+use Rattle.layout.proofs.Steps as Steps
+use Rattle.layout.proofs.Padding as Padding
+use Rattle.layout.proofs.Settled as Settled
+use Rattle.layout.proofs.Marks as Marks
+
+pub within : {T : Type 0} (v : ℕ) (x : T) → v ≤ M 32 → answered x ≡ unless (passes8 32 v ∷ []) x
+within {T} = Passes.within {T = T} 32
+
+pub past : {T : Type 0} (v : ℕ) (x : T) → M 32 < v → refused 8 ≡ unless (passes8 32 v ∷ []) x
+past {T} = Passes.past {T = T} 32
+
+pub up-told : {n : ℕ} (v : ℕ) (r : Answer) → numberSays r ≡ unless (passes8 32 v ∷ []) v → r ≡ Answer.Number n → (n ≡ v) × (v ≤ M 32)
+up-told {n} = Passes.up-told {n = n} 32
+
+pub up-refused : {k : ℕ} (v : ℕ) (r : Answer) → numberSays r ≡ unless (passes8 32 v ∷ []) v → r ≡ Answer.Refused k → (k ≡ 8) × (M 32 < v)
+up-refused {k} = Passes.up-refused {k = k} 32
+
+pub layout-decided : (l : Layout) → l .align < 2 ^ 32 → Decided (layoutCauses 32 l)
+layout-decided = Layouts.layout-decided 32
+
+pub check-meets : (l : Layout) → HeldIn 32 l → Meets (layoutCauses 32 l) (λ _. HeldIn 32 l) (checkFor 32 l)
+check-meets = Layouts.check-meets 32
+
+pub check-refused : {k : ℕ} (l : Layout) → l .align < 2 ^ 32 → refused k ≡ checkFor 32 l → (refused k ≡ checkFor 32 l) × Meets (layoutCauses 32 l) (λ (_ : Unit {0}). HeldIn 32 l) (refused k)
+check-refused {k} = Layouts.check-refused {k = k} 32
+
+pub held-accepted : {l : Layout} (r : Check) → Meets (layoutCauses 32 l) (λ _. HeldIn 32 l) (checkSays r) → r ≡ Check.Accepted → HeldIn 32 l
+held-accepted {l} = Layouts.held-accepted {w = 32} {l = l}
+
+pub zst-meets : (a : ℕ) → asked a < 2 ^ 32 → Meets (alignCauses 32 (asked a)) (λ l. l ≡ emptyLayout a) (newZstFor 32 a)
+zst-meets = Made.zst-meets 32
+
+pub type-decided : (size a : ℕ) → a < 2 ^ 32 → Decided (typeCauses 32 size a)
+type-decided = Made.type-decided 32
+
+pub type-meets : (mark : Bool) (size a : ℕ) → a < 2 ^ 32 → Meets (typeCauses 32 size a) (λ l. l ≡ typeLayout mark size a) (typeFor 32 mark size a)
+type-meets = Made.type-meets 32
+
+pub slice-meets : (size a : ℕ) → a < 2 ^ 32 → Meets (typeCauses 32 size a) (λ l. l ≡ sliceLayout size a) (sliceFor 32 size a)
+slice-meets = Made.slice-meets 32
+
+pub tells-packing : (packing : ℕ) → packing < 2 ^ 32 → Tells ((packing ≡ 0) ⊎ PowerOfTwo packing) (eqb packing 0 || powerOfTwo 32 packing)
+tells-packing = Steps.tells-packing 32
+
+pub packing-power : (packing : ℕ) → packing < 2 ^ 32 → (badPacking 32 packing .means → ⊥) → (packing ≡ 0 → ⊥) → PowerOfTwo packing
+packing-power = Steps.packing-power 32
+
+pub member-power : {a : ℕ} (packing : ℕ) → PowerOfTwo a → packing < 2 ^ 32 → (badPacking 32 packing .means → ⊥) → PowerOfTwo (memberAlign a packing)
+member-power {a} = Steps.member-power 32 {a = a}
+
+pub extend-decided : (l m : Layout) (packing : ℕ) → l .align < 2 ^ 32 → m .align < 2 ^ 32 → packing < 2 ^ 32 → Decided (extendCauses 32 l m packing)
+extend-decided = Steps.extend-decided 32
+
+pub extended-is : (l m : Layout) (packing : ℕ) → l .align < 2 ^ 32 → m .align < 2 ^ 32 → packing < 2 ^ 32 → None (layoutCauses 32 l) → None (layoutCauses 32 m) → None (stepCauses 32 l m packing) → Extended l m packing (extended l m packing)
+extended-is = Steps.extended-is 32
+
+pub extend-meets : (l m : Layout) (packing : ℕ) → l .align < 2 ^ 32 → m .align < 2 ^ 32 → packing < 2 ^ 32 → Meets (extendCauses 32 l m packing) (Extended l m packing) (extendFor 32 l m packing)
+extend-meets = Steps.extend-meets 32
+
+pub step-past : (k s : ℕ) (mark : Bool) (m : Layout) (packing : ℕ) → M 32 < up s (memberAlign (m .align) packing) → refused 8 ≡ unless (placeCauses 32 (record { align = k; info = fixed s; mark = mark }) m packing) (extended (record { align = k; info = fixed s; mark = mark }) m packing)
+step-past = Steps.step-past 32
+
+pub step-placed : (k s : ℕ) (mark : Bool) (m : Layout) (packing : ℕ) → up s (memberAlign (m .align) packing) ≤ M 32 → unless (memberPasses 32 (up s (memberAlign (m .align) packing)) (m .info) ∷ []) (extended (record { align = k; info = fixed s; mark = mark }) m packing) ≡ unless (placeCauses 32 (record { align = k; info = fixed s; mark = mark }) m packing) (extended (record { align = k; info = fixed s; mark = mark }) m packing)
+step-placed = Steps.step-placed 32
+
+pub word-power : {a : ℕ} (t : Trailing) → PowerOfTwo a → a < 2 ^ 32 → (t .word ≡ 0 → ⊥) → PowerOfTwo (A 32 t)
+word-power {a} = Padding.word-power 32 {a = a}
+
+pub coarser-align : {a : ℕ} (t : Trailing) → PowerOfTwo a → a < 2 ^ 32 → A 32 (coarser 32 a t) ≡ a
+coarser-align {a} = Padding.coarser-align 32 {a = a}
+
+pub tail-sizes : {a : ℕ} (t : Trailing) (n : ℕ) → PowerOfTwo a → a < 2 ^ 32 → (t .word ≡ 0 → ⊥) → sizeAt 32 (paddedTail 32 a t) n ≡ up (sizeAt 32 t n) a
+tail-sizes {a} = Padding.tail-sizes 32 {a = a}
+
+pub pad-decided : (l : Layout) → l .align < 2 ^ 32 → Decided (padCauses 32 l)
+pad-decided = Padding.pad-decided 32
+
+pub padded-is : (l : Layout) → l .align < 2 ^ 32 → None (layoutCauses 32 l) → Padded 32 l (padded 32 l)
+padded-is = Padding.padded-is 32
+
+pub pad-meets : (l : Layout) → l .align < 2 ^ 32 → Meets (padCauses 32 l) (Padded 32 l) (padFor 32 l)
+pad-meets = Padding.pad-meets 32
+
+pub info-settled : {a : ℕ} (i : Info) → PowerOfTwo a → a < 2 ^ 32 → (noWord i .means → ⊥) → paddingNeeds 32 a i ≤ M 32 → Settled 32 a (paddedInfo 32 a i)
+info-settled {a} = Settled.info-settled 32 {a = a}
+
+pub padded-again : (l : Layout) → l .align < 2 ^ 32 → None (padCauses 32 l) → padFor 32 (padded 32 l) ≡ answered (padded 32 l)
+padded-again = Settled.padded-again 32
+
+pub pad-again : (l : Layout) {r : Layout} → l .align < 2 ^ 32 → padFor 32 l ≡ answered r → padFor 32 r ≡ answered r
+pad-again l {r} = Settled.pad-again 32 l {r = r}
+
+pub static-meets : (l : Layout) → l .align < 2 ^ 32 → Meets (layoutCauses 32 l) (Tells (l .mark ≡ false)) (staticFor 32 l)
+static-meets = Marks.static-meets 32
+
+pub tells-dynamic : (i : Info) → Tells (DynamicPadding 32 i) (dynamicPadding 32 i)
+tells-dynamic = Marks.tells-dynamic 32
+
+pub dynamic-meets : (l : Layout) → l .align < 2 ^ 32 → Meets (layoutCauses 32 l) (Tells (DynamicPadding 32 (l .info))) (dynamicFor 32 l)
+dynamic-meets = Marks.dynamic-meets 32
+
+pub align-answered : (n : ℕ) → 0 < n → alignFor 32 n ≡ answered (alignOf 32 n)
+align-answered = Marks.align-answered 32
