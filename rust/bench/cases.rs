@@ -68,7 +68,7 @@ pub struct Case {
     pub source_tail_n: TrailingSliceLayout,
     pub params: Words<4>,
     pub params_n: CastParamsInner,
-    /// A member list, and the whole layout's record.
+    /// A member list, to be composed under the packing, and the whole layout's record.
     pub list: Vec<u8>,
     pub list_n: Vec<DstLayout>,
     pub record: Vec<u8>,
@@ -166,7 +166,7 @@ fn draw(random: &mut Random, set: Set, members: usize) -> Option<Case> {
     let source = source(random, set, whole)?;
     let params = crate::try_compute(source, whole).ok()?;
     let list: Vec<[u64; 6]> = (0..members).map(|_| fixed(random, set)).collect();
-    crate::for_repr_c_struct(0, 0, &list).ok()?;
+    crate::for_repr_c_struct(0, packing, &list).ok()?;
     let bytes = |words: &[u64]| words.iter().flat_map(|word| word.to_le_bytes()).collect();
     Some(Case {
         align,

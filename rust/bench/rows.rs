@@ -163,22 +163,26 @@ const LAYERS: &[&[Row]] = &[
             lukaripe_scalar(c.code),
             plain::scalar(c.code),
             tested::scalar(c.code)),
+        row!("compose, 10 members", |set| lists(set, 10), c =>
+            composed(c, lukaripe_compose),
+            plain::compose(None, c.packing_n, &c.list_n),
+            tested::compose(0, c.packing, &c.list)),
         row!("for_repr_c_struct, 1 member", |set| lists(set, 1), c =>
-            composed(c),
-            plain::for_repr_c_struct(&c.list_n),
-            tested::for_repr_c_struct(&c.list)),
+            composed(c, lukaripe_for_repr_c_struct),
+            plain::for_repr_c_struct(None, c.packing_n, &c.list_n),
+            tested::for_repr_c_struct(0, c.packing, &c.list)),
         row!("for_repr_c_struct, 10 members", |set| lists(set, 10), c =>
-            composed(c),
-            plain::for_repr_c_struct(&c.list_n),
-            tested::for_repr_c_struct(&c.list)),
+            composed(c, lukaripe_for_repr_c_struct),
+            plain::for_repr_c_struct(None, c.packing_n, &c.list_n),
+            tested::for_repr_c_struct(0, c.packing, &c.list)),
         row!("for_repr_c_struct, 100 members", |set| lists(set, 100), c =>
-            composed(c),
-            plain::for_repr_c_struct(&c.list_n),
-            tested::for_repr_c_struct(&c.list)),
+            composed(c, lukaripe_for_repr_c_struct),
+            plain::for_repr_c_struct(None, c.packing_n, &c.list_n),
+            tested::for_repr_c_struct(0, c.packing, &c.list)),
         row!("for_repr_c_struct, 1365 members", |set| lists(set, 1365), c =>
-            composed(c),
-            plain::for_repr_c_struct(&c.list_n),
-            tested::for_repr_c_struct(&c.list)),
+            composed(c, lukaripe_for_repr_c_struct),
+            plain::for_repr_c_struct(None, c.packing_n, &c.list_n),
+            tested::for_repr_c_struct(0, c.packing, &c.list)),
     ],
     #[cfg(layer = "cast")]
     &[
@@ -219,7 +223,8 @@ fn written(write: impl FnOnce(&mut [u8]) -> u64) -> (u64, [u8; 48]) {
     (write(&mut out), out)
 }
 
-fn composed(case: &Case) -> Told<7> {
+#[inline(always)]
+fn composed(case: &Case, compose: unsafe extern "C" fn(u64, u64, *const u8, usize) -> Told<7>) -> Told<7> {
     // SAFETY: the bytes are as many as said.
-    unsafe { lukaripe_for_repr_c_struct(0, 0, case.list.as_ptr(), case.list.len()) }
+    unsafe { compose(0, case.packing, case.list.as_ptr(), case.list.len()) }
 }

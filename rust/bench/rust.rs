@@ -48,7 +48,10 @@ pub mod plain {
         requires_static_padding(layout: DstLayout) -> bool = layout.requires_static_padding();
         requires_dynamic_padding(layout: DstLayout) -> bool = layout.requires_dynamic_padding();
         scalar(code: u64) -> Says<6> = crate::scalar(code);
-        for_repr_c_struct(fields: &[DstLayout]) -> DstLayout = DstLayout::for_repr_c_struct(None, None, fields);
+        compose(align: Option<NonZeroUsize>, packing: Option<NonZeroUsize>, fields: &[DstLayout]) -> DstLayout =
+            fields.iter().fold(DstLayout::new_zst(align), |whole, field| whole.extend(*field, packing));
+        for_repr_c_struct(align: Option<NonZeroUsize>, packing: Option<NonZeroUsize>, fields: &[DstLayout]) -> DstLayout =
+            DstLayout::for_repr_c_struct(align, packing, fields);
 
         validate_cast_and_convert_metadata(layout: &DstLayout, addr: usize, len: usize, side: CastType)
             -> Result<(usize, usize), MetadataCastError> =
@@ -134,23 +137,28 @@ pub mod tested {
         Words([0, 1, 2, 3, 4, 5].map(|at| word_at(bytes, at)))
     }
 
-    fn composed(members: &[u8]) -> Result<DstLayout, (u64, u64)> {
+    /// The members one after the other. What is known of the layout so far is not tested again.
+    fn composed(repr_align: u64, packing: u64, members: &[u8]) -> Result<DstLayout, (u64, u64)> {
         if members.len() % 48 != 0 {
             return Err((20, 0));
         }
-        let mut whole = DstLayout::new_zst(None);
+        if repr_align != 0 && bad_align(repr_align) {
+            return Err((1, 0));
+        }
+        let above = |align| align > MAX_ALIGN;
+        let mut whole = DstLayout::new_zst(asked(repr_align));
         for (place, bytes) in members.chunks_exact(48).enumerate() {
             let member = record(bytes);
-            check(member).map_err(|number| (number, place as u64))?;
-            if member.0[0] > MAX_ALIGN {
-                return Err((6, place as u64));
-            }
-            if matches!(whole.size_info, SizeInfo::SliceDst(_)) {
-                return Err((7, place as u64));
-            }
-            whole = whole.extend(layout(member.0), None);
+            let trailing = matches!(whole.size_info, SizeInfo::SliceDst(_));
+            let step = [
+                (5, packing != 0 && bad_align(packing)),
+                (6, above(whole.align.get() as u64) || above(member.0[0]) || above(packing)),
+                (7, trailing),
+            ];
+            check(member).and_then(|()| first(step)).map_err(|number| (number, place as u64))?;
+            whole = whole.extend(layout(member.0), asked(packing));
         }
-        Ok(whole.pad_to_align())
+        Ok(whole)
     }
 
     macro_rules! functions {
@@ -246,13 +254,22 @@ pub mod tested {
         0
     }
 
-    #[inline(never)]
-    pub fn for_repr_c_struct(members: &[u8]) -> Told<7> {
-        match composed(members).and_then(|whole| layout_numbers(whole).map_err(|number| (number, 0))) {
+    fn told_at(says: Result<DstLayout, (u64, u64)>) -> Told<7> {
+        match says.and_then(|whole| layout_numbers(whole).map_err(|number| (number, 0))) {
             Ok([align, kind, size_or_base, offset, elem_size, word]) => {
                 Told { refusal: 0, values: [0, align, kind, size_or_base, offset, elem_size, word] }
             }
             Err((refusal, place)) => Told { refusal, values: [place, 0, 0, 0, 0, 0, 0] },
         }
+    }
+
+    #[inline(never)]
+    pub fn compose(repr_align: u64, packing: u64, members: &[u8]) -> Told<7> {
+        told_at(composed(repr_align, packing, members))
+    }
+
+    #[inline(never)]
+    pub fn for_repr_c_struct(repr_align: u64, packing: u64, members: &[u8]) -> Told<7> {
+        told_at(composed(repr_align, packing, members).map(|whole| whole.pad_to_align()))
     }
 }

@@ -50,6 +50,9 @@ cast-decided = Grants.cast-decided 32
 pub cast-meets : (l : Layout) (side : Side) (addr len : ℕ) → l .align < 2 ^ 32 → 0 < 32 → Meets (castCauses 32 l side addr len) (Granted 32 (l .info) side len) (castFor 32 l side addr len)
 cast-meets = Grants.cast-meets 32
 
+pub cast-accepted : (l : Layout) (side : Side) (addr len : ℕ) → l .align < 2 ^ 32 → None (layoutCauses 32 l) → castFor 32 l side addr len ≡ unless (bytesCauses 32 l side addr len) (grantOf 32 (l .info) side len)
+cast-accepted = Grants.cast-accepted 32
+
 pub grant-fits : {a q : ℕ} (t : Trailing) (L m : ℕ) → IsWord (t .word) a q → t .word < 2 ^ 32 → GreatestBytes (t .base) (A 32 t) (p 32 t) L m → (t .base ≤ L) × ((down (m % t .elem) a ≤ down (L - t .base) a) × (t .base + (down (L - t .base) a - down (m % t .elem) a) ≤ L))
 grant-fits {a} {q} = Grants.grant-fits {a = a} {q = q} 32
 

@@ -8,9 +8,9 @@ use native.Mathlib.Nat.{div-add-mod', mod-le}
 use native.Mathlib.Omega.{arith}
 use Rattle.util.specs.Power.{PowerOfTwo}
 use Rattle.util.specs.Round.{up, down}
-use Rattle.util.specs.Refusal.{Outcome, answered, Tells, fails, None, Meets, Decided}
-use Rattle.util.proofs.Refusals.{known, granted, yes, told-true, tells-eq, tells-le, tells-lt, tells-not, tells-as, meets}
-use Rattle.util.proofs.Tables.{none-both, decided-both}
+use Rattle.util.specs.Refusal.{unless, Outcome, answered, Tells, fails, None, Meets, Decided}
+use Rattle.util.proofs.Refusals.{known, granted, yes, told-true, tells-eq, tells-le, tells-lt, tells-not, tells-as, meets, clear}
+use Rattle.util.proofs.Tables.{none-both, decided-both, accepted-first}
 use Rattle.util.proofs.Rounding.{down-multiple, down-le, difference-multiple, up-less, up-multiple}
 use Rattle.util.proofs.Powers.{positive}
 use Rattle.util.proofs.Helpers.{power}
@@ -111,6 +111,13 @@ cast-meets w l side addr len h f =
   where
     least : (w : ℕ) (i : Info) (len : ℕ) → 0 < w → (noWord i .means → ⊥) → (sizeIn w i 0 ≤ len → ⊥) → (n : ℕ) → IsCount i n → sizeIn w i n ≤ len → ⊥
     least w i len f nw g = yes (tells-small w i len f nw) (told-true (tells-lt len (sizeIn w i 0)) (omega (arith, g)))
+
+-- of a layout that is accepted only the bytes are left to refuse
+pub cast-accepted : (w : ℕ) (l : Layout) (side : Side) (addr len : ℕ) → l .align < 2 ^ w → None (layoutCauses w l)
+    → castFor w l side addr len ≡ unless (bytesCauses w l side addr len) (grantOf w (l .info) side len)
+unfolding castFor
+cast-accepted w l side addr len h n =
+    accepted-first {S = ℕ} (layoutCauses w l) (bytesCauses w l side addr len) 0 (grantOf w (l .info) side len) (clear (layoutCauses w l) (layout-decided w l h) n)
 
 -- the differences and the sum that the code makes of it do not wrap
 pub grant-fits : {a q : ℕ} (w : ℕ) (t : Trailing) (L m : ℕ) → IsWord (t .word) a q → t .word < 2 ^ w → GreatestBytes (t .base) (A w t) (p w t) L m

@@ -169,7 +169,7 @@ fn exact_elems(layout: DstLayout, size: u64) -> Answer
     requires { ⌜ (None (layoutCauses 64 (layoutOf layout))) × IsTrailing (layoutOf layout .info) ⌝ }
     ensures { λ r. ⌜ numberSays r ≡ unless (noExact 64 (layoutOf layout) size ∷ []) (countIn 64 (layoutOf layout .info) size) ⌝ }
 {
-    match validate_cast_and_convert_metadata(layout, 0, size, CastType::Prefix) {
+    match cast_checked(layout, 0, size, CastType::Prefix) {
         CastAnswer::Granted {
             elems,
             split_at: object_size,

@@ -12,7 +12,7 @@ use Rattle.layout.specs.declared.Check.{Check}
 use Rattle.layout.specs.declared.Check.the-variants as Check
 use Rattle.layout.specs.View.{checkSays}
 use Rattle.layout.specs.Layout.{Layout, layoutCauses, HeldIn, checkFor, fixed, Info, noWord}
-use mathlib.Core.Bool.{Bool, _||_, false}
+use mathlib.Core.Bool.{Bool, _||_, true, false}
 use Rattle.util.specs.Helpers.{alignCauses}
 use Rattle.layout.specs.Make.{asked, emptyLayout, newZstFor, typeCauses, typeLayout, typeFor, sliceLayout, sliceFor}
 use mathlib.Core.Logic.{_⊎_}
@@ -52,6 +52,12 @@ check-meets = Layouts.check-meets 32
 pub check-refused : {k : ℕ} (l : Layout) → l .align < 2 ^ 32 → refused k ≡ checkFor 32 l → (refused k ≡ checkFor 32 l) × Meets (layoutCauses 32 l) (λ (_ : Unit {0}). HeldIn 32 l) (refused k)
 check-refused {k} = Layouts.check-refused {k = k} 32
 
+pub fixed-accepted : (a s : ℕ) (mark : Bool) → powerOfTwo 32 a ≡ true → checkFor 32 (record { align = a; info = fixed s; mark = mark }) ≡ answered tt
+fixed-accepted = Layouts.fixed-accepted 32
+
+pub fixed-refused : (a s : ℕ) (mark : Bool) → powerOfTwo 32 a ≡ false → checkFor 32 (record { align = a; info = fixed s; mark = mark }) ≡ refused 1
+fixed-refused = Layouts.fixed-refused 32
+
 pub held-accepted : {l : Layout} (r : Check) → Meets (layoutCauses 32 l) (λ _. HeldIn 32 l) (checkSays r) → r ≡ Check.Accepted → HeldIn 32 l
 held-accepted {l} = Layouts.held-accepted {w = 32} {l = l}
 
@@ -84,6 +90,15 @@ extended-is = Steps.extended-is 32
 
 pub extend-meets : (l m : Layout) (packing : ℕ) → l .align < 2 ^ 32 → m .align < 2 ^ 32 → packing < 2 ^ 32 → Meets (extendCauses 32 l m packing) (Extended l m packing) (extendFor 32 l m packing)
 extend-meets = Steps.extend-meets 32
+
+pub extend-own : {k : ℕ} (l m : Layout) (packing : ℕ) → checkFor 32 l ≡ refused k → refused k ≡ extendFor 32 l m packing
+extend-own {k} = Steps.extend-own {k = k} 32
+
+pub extend-member : {k : ℕ} (l m : Layout) (packing : ℕ) → checkFor 32 l ≡ answered tt → checkFor 32 m ≡ refused k → refused k ≡ extendFor 32 l m packing
+extend-member {k} = Steps.extend-member {k = k} 32
+
+pub extend-step : (l m : Layout) (packing : ℕ) → checkFor 32 l ≡ answered tt → checkFor 32 m ≡ answered tt → unless (stepCauses 32 l m packing) (extended l m packing) ≡ extendFor 32 l m packing
+extend-step = Steps.extend-step 32
 
 pub step-past : (k s : ℕ) (mark : Bool) (m : Layout) (packing : ℕ) → M 32 < up s (memberAlign (m .align) packing) → refused 8 ≡ unless (placeCauses 32 (record { align = k; info = fixed s; mark = mark }) m packing) (extended (record { align = k; info = fixed s; mark = mark }) m packing)
 step-past = Steps.step-past 32

@@ -1,7 +1,9 @@
 -- Layouts, over any width w. Assumes nothing.
 use mathlib.Core.Path.{_≡_, sym, subst}
+use mathlib.Core.Bool.{Bool, true, false}
 use Prim.Native.Nat.{ℕ, _^_, _<_}
-use Rattle.util.specs.Refusal.{Outcome, refused, Tells, fails, Meets, refuses, Decided}
+use Rattle.util.specs.Power.{powerOfTwo}
+use Rattle.util.specs.Refusal.{Outcome, answered, refused, unless, Tells, fails, Meets, refuses, Decided}
 use Rattle.util.proofs.Refusals.{tells-eq, meets, granted, stopped}
 use Rattle.util.proofs.Helpers.{align-decided}
 use Rattle.layout.specs.declared.Check.{Check}
@@ -32,3 +34,12 @@ check-refused {k} w l h e = (e, refuses (stopped m))
 -- the numbers of a layout that passed its check are held
 pub held-accepted : {w : ℕ} {l : Layout} (r : Check) → Meets (layoutCauses w l) (λ _. HeldIn w l) (checkSays r) → r ≡ Check.Accepted → HeldIn w l
 held-accepted {w} {l} r m e = granted (subst (λ (x : Check). Meets (layoutCauses w l) (λ _. HeldIn w l) (checkSays x)) e m) .1
+
+-- a fixed layout is accepted exactly when its alignment is a power of two
+pub fixed-accepted : (w a s : ℕ) (mark : Bool) → powerOfTwo w a ≡ true → checkFor w (record { align = a; info = fixed s; mark = mark }) ≡ answered tt
+unfolding checkFor unless
+fixed-accepted w a s mark e = simp e
+
+pub fixed-refused : (w a s : ℕ) (mark : Bool) → powerOfTwo w a ≡ false → checkFor w (record { align = a; info = fixed s; mark = mark }) ≡ refused 1
+unfolding checkFor unless
+fixed-refused w a s mark e = simp e

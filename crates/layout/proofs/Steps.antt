@@ -1,5 +1,5 @@
 -- The member step, at any width w. Assumes nothing.
-use mathlib.Core.Path.{_≡_, refl, sym, subst}
+use mathlib.Core.Path.{_≡_, refl, sym, _∙_, subst}
 use mathlib.Core.Bool.{Bool, true, false, cond, _||_}
 use mathlib.Core.List.{[], _∷_, _++_}
 use mathlib.Core.Logic.{_⊎_, inl, inr}
@@ -11,15 +11,15 @@ use borrow.Author.Tests.{leb-true, leb-false, le-ltb, lt-ltb}
 use Rattle.util.specs.Width.{M}
 use Rattle.util.specs.Power.{PowerOfTwo, powerOfTwo}
 use Rattle.util.specs.Round.{up}
-use Rattle.util.specs.Refusal.{Outcome, refused, unless, Tells, holds, fails, None, Meets, Decided}
+use Rattle.util.specs.Refusal.{Outcome, answered, refused, unless, Tells, holds, fails, None, Meets, Decided}
 use Rattle.util.specs.Helpers.{Larger, alignsCauses}
 use Rattle.util.proofs.Refusals.{tells-eq, tells-lt, tells-not, tells-and, tells-or, meets, granted}
 use Rattle.util.proofs.Powers.{positive, tells-power}
 use Rattle.util.proofs.Rounding.{up-multiple, up-ge, up-least}
 use Rattle.util.proofs.Helpers.{power, max-meets, max-answered}
-use Rattle.layout.specs.Layout.{Info, fixed, trailing, Layout, layoutCauses}
+use Rattle.layout.specs.Layout.{Info, fixed, trailing, Layout, layoutCauses, checkFor}
 use Rattle.layout.specs.Extend.{memberAlign, placeOf, extended, badPacking, greatestAlign, IsTrailing, isTrailing, Passes9, passes9, memberPasses, placeCauses, stepCauses, extendCauses, extendFor, LeastPlace, Extended}
-use Rattle.util.proofs.Tables.{decided-both, none-both}
+use Rattle.util.proofs.Tables.{decided-both, none-both, refused-first, accepted-first}
 use Rattle.layout.proofs.Layouts.{layout-decided}
 
 -- what is not refuted holds, where a test decides it
@@ -66,7 +66,7 @@ member-le a packing = go (eqb packing 0)
     go false = min-le-left a packing
 
 -- the tests of the step decide what they say
-tells-trailing : (i : Info) → Tells (IsTrailing i) (isTrailing i)
+pub tells-trailing : (i : Info) → Tells (IsTrailing i) (isTrailing i)
 tells-trailing (fixed s) = fails (λ x. x)
 tells-trailing (trailing t) = holds tt
 
@@ -139,6 +139,24 @@ extend-meets w l m packing hl hm hp =
     let x = none-both (layoutCauses w l) (layoutCauses w m ++ stepCauses w l m packing) n in
     let y = none-both (layoutCauses w m) (stepCauses w l m packing) (x .1) in
     extended-is w l m packing hl hm hp (x .0) (y .0) (y .1))
+
+-- the step by what the checks of the two layouts say
+pub extend-own : {k : ℕ} (w : ℕ) (l m : Layout) (packing : ℕ) → checkFor w l ≡ refused k → refused k ≡ extendFor w l m packing
+unfolding extendFor checkFor
+extend-own w l m packing e = sym (refused-first (layoutCauses w l) (layoutCauses w m ++ stepCauses w l m packing) tt (extended l m packing) e)
+
+pub extend-member : {k : ℕ} (w : ℕ) (l m : Layout) (packing : ℕ) → checkFor w l ≡ answered tt → checkFor w m ≡ refused k → refused k ≡ extendFor w l m packing
+unfolding extendFor checkFor
+extend-member w l m packing e f =
+    sym (accepted-first (layoutCauses w l) (layoutCauses w m ++ stepCauses w l m packing) tt (extended l m packing) e
+    ∙ refused-first (layoutCauses w m) (stepCauses w l m packing) tt (extended l m packing) f)
+
+pub extend-step : (w : ℕ) (l m : Layout) (packing : ℕ) → checkFor w l ≡ answered tt → checkFor w m ≡ answered tt
+    → unless (stepCauses w l m packing) (extended l m packing) ≡ extendFor w l m packing
+unfolding extendFor checkFor
+extend-step w l m packing e f =
+    sym (accepted-first (layoutCauses w l) (layoutCauses w m ++ stepCauses w l m packing) tt (extended l m packing) e
+    ∙ accepted-first (layoutCauses w m) (stepCauses w l m packing) tt (extended l m packing) f)
 
 -- the step after a fixed layout: it is refused by 8, or the rest goes by the place
 pub step-past : (w k s : ℕ) (mark : Bool) (m : Layout) (packing : ℕ) → M w < up s (memberAlign (m .align) packing)

@@ -5,6 +5,7 @@ use Rattle.layout.specs.Layout.{Info, fixed, trailing, Layout}
 use Rattle.layout.specs.declared.SizeInfo.{SizeInfo}
 use Rattle.layout.specs.declared.SizeInfo.the-variants.{Sized, SliceDst}
 use Rattle.layout.specs.declared.DstLayout.{DstLayout}
+use Rattle.layout.specs.declared.SizedLayout.{SizedLayout}
 use Rattle.layout.specs.declared.LayoutAnswer.{LayoutAnswer}
 use Rattle.layout.specs.declared.LayoutAnswer.the-variants as Answer
 use Rattle.layout.specs.declared.SizeInfoAnswer.{SizeInfoAnswer}
@@ -18,6 +19,9 @@ infoOf (SliceDst t) = trailing (trailingOf t)
 
 abbrev pub layoutOf : DstLayout → Layout
 layoutOf l = record { align = l .align; info = infoOf (l .«size_info»); mark = l .«statically_shallow_unpadded» }
+
+abbrev pub sizedOf : SizedLayout → Layout
+sizedOf l = record { align = l .align; info = fixed (l .size); mark = l .«statically_shallow_unpadded» }
 
 abbrev pub layoutSays : LayoutAnswer → Outcome Layout
 layoutSays (Answer.Layout l) = answered (layoutOf l)

@@ -6,16 +6,16 @@ ghost use Prim.Native.Nat.{ℕ, _%_, _<_, max};
 ghost use lib.Dec.{eqb};
 ghost use Rattle.util.specs.Power.{PowerOfTwo};
 ghost use Rattle.util.specs.Round.{up};
-ghost use Rattle.util.specs.Refusal.{answered, unless, None, Meets, Tells};
+ghost use Rattle.util.specs.Refusal.{answered, refused, unless, None, Meets, Tells};
 ghost use Rattle.util.specs.Helpers.{alignCauses};
 ghost use Rattle.util.specs.View.{numberSays, decisionSays};
 ghost use Rattle.rounding.specs.Word.{IsWord, alignOf};
 ghost use Rattle.trailing.specs.View.{trailingOf};
 ghost use Rattle.layout.specs.Layout.{trailing, noWord, layoutCauses, checkFor, HeldIn};
 ghost use Rattle.layout.specs.Make.{asked, emptyLayout, newZstFor, typeCauses, typeLayout, typeFor, sliceLayout, sliceFor};
-ghost use Rattle.layout.specs.Extend.{memberAlign, placedAt, extended, badPacking, aboveGreatest, passes8, memberPasses, placeCauses, stepCauses, extendCauses, extendFor, Extended};
+ghost use Rattle.layout.specs.Extend.{memberAlign, placedAt, extended, badPacking, aboveGreatest, passes8, memberPasses, placeCauses, stepCauses, extendCauses, extendFor, Extended, IsTrailing};
 ghost use Rattle.layout.specs.Pad.{fixedPart, coarser, finer, paddedTail, paddedInfo, paddedMark, padded, paddingNeeds, padCauses, padFor, Padded, staticFor, DynamicPadding, dynamicPadding, dynamicFor};
-ghost use Rattle.layout.specs.View.{infoOf, layoutOf, layoutSays, infoSays, checkSays};
+ghost use Rattle.layout.specs.View.{infoOf, layoutOf, sizedOf, layoutSays, infoSays, checkSays};
 use rounding::ComponentsAnswer;
 use rounding::RoundingAlignAndPhase;
 use trailing::SizeAnswer;
@@ -34,6 +34,13 @@ pub struct DstLayout {
     pub align: u64,
     pub size_info: SizeInfo,
     // No padding is known between the members.
+    pub statically_shallow_unpadded: bool,
+}
+
+// A layout with a size: no member of it is trailing.
+pub struct SizedLayout {
+    pub align: u64,
+    pub size: u64,
     pub statically_shallow_unpadded: bool,
 }
 
@@ -199,6 +206,73 @@ fn step_mark(unpadded: bool, field_unpadded: bool, preceding_size: u64, place: u
         }
     } else {
         false
+    }
+}
+
+fn extend_at(own: SizedLayout, field: DstLayout, field_align: u64, place: u64) -> LayoutAnswer
+    requires { ⌜ PowerOfTwo (own .align) × PowerOfTwo «field_align» ⌝ }
+    ensures { λ r. ⌜ layoutSays r ≡ unless (memberPasses 64 place (infoOf (field .«size_info»)) ∷ []) (record { align = max (own .align) «field_align»; info = placedAt place (infoOf (field .«size_info»)); mark = own .«statically_shallow_unpadded» && (field .«statically_shallow_unpadded» && eqb place (own .size)) }) ⌝ }
+{
+    let field_info = field.size_info;
+    let unpadded = step_mark(
+        own.statically_shallow_unpadded,
+        field.statically_shallow_unpadded,
+        own.size,
+        place,
+    );
+    match place_member(field_info, place) {
+        SizeInfoAnswer::Info(size_info) => match util::max(own.align, field_align) {
+            Answer::Number(align) => LayoutAnswer::Layout(DstLayout {
+                align,
+                size_info,
+                statically_shallow_unpadded: unpadded,
+            }),
+            Answer::Refused(number) => LayoutAnswer::Refused(number),
+        },
+        SizeInfoAnswer::Refused(number) => LayoutAnswer::Refused(number),
+    }
+}
+
+// The step where the member's alignment is field_align, which is its own lowered by the packing.
+fn extend_aligned(own: SizedLayout, field: DstLayout, field_align: u64) -> LayoutAnswer
+    requires { ⌜ PowerOfTwo (own .align) × PowerOfTwo «field_align» ⌝ }
+    ensures { λ r. ⌜ ((packing : ℕ) → «field_align» ≡ memberAlign (field .align) packing → layoutSays r ≡ unless (placeCauses 64 (sizedOf own) (layoutOf field) packing) (extended (sizedOf own) (layoutOf field) packing)) ⌝ }
+{
+    match round_up(own.size, field_align) {
+        Answer::Number(place) => extend_at(own, field, field_align, place),
+        Answer::Refused(number) => LayoutAnswer::Refused(number),
+    }
+}
+
+// The step of two layouts that are accepted.
+fn extend_checked(own: SizedLayout, field: DstLayout, repr_packed: u64) -> LayoutAnswer
+    requires { ⌜ PowerOfTwo (own .align) × PowerOfTwo (field .align) ⌝ }
+    ensures { λ r. ⌜ layoutSays r ≡ unless (stepCauses 64 (sizedOf own) (layoutOf field) «repr_packed») (extended (sizedOf own) (layoutOf field) «repr_packed») ⌝ }
+{
+    if bad_packing(repr_packed) {
+        return LayoutAnswer::Refused(refusal::PACKING_NOT_POWER_OF_TWO);
+    }
+    if above_max(own.align, field.align, repr_packed) {
+        return LayoutAnswer::Refused(refusal::ALIGN_ABOVE_MAX);
+    }
+    match packed_align(field.align, repr_packed) {
+        Answer::Number(field_align) => extend_aligned(own, field, field_align),
+        Answer::Refused(number) => LayoutAnswer::Refused(number),
+    }
+}
+
+// `extend` of a layout with a size: a composition keeps its three words at hand, where a whole layout would go by memory.
+pub fn extend_sized(own: SizedLayout, field: DstLayout, repr_packed: u64) -> LayoutAnswer
+    ensures answer { λ r. ⌜ layoutSays r ≡ extendFor 64 (sizedOf own) (layoutOf field) «repr_packed» ⌝ }
+    ensures meaning { λ r. ⌜ Meets (extendCauses 64 (sizedOf own) (layoutOf field) «repr_packed») (Extended (sizedOf own) (layoutOf field) «repr_packed») (layoutSays r) ⌝ }
+{
+    if util::is_power_of_two(own.align) {
+        match field.check() {
+            Check::Accepted => extend_checked(own, field, repr_packed),
+            Check::Refused(number) => LayoutAnswer::Refused(number),
+        }
+    } else {
+        LayoutAnswer::Refused(refusal::ALIGN_NOT_POWER_OF_TWO)
     }
 }
 
@@ -416,67 +490,25 @@ impl DstLayout {
         }
     }
 
-    fn extend_at(
-        self,
-        field: DstLayout,
-        field_align: u64,
-        preceding_size: u64,
-        place: u64,
-    ) -> LayoutAnswer
-        requires { ⌜ PowerOfTwo (self .align) × PowerOfTwo «field_align» ⌝ }
-        ensures { λ r. ⌜ layoutSays r ≡ unless (memberPasses 64 place (infoOf (field .«size_info»)) ∷ []) (record { align = max (self .align) «field_align»; info = placedAt place (infoOf (field .«size_info»)); mark = self .«statically_shallow_unpadded» && (field .«statically_shallow_unpadded» && eqb place «preceding_size») }) ⌝ }
+    // The refusal of a member after a trailing part: 7, where none comes before it.
+    fn after_trailing(self, field: DstLayout, repr_packed: u64) -> u64
+        requires { ⌜ IsTrailing (infoOf (self .«size_info»)) ⌝ }
+        ensures { λ r. ⌜ refused r ≡ extendFor 64 (layoutOf self) (layoutOf field) «repr_packed» ⌝ }
     {
-        let field_info = field.size_info;
-        let unpadded = step_mark(
-            self.statically_shallow_unpadded,
-            field.statically_shallow_unpadded,
-            preceding_size,
-            place,
-        );
-        match place_member(field_info, place) {
-            SizeInfoAnswer::Info(size_info) => match util::max(self.align, field_align) {
-                Answer::Number(align) => LayoutAnswer::Layout(DstLayout {
-                    align,
-                    size_info,
-                    statically_shallow_unpadded: unpadded,
-                }),
-                Answer::Refused(number) => LayoutAnswer::Refused(number),
+        match self.check() {
+            Check::Accepted => match field.check() {
+                Check::Accepted => {
+                    if bad_packing(repr_packed) {
+                        return refusal::PACKING_NOT_POWER_OF_TWO;
+                    }
+                    if above_max(self.align, field.align, repr_packed) {
+                        return refusal::ALIGN_ABOVE_MAX;
+                    }
+                    refusal::MEMBER_AFTER_TRAILING
+                }
+                Check::Refused(number) => number,
             },
-            SizeInfoAnswer::Refused(number) => LayoutAnswer::Refused(number),
-        }
-    }
-
-    // The step where the member's alignment is field_align, which is its own lowered by the packing.
-    fn extend_aligned(self, field: DstLayout, field_align: u64) -> LayoutAnswer
-        requires { ⌜ PowerOfTwo (self .align) × PowerOfTwo «field_align» ⌝ }
-        ensures { λ r. ⌜ ((packing : ℕ) → «field_align» ≡ memberAlign (field .align) packing → layoutSays r ≡ unless (placeCauses 64 (layoutOf self) (layoutOf field) packing) (extended (layoutOf self) (layoutOf field) packing)) ⌝ }
-    {
-        let size_info = self.size_info;
-        match size_info {
-            SizeInfo::Sized {
-                size: preceding_size,
-            } => match round_up(preceding_size, field_align) {
-                Answer::Number(place) => self.extend_at(field, field_align, preceding_size, place),
-                Answer::Refused(number) => LayoutAnswer::Refused(number),
-            },
-            SizeInfo::SliceDst(_) => LayoutAnswer::Refused(refusal::MEMBER_AFTER_TRAILING),
-        }
-    }
-
-    // The step of two layouts that are accepted.
-    fn extend_checked(self, field: DstLayout, repr_packed: u64) -> LayoutAnswer
-        requires { ⌜ PowerOfTwo (self .align) × PowerOfTwo (field .align) ⌝ }
-        ensures { λ r. ⌜ layoutSays r ≡ unless (stepCauses 64 (layoutOf self) (layoutOf field) «repr_packed») (extended (layoutOf self) (layoutOf field) «repr_packed») ⌝ }
-    {
-        if bad_packing(repr_packed) {
-            return LayoutAnswer::Refused(refusal::PACKING_NOT_POWER_OF_TWO);
-        }
-        if above_max(self.align, field.align, repr_packed) {
-            return LayoutAnswer::Refused(refusal::ALIGN_ABOVE_MAX);
-        }
-        match packed_align(field.align, repr_packed) {
-            Answer::Number(field_align) => self.extend_aligned(field, field_align),
-            Answer::Refused(number) => LayoutAnswer::Refused(number),
+            Check::Refused(number) => number,
         }
     }
 
@@ -485,12 +517,18 @@ impl DstLayout {
         ensures answer { λ r. ⌜ layoutSays r ≡ extendFor 64 (layoutOf self) (layoutOf field) «repr_packed» ⌝ }
         ensures meaning { λ r. ⌜ Meets (extendCauses 64 (layoutOf self) (layoutOf field) «repr_packed») (Extended (layoutOf self) (layoutOf field) «repr_packed») (layoutSays r) ⌝ }
     {
-        match self.check() {
-            Check::Accepted => match field.check() {
-                Check::Accepted => self.extend_checked(field, repr_packed),
-                Check::Refused(number) => LayoutAnswer::Refused(number),
-            },
-            Check::Refused(number) => LayoutAnswer::Refused(number),
+        let size_info = self.size_info;
+        match size_info {
+            SizeInfo::Sized { size } => extend_sized(
+                SizedLayout {
+                    align: self.align,
+                    size,
+                    statically_shallow_unpadded: self.statically_shallow_unpadded,
+                },
+                field,
+                repr_packed,
+            ),
+            SizeInfo::SliceDst(_) => LayoutAnswer::Refused(self.after_trailing(field, repr_packed)),
         }
     }
 

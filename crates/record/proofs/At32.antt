@@ -73,6 +73,9 @@ begun = Compositions.begun 32
 pub ended : (p n i : ℕ) (s : List ℕ) (l : Layout) → n ≤ i → addMembers 32 p i l (membersOf 32 (n - i) s) ≡ composed l
 ended = Compositions.ended 32
 
+pub empty-sized : (a : ℕ) {l : Layout} → newZstFor 32 a ≡ answered l → newZstFor 32 a ≡ answered (record { align = l .align; info = fixed 0; mark = true })
+empty-sized a {l} = Compositions.empty-sized 32 a {l = l}
+
 pub compose-on : (a p : ℕ) (s : List ℕ) {l : Layout} → length s % 48 ≡ 0 → newZstFor 32 a ≡ answered l → composeFor 32 a p s ≡ addMembers 32 p 0 l (membersOf 32 (length s / 48) s)
 compose-on a p s {l} = Compositions.compose-on 32 a p s {l = l}
 

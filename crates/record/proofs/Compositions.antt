@@ -9,8 +9,10 @@ use lib.Dec.{eqb}
 use lib.ListN.{length, take, drop, length-drop}
 use lib.Seq.{take-take, drop-drop, length-take-le}
 use Rattle.util.specs.Refusal.{answered, refused}
-use Rattle.layout.specs.Layout.{Layout}
-use Rattle.layout.specs.Make.{newZstFor}
+use Rattle.util.specs.Helpers.{alignCauses}
+use Rattle.util.proofs.Tables.{answer-is}
+use Rattle.layout.specs.Layout.{fixed, Layout}
+use Rattle.layout.specs.Make.{asked, emptyLayout, newZstFor}
 use Rattle.layout.specs.Pad.{padFor}
 use Rattle.record.specs.Bytes.{valueOf, wordAt}
 use Rattle.record.specs.Record.{wordsAt, wordsFor, decodeFor}
@@ -69,6 +71,13 @@ begun w p n s l = let e : n - 0 ≡ n = omega arith in rw e
 pub ended : (w p n i : ℕ) (s : List ℕ) (l : Layout) → n ≤ i → addMembers w p i l (membersOf w (n - i) s) ≡ composed l
 unfolding addMembers membersOf
 ended w p n i s l h = let e : n - i ≡ 0 = omega arith in rw e
+
+-- the empty layout has size 0 and the mark
+pub empty-sized : (w a : ℕ) {l : Layout} → newZstFor w a ≡ answered l → newZstFor w a ≡ answered (record { align = l .align; info = fixed 0; mark = true })
+unfolding newZstFor
+empty-sized w a e =
+    let q = answer-is (alignCauses w (asked a)) (emptyLayout a) e in
+    e ∙ ap answered (q ∙ sym (ap (λ (n : ℕ). record { align = n; info = fixed 0; mark = true }) (ap (λ (x : Layout). x .align) q)))
 
 -- a list of whole records composes to what its members do, onto the empty layout
 pub compose-on : (w a p : ℕ) (s : List ℕ) {l : Layout} → length s % 48 ≡ 0 → newZstFor w a ≡ answered l

@@ -31,7 +31,7 @@ value-none s i = refl
 pub joined-word : (s : List ℕ) (i : ℕ) {a b c d e f g h : ℕ} → i + 8 ≤ length s
     → a ≡ getD s i 0 → b ≡ getD s (i + 1) 0 → c ≡ getD s (i + 2) 0 → d ≡ getD s (i + 3) 0
     → e ≡ getD s (i + 4) 0 → f ≡ getD s (i + 5) 0 → g ≡ getD s (i + 6) 0 → h ≡ getD s (i + 7) 0
-    → a + 256 * (b + 256 * (c + 256 * (d + 256 * (e + 256 * (f + 256 * (g + 256 * h)))))) ≡ wordAt s i
+    → a + 256 * b + 256 ^ 2 * c + 256 ^ 3 * d + 256 ^ 4 * e + 256 ^ 5 * f + 256 ^ 6 * g + 256 ^ 7 * h ≡ wordAt s i
 joined-word s i l ea eb ec ed ee ef eg eh =
     rw (value-step s 7 i (i + 1) (omega arith) (omega arith), value-step s 6 (i + 1) (i + 2) (omega arith) (omega arith), value-step s 5 (i + 2) (i + 3) (omega arith) (omega arith), value-step s 4 (i + 3) (i + 4) (omega arith) (omega arith), value-step s 3 (i + 4) (i + 5) (omega arith) (omega arith), value-step s 2 (i + 5) (i + 6) (omega arith) (omega arith), value-step s 1 (i + 6) (i + 7) (omega arith) (omega arith), value-step s 0 (i + 7) (i + 8) (omega arith) (omega arith), value-none s (i + 8))
     (omega arith)

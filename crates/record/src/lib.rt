@@ -2,16 +2,16 @@
 ghost use mathlib.Core.Path.{_≡_};
 ghost use mathlib.Core.List.{[], _∷_};
 ghost use mathlib.Core.Bool.{cond, _&&_};
-ghost use Prim.Native.Nat.{_+_, _/_, _^_, _≤_, _<_};
+ghost use Prim.Native.Nat.{_+_, _-_, _*_, _/_, _^_, _≤_, _<_};
 ghost use lib.Dec.{eqb};
-ghost use lib.ListN.{length, getD};
+ghost use lib.ListN.{length, getD, drop};
 ghost use lib.Seq.{sets};
 ghost use Rattle.util.specs.Refusal.{unless, Meets};
 ghost use Rattle.util.specs.Helpers.{badAlign};
 ghost use Rattle.rounding.specs.Word.{wordZero};
 ghost use Rattle.layout.specs.Layout.{fixed, trailing};
 ghost use Rattle.layout.specs.Pad.{padFor};
-ghost use Rattle.layout.specs.View.{layoutOf, layoutSays};
+ghost use Rattle.layout.specs.View.{layoutOf, sizedOf, layoutSays};
 ghost use Rattle.record.specs.Bytes.{wordAt, wordBytes};
 ghost use Rattle.record.specs.Record.{wordsAt, recordBytes, wordsOf, laterWord, wordsCauses, recordCauses, wordsFor, decodeFor, Decodes, encodeFor, encodedInto};
 ghost use Rattle.record.specs.Scalar.{target64, scalarCauses, scalarLayout, scalarFor};
@@ -21,6 +21,7 @@ use layout::Check;
 use layout::DstLayout;
 use layout::LayoutAnswer;
 use layout::SizeInfo;
+use layout::SizedLayout;
 use rounding::RoundingAlignAndPhase;
 use trailing::TrailingSliceLayout;
 use util::refusal;
@@ -198,7 +199,8 @@ fn wide(x: u8) -> u64
     x as u64
 }
 
-// The little-endian word at at. The compiler makes one load of this.
+// The little-endian word at at. The compiler makes one load of this, and early, which a sum of nested products would not let
+// it: so a record is read in place where it is asked for.
 fn read_word(s: &[u8], at: usize) -> u64
     requires { ⌜ at + 8 ≤ length (now s) ⌝ }
     ensures { λ r. ⌜ r ≡ wordAt (now (s .entry)) at ⌝ }
@@ -211,7 +213,29 @@ fn read_word(s: &[u8], at: usize) -> u64
     let f = wide(s[at + 5]);
     let g = wide(s[at + 6]);
     let h = wide(s[at + 7]);
-    a + 256 * (b + 256 * (c + 256 * (d + 256 * (e + 256 * (f + 256 * (g + 256 * h))))))
+    a
+        + 0x100 * b
+        + 0x1_0000 * c
+        + 0x100_0000 * d
+        + 0x1_0000_0000 * e
+        + 0x100_0000_0000 * f
+        + 0x1_0000_0000_0000 * g
+        + 0x100_0000_0000_0000 * h
+}
+
+// The six words of the record that begins at at.
+fn read_words(s: &[u8], at: usize) -> Words
+    requires { ⌜ at + 48 ≤ length (now s) ⌝ }
+    ensures { λ r. ⌜ wordsIn r ≡ wordsAt (now (s .entry)) at ⌝ }
+{
+    Words {
+        align: read_word(s, at),
+        kind: read_word(s, at + 8),
+        size: read_word(s, at + 16),
+        offset: read_word(s, at + 24),
+        elem_size: read_word(s, at + 32),
+        word: read_word(s, at + 40),
+    }
 }
 
 // The record that begins at at.
@@ -220,13 +244,8 @@ fn record_at(s: &[u8], at: usize) -> LayoutAnswer
     ensures answer { λ r. ⌜ layoutSays r ≡ wordsFor 64 (wordsAt (now (s .entry)) at) ⌝ }
     ensures held { λ r. ⌜ wordAt (now (s .entry)) at < 2 ^ 64 ⌝ }
 {
-    let align = read_word(s, at);
-    let kind = read_word(s, at + 8);
-    let size = read_word(s, at + 16);
-    let offset = read_word(s, at + 24);
-    let elem_size = read_word(s, at + 32);
-    let word = read_word(s, at + 40);
-    layout_from_words(align, kind, size, offset, elem_size, word)
+    let w = read_words(s, at);
+    layout_from_words(w.align, w.kind, w.size, w.offset, w.elem_size, w.word)
 }
 
 // The layout of a record.
@@ -332,17 +351,65 @@ fn member_step(l: DstLayout, repr_packed: u64, members: &[u8], at: usize) -> Lay
     }
 }
 
-// Each member in turn at the end of the layout.
-fn add_members(start: DstLayout, repr_packed: u64, members: &[u8]) -> ComposeAnswer
-    ensures { λ r. ⌜ composeSays r ≡ addMembers 64 «repr_packed» 0 (layoutOf start) (membersOf 64 (length (now (members .entry)) / 48) (now (members .entry))) ⌝ }
+// The same of a layout with a size.
+fn sized_step(own: SizedLayout, repr_packed: u64, members: &[u8], at: usize) -> LayoutAnswer
+    requires { ⌜ at + 48 ≤ length (now members) ⌝ }
+    ensures { λ r. ⌜ layoutSays r ≡ memberStep 64 «repr_packed» (sizedOf own) (wordsFor 64 (wordsAt (now (members .entry)) at)) ⌝ }
+{
+    match record_at(members, at) {
+        LayoutAnswer::Layout(member) => layout::extend_sized(own, member, repr_packed),
+        LayoutAnswer::Refused(number) => LayoutAnswer::Refused(number),
+    }
+}
+
+// Each member in turn from the one at from on, at the end of the layout.
+fn add_members(start: DstLayout, repr_packed: u64, members: &[u8], from: usize) -> ComposeAnswer
+    ensures { λ r. ⌜ composeSays r ≡ addMembers 64 «repr_packed» from (layoutOf start) (membersOf 64 (length (now (members .entry)) / 48 - from) (drop (from * 48) (now (members .entry)))) ⌝ }
 {
     let count = members.len() / RECORD_BYTES;
     let mut l = start;
-    let mut i = 0;
-    while i < count {
-        match member_step(l, repr_packed, members, i * RECORD_BYTES) {
+    let mut place = from;
+    while place < count {
+        match member_step(l, repr_packed, members, place * RECORD_BYTES) {
             LayoutAnswer::Layout(next) => {
                 l = next;
+            }
+            LayoutAnswer::Refused(number) => {
+                return ComposeAnswer::Refused {
+                    number,
+                    place: place as u64,
+                };
+            }
+        }
+        place += 1;
+    }
+    ComposeAnswer::Layout(l)
+}
+
+// Each member in turn at the end of a layout with a size. A member that makes it trailing leaves this loop, which then need
+// carry no more than the size.
+fn add_to_sized(start: SizedLayout, repr_packed: u64, members: &[u8]) -> ComposeAnswer
+    ensures { λ r. ⌜ composeSays r ≡ addMembers 64 «repr_packed» 0 (sizedOf start) (membersOf 64 (length (now (members .entry)) / 48) (now (members .entry))) ⌝ }
+{
+    let count = members.len() / RECORD_BYTES;
+    let mut own = start;
+    let mut i = 0;
+    while i < count {
+        match sized_step(own, repr_packed, members, i * RECORD_BYTES) {
+            LayoutAnswer::Layout(next) => {
+                let size_info = next.size_info;
+                match size_info {
+                    SizeInfo::Sized { size } => {
+                        own = SizedLayout {
+                            align: next.align,
+                            size,
+                            statically_shallow_unpadded: next.statically_shallow_unpadded,
+                        };
+                    }
+                    SizeInfo::SliceDst(_) => {
+                        return add_members(next, repr_packed, members, i + 1);
+                    }
+                }
             }
             LayoutAnswer::Refused(number) => {
                 return ComposeAnswer::Refused {
@@ -353,7 +420,11 @@ fn add_members(start: DstLayout, repr_packed: u64, members: &[u8]) -> ComposeAns
         }
         i += 1;
     }
-    ComposeAnswer::Layout(l)
+    ComposeAnswer::Layout(DstLayout {
+        align: own.align,
+        size_info: SizeInfo::Sized { size: own.size },
+        statically_shallow_unpadded: own.statically_shallow_unpadded,
+    })
 }
 
 // The members of a list one after the other, without padding after the last.
@@ -362,7 +433,15 @@ pub fn compose(repr_align: u64, repr_packed: u64, members: &[u8]) -> ComposeAnsw
 {
     if members.len() % RECORD_BYTES == 0 {
         match DstLayout::new_zst(repr_align) {
-            LayoutAnswer::Layout(empty) => add_members(empty, repr_packed, members),
+            LayoutAnswer::Layout(empty) => add_to_sized(
+                SizedLayout {
+                    align: empty.align,
+                    size: 0,
+                    statically_shallow_unpadded: true,
+                },
+                repr_packed,
+                members,
+            ),
             LayoutAnswer::Refused(number) => ComposeAnswer::Refused { number, place: 0 },
         }
     } else {

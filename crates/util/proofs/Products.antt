@@ -1,12 +1,13 @@
 -- Products of numbers of w bits. Assumes nothing.
-use mathlib.Core.Path.{_≡_, sym, ap, _∙_}
+use mathlib.Core.Path.{_≡_, sym, ap, subst, _∙_}
 use Prim.Native.Nat.{ℕ, _+_, _-_, _*_, _/_, _%_, _^_, _≤_, _<_}
 use lib.Bits.{bitAnd, and-mask, mask-lt}
 use lib.Pow.{pow-add, shl-lt, split}
 use borrow.Author.Tests.{le-leb, lt-leb}
-use native.Mathlib.Nat.{le-of-lt, lt-of-le-of-lt, mul-le-mul-left, mul-add-mod-self-right, div-add-mod', add-mod-mod, le-div-iff-mul-le, div-lt-iff-lt-mul}
+use native.Mathlib.Nat.{le-of-lt, lt-of-le-of-lt, mul-le-mul-left, mul-add-mod-self-right, div-add-mod', add-mod-mod, mod-lt, mod-eq-of-lt, div-mul-le-self, mul-div-cancel}
 use native.Mathlib.Omega.{arith}
 use Rattle.util.specs.Width.{M, held, passes, heldIn}
+use Rattle.util.proofs.Refusals.{known, tells-le}
 
 -- a number of s bits times one of t bits has at most s + t bits
 pub mul-lt-pow : {a b : ℕ} (s t : ℕ) → a < 2 ^ s → b < 2 ^ t → a * b < 2 ^ (s + t)
@@ -19,12 +20,18 @@ held-within w x h = simp (le-leb x (M w) h)
 pub held-past : (w x : ℕ) → M w < x → heldIn w x ≡ passes
 held-past w x h = simp (lt-leb x (M w) h)
 
--- the test of a product by a quotient: M / b is below a exactly where a * b is above M
-pub quotient-within : (m a b : ℕ) → 0 < b → a ≤ m / b → a * b ≤ m
-quotient-within m a b p h = le-div-iff-mul-le p .0 h
+-- a number of w bits is what is left of it when it wraps
+pub held-wrapped : (w x y : ℕ) → y ≡ x % 2 ^ w → x < 2 ^ w → held y ≡ heldIn w x
+held-wrapped w x y e h = ap held (e ∙ mod-eq-of-lt h) ∙ sym (held-within w x (omega arith))
 
-pub quotient-past : (m a b : ℕ) → 0 < b → m / b < a → m < a * b
-quotient-past m a b p h = div-lt-iff-lt-mul p .0 h
+-- a product that wraps at n, divided by one factor: it gives the other exactly where a * b is below n
+pub product-within : (n a b : ℕ) → 0 < n → a * b % n / b ≡ a → a * b < n
+product-within n a b p e =
+    let l : a * b ≤ a * b % n = subst (λ (x : ℕ). x * b ≤ a * b % n) e (div-mul-le-self (a * b % n) b) in
+    omega (arith, mod-lt (a * b) p)
+
+pub product-past : (n a b : ℕ) → 0 < b → (a * b % n / b ≡ a → ⊥) → n ≤ a * b
+product-past n a b p g = known (tells-le n (a * b)) (λ f. g (ap (λ (x : ℕ). x / b) (mod-eq-of-lt (omega (arith, f))) ∙ mul-div-cancel a p))
 
 -- a product modulo 2 ^ (h + h) by halves of h bits: the low halves' product, and the cross products' sum one half up; both sums wrap
 pub by-halves : (B a0 a1 b0 b1 : ℕ) → (a0 * b0 + (a1 * b0 + a0 * b1) * B) % (B * B) ≡ (a1 * B + a0) * (b1 * B + b0) % (B * B)

@@ -28,15 +28,16 @@ pub enum Product {
     Passes,
 }
 
-// Whether a is a power of two: it is not 0 and has one bit.
+// Whether a is a power of two: it has one bit and is not 0. Tested in this order the two are one test to the compiler.
 pub fn is_power_of_two(a: u64) -> bool
     ensures answer { λ r. ⌜ r ≡ powerOfTwo 64 a ⌝ }
     ensures meaning { λ r. ⌜ Tells (PowerOfTwo a) r ⌝ }
 {
-    if a == 0 {
-        return false;
+    if a & std::num::wrapping_sub_u64(a, 1) == 0 {
+        a != 0
+    } else {
+        false
     }
-    a & (a - 1) == 0
 }
 
 // The bytes needed to pad len to the next multiple of align.
@@ -105,17 +106,19 @@ pub fn min(a: u64, b: u64) -> Answer
     }
 }
 
-// The product, where 64 bits hold it. The compiler makes one multiplication and a test of its overflow of this: no division.
+// The product, where 64 bits hold it: what it wraps to, divided by one factor, is then the other. The compiler makes one
+// multiplication and a test of its overflow of this: no division.
 pub fn checked_mul(a: u64, b: u64) -> Product
     ensures { λ r. ⌜ productSays r ≡ heldIn 64 (a * b) ⌝ }
 {
+    let product = wrapping_mul(a, b);
     if b == 0 {
-        return Product::Fits(0);
+        return Product::Fits(product);
     }
-    if u64::MAX / b < a {
-        Product::Passes
+    if product / b == a {
+        Product::Fits(product)
     } else {
-        Product::Fits(a * b)
+        Product::Passes
     }
 }
 

@@ -1,12 +1,24 @@
 -- `cast::exact_elems` meets its contract. Assumes nothing.
+use mathlib.Core.Path.{_≡_, sym, _∙_}
+use native.Mathlib.Omega.{arith}
+use Rattle.util.specs.Refusal.{unless}
 use Rattle.layout.specs.View.{layoutOf}
+use Rattle.cast.specs.Cast.{prefix, bytesCauses, grantOf, castFor}
+use Rattle.cast.specs.View.{castSays}
+use Rattle.cast.specs.declared.CastAnswer.{CastAnswer}
+use Rattle.cast.proofs.Grants.{cast-accepted}
 use Rattle.cast.proofs.Told.{exact-answered, exact-other, exact-none}
 use borrow.Author.Needs.{needs}
 use Rattle.cast.proofs.exact_elems.Statement.{statement}
 use Rattle.cast.proofs.exact_elems.Tie as tie
 
-validate-cast-and-convert-metadata-requires : tie.Need-validate-cast-and-convert-metadata-requires
-validate-cast-and-convert-metadata-requires c κs = search needs
+-- the layout is accepted, so the answer over the bytes is that of the whole cast
+whole : (k : tie.Start) (r : CastAnswer) → let l = layoutOf (k .args .layout) in
+    castSays r ≡ unless (bytesCauses 64 l prefix 0 (k .args .size)) (grantOf 64 (l .info) prefix (k .args .size)) → castSays r ≡ castFor 64 l prefix 0 (k .args .size)
+whole k r e = e ∙ sym (cast-accepted 64 (layoutOf (k .args .layout)) prefix 0 (k .args .size) (omega arith) (k .pre .0))
+
+cast-checked-requires : tie.Need-cast-checked-requires
+cast-checked-requires c κs = c .pre .0
 
 enum-known-elems : tie.Need-enum-known-elems
 enum-known-elems c = search needs
@@ -17,23 +29,23 @@ enum-told c = search needs
 returns : tie.Need-returns
 returns c =
     let k = c .before .before .before .before .before in
-    exact-answered 64 (layoutOf (k .args .layout)) (k .args .size) (c .before .before .before .before .validate-cast-and-convert-metadata .result) (k .pre .1) (c .before .before .before .before .validate-cast-and-convert-metadata .ensures .0) (c .before .before .elems .given .1) (c .if1 .taken)
+    exact-answered 64 (layoutOf (k .args .layout)) (k .args .size) (c .before .before .before .before .cast-checked .result) (k .pre .1) (whole k (c .before .before .before .before .cast-checked .result) (c .before .before .before .before .cast-checked .ensures)) (c .before .before .elems .given .1) (c .if1 .taken)
 
 returns-2 : tie.Need-returns-2
 returns-2 c =
     let k = c .before .before .before .before .before in
-    exact-other 64 (layoutOf (k .args .layout)) (k .args .size) (c .before .before .before .before .validate-cast-and-convert-metadata .result) (c .before .before .before .before .validate-cast-and-convert-metadata .ensures .0) (c .before .before .elems .given .1) (c .if1 .left)
+    exact-other 64 (layoutOf (k .args .layout)) (k .args .size) (c .before .before .before .before .cast-checked .result) (whole k (c .before .before .before .before .cast-checked .result) (c .before .before .before .before .cast-checked .ensures)) (c .before .before .elems .given .1) (c .if1 .left)
 
 returns-3 : tie.Need-returns-3
 returns-3 c =
     let k = c .before .before .before in
-    exact-none 64 (layoutOf (k .args .layout)) (k .args .size) (c .before .before .validate-cast-and-convert-metadata .result) (c .before .before .validate-cast-and-convert-metadata .ensures .0) (c .enum-told .given .1)
+    exact-none 64 (layoutOf (k .args .layout)) (k .args .size) (c .before .before .cast-checked .result) (whole k (c .before .before .cast-checked .result) (c .before .before .cast-checked .ensures)) (c .enum-told .given .1)
 
 pub exact-elems-spec : {M : Type 1} → statement M
 exact-elems-spec =
     tie.close
     (tie.spec
-    validate-cast-and-convert-metadata-requires
+    cast-checked-requires
     enum-known-elems
     enum-told
     returns

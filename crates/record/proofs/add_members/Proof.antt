@@ -1,25 +1,25 @@
 -- `record::add_members` meets its contract. Assumes nothing.
-use mathlib.Core.Path.{_≡_, sym, _∙_}
+use mathlib.Core.Path.{_≡_, refl, sym, _∙_}
 use Prim.Native.Nat.{_-_, _*_, _/_, _≤_}
 use native.Mathlib.Omega.{arith}
 use lib.ListN.{length, drop}
 use Rattle.util.proofs.Tables.{told-by}
 use Rattle.layout.specs.View.{layoutOf, layoutSays}
 use Rattle.record.specs.Compose.{addMembers, membersOf}
-use Rattle.record.proofs.Compositions.{turn-on, turn-off, begun, ended}
+use Rattle.record.proofs.Compositions.{turn-on, turn-off, ended}
 use borrow.Author.Needs.{needs}
 use Rattle.record.proofs.add_members.Statement.{statement}
 use Rattle.record.proofs.add_members.Tie as tie
 
 abbrev Inv-loop : tie.InvT-loop
-Inv-loop repr-packed members count l₀ i₀ l i =
-    (i ≤ count) × (addMembers 64 repr-packed i (layoutOf l) (membersOf 64 (count - i) (drop (i * 48) members)) ≡ addMembers 64 repr-packed 0 (layoutOf l₀) (membersOf 64 count members))
+Inv-loop repr-packed members from count l₀ place₀ l place =
+    addMembers 64 repr-packed place (layoutOf l) (membersOf 64 (count - place) (drop (place * 48) members)) ≡ addMembers 64 repr-packed place₀ (layoutOf l₀) (membersOf 64 (count - place₀) (drop (place₀ * 48) members))
 
 abbrev μ-loop : tie.MeasureT-loop
-μ-loop repr-packed members count l₀ i₀ l i = count - i
+μ-loop repr-packed members from count l₀ place₀ l place = count - place
 
 loop-holds : tie.Need-loop-holds Inv-loop μ-loop
-loop-holds c = let x = c .before .args in (search needs, begun 64 (x .repr-packed) (length (x .members .now) / 48) (x .members .now) (layoutOf (x .start)))
+loop-holds c = refl
 
 mul-member-step : tie.Need-mul-member-step Inv-loop μ-loop
 mul-member-step c = search needs
@@ -38,10 +38,10 @@ returns c =
     let x = c .before .before .before .before .before .before .before .args in
     let s = x .members .now in
     let b : length s / 48 * 48 ≤ length s = omega arith in
-    sym (turn-off 64 (x .repr-packed) (length s / 48) (c .before .before .before .before .before .loop .i) s (layoutOf (c .before .before .before .before .before .loop .l)) (c .before .before .before .before .loop-test .taken) b (told-by layoutSays (c .before .before .before .member-step .ensures) (c .before .number .given .1))) ∙ c .before .before .before .before .before .loop .inv .1
+    sym (turn-off 64 (x .repr-packed) (length s / 48) (c .before .before .before .before .before .loop .place) s (layoutOf (c .before .before .before .before .before .loop .l)) (c .before .before .before .before .loop-test .taken) b (told-by layoutSays (c .before .before .before .member-step .ensures) (c .before .number .given .1))) ∙ c .before .before .before .before .before .loop .inv
 
-add-i : tie.Need-add-i Inv-loop μ-loop
-add-i c = search needs
+add-place : tie.Need-add-place Inv-loop μ-loop
+add-place c = search needs
 
 loop-less : tie.Need-loop-less Inv-loop μ-loop
 loop-less c = search needs
@@ -51,14 +51,14 @@ loop-again c =
     let x = c .before .before .before .before .before .before .before .args in
     let s = x .members .now in
     let b : length s / 48 * 48 ≤ length s = omega arith in
-    (search needs, sym (turn-on 64 (x .repr-packed) (length s / 48) (c .before .before .before .before .before .loop .i) s (layoutOf (c .before .before .before .before .before .loop .l)) (c .before .before .before .before .loop-test .taken) b (told-by layoutSays (c .before .before .before .member-step .ensures) (c .before .next .given .1))) ∙ c .before .before .before .before .before .loop .inv .1)
+    sym (turn-on 64 (x .repr-packed) (length s / 48) (c .before .before .before .before .before .loop .place) s (layoutOf (c .before .before .before .before .before .loop .l)) (c .before .before .before .before .loop-test .taken) b (told-by layoutSays (c .before .before .before .member-step .ensures) (c .before .next .given .1))) ∙ c .before .before .before .before .before .loop .inv
 
 returns-2 : tie.Need-returns-2 Inv-loop μ-loop
 returns-2 c =
     let x = c .before .before .before .args in
     let s = x .members .now in
-    let i = c .before .loop .i in
-    sym (ended 64 (x .repr-packed) (length s / 48) i (drop (i * 48) s) (layoutOf (c .before .loop .l)) (omega arith)) ∙ c .before .loop .inv .1
+    let i = c .before .loop .place in
+    sym (ended 64 (x .repr-packed) (length s / 48) i (drop (i * 48) s) (layoutOf (c .before .loop .l)) (omega arith)) ∙ c .before .loop .inv
 
 pub add-members-spec : {M : Type 1} → statement M
 add-members-spec =
@@ -72,7 +72,7 @@ add-members-spec =
     enum-known-next
     enum-known-number
     returns
-    add-i
+    add-place
     loop-less
     loop-again
     returns-2)

@@ -2,7 +2,7 @@
 use mathlib.Core.Path.{sym, _∙_}
 use Rattle.util.proofs.Tables.{told-by}
 use Rattle.layout.specs.View.{layoutSays}
-use Rattle.record.proofs.Compositions.{compose-on, compose-off, compose-length}
+use Rattle.record.proofs.Compositions.{empty-sized, compose-on, compose-off, compose-length}
 use borrow.Author.Needs.{needs}
 use Rattle.record.proofs.compose.Statement.{statement}
 use Rattle.record.proofs.compose.Tie as tie
@@ -13,8 +13,8 @@ new-zst-requires c κs = search needs
 enum-known-empty : tie.Need-enum-known-empty
 enum-known-empty c = search needs
 
-add-members-requires : tie.Need-add-members-requires
-add-members-requires c κs = search needs
+add-to-sized-requires : tie.Need-add-to-sized-requires
+add-to-sized-requires c κs = search needs
 
 enum-known-number : tie.Need-enum-known-number
 enum-known-number c = search needs
@@ -22,8 +22,8 @@ enum-known-number c = search needs
 returns : tie.Need-returns
 returns c =
     let x = c .before .before .before .before .before .before .before .args in
-    c .add-members .ensures
-    ∙ sym (compose-on 64 (x .repr-align) (x .repr-packed) (x .members .now) (c .before .before .before .before .before .if1 .taken) (told-by layoutSays (c .before .before .before .before .new-zst .ensures .0) (c .before .before .empty .given .1)))
+    c .add-to-sized .ensures
+    ∙ sym (compose-on 64 (x .repr-align) (x .repr-packed) (x .members .now) (c .before .before .before .before .before .if1 .taken) (empty-sized 64 (x .repr-align) (told-by layoutSays (c .before .before .before .before .new-zst .ensures .0) (c .before .before .empty .given .1))))
 
 returns-2 : tie.Need-returns-2
 returns-2 c =
@@ -39,7 +39,7 @@ compose-spec =
     (tie.spec
     new-zst-requires
     enum-known-empty
-    add-members-requires
+    add-to-sized-requires
     enum-known-number
     returns
     returns-2

@@ -116,9 +116,7 @@ add-result-7 : tie.Need-add-result-7
 add-result-7 c = search needs
 
 returns : tie.Need-returns
-returns c =
-    let k = c .before .before .before .before .before .before .before .before .before .before .before .before .before .before .before .before .before in
-    joined-word (k .args .s .now) (k .args .at) (k .pre) (c .before .before .before .before .before .before .before .before .before .before .before .before .before .before .wide .ensures .0) (c .before .before .before .before .before .before .before .before .before .before .before .before .wide2 .ensures .0) (c .before .before .before .before .before .before .before .before .before .before .wide3 .ensures .0) (c .before .before .before .before .before .before .before .before .wide4 .ensures .0) (c .before .before .before .before .before .before .wide5 .ensures .0) (c .before .before .before .before .wide6 .ensures .0) (c .before .before .wide7 .ensures .0) (c .wide8 .ensures .0)
+returns c = joined-word (c .before .before .before .before .before .before .before .before .before .before .before .before .before .before .before .before .before .args .s .now) (c .before .before .before .before .before .before .before .before .before .before .before .before .before .before .before .before .before .args .at) (c .before .before .before .before .before .before .before .before .before .before .before .before .before .before .before .before .before .pre) (c .before .before .before .before .before .before .before .before .before .before .before .before .before .before .wide .ensures .0) (c .before .before .before .before .before .before .before .before .before .before .before .before .wide2 .ensures .0) (c .before .before .before .before .before .before .before .before .before .before .wide3 .ensures .0) (c .before .before .before .before .before .before .before .before .wide4 .ensures .0) (c .before .before .before .before .before .before .wide5 .ensures .0) (c .before .before .before .before .wide6 .ensures .0) (c .before .before .wide7 .ensures .0) (c .wide8 .ensures .0)
 
 pub read-word-spec : {M : Type 1} → statement M
 read-word-spec =

@@ -1,36 +1,29 @@
 -- `util::checked_mul` meets its contract. Assumes nothing.
-use mathlib.Core.Path.{_≡_, sym, ap, _∙_}
-use Prim.Native.Nat.{ℕ, _-_, _*_, _^_}
+use mathlib.Core.Path.{sym, ap, _∙_}
+use Prim.Native.Nat.{ℕ, _*_, _/_, _^_}
 use native.Mathlib.Omega.{arith}
-use Rattle.util.specs.Width.{heldIn}
-use Rattle.util.proofs.Products.{held-within, held-past, quotient-within, quotient-past}
+use Rattle.util.proofs.Products.{held-wrapped, held-past, product-within, product-past}
 use borrow.Author.Needs.{needs}
 use Rattle.util.proofs.checked_mul.Statement.{statement}
 use Rattle.util.proofs.checked_mul.Tie as tie
 
+wrapping-mul-requires : tie.Need-wrapping-mul-requires
+wrapping-mul-requires c κs = search needs
+
 returns : tie.Need-returns
-returns c =
-    let a = c .before .args in
-    let z : a .a * a .b ≡ 0 = omega (arith, ap (λ (x : ℕ). a .a * x) (c .if1 .taken)) in
-    sym (ap (heldIn 64) z)
+returns c = let x = c .before .before .args in
+    held-wrapped 64 (x .a * x .b) (c .before .wrapping-mul .result) (c .before .wrapping-mul .ensures) (omega (arith, ap (λ (n : ℕ). x .a * n) (c .if1 .taken)))
 
 div-if2 : tie.Need-div-if2
 div-if2 c = search needs
 
-mul-t6 : tie.Need-mul-t6
-mul-t6 c =
-    let a = c .before .before .args in
-    omega (arith, quotient-within (2 ^ 64 - 1) (a .a) (a .b) (omega arith) (c .if2 .left))
-
 returns-2 : tie.Need-returns-2
-returns-2 c =
-    let a = c .before .before .args in
-    sym (held-past 64 (a .a * a .b) (quotient-past (2 ^ 64 - 1) (a .a) (a .b) (omega arith) (c .if2 .taken)))
+returns-2 c = let x = c .before .before .before .args in
+    held-wrapped 64 (x .a * x .b) (c .before .before .wrapping-mul .result) (c .before .before .wrapping-mul .ensures) (product-within (2 ^ 64) (x .a) (x .b) (omega arith) (ap (λ (n : ℕ). n / x .b) (sym (c .before .before .wrapping-mul .ensures)) ∙ c .if2 .taken))
 
 returns-3 : tie.Need-returns-3
-returns-3 c =
-    let a = c .before .before .args in
-    sym (held-within 64 (a .a * a .b) (quotient-within (2 ^ 64 - 1) (a .a) (a .b) (omega arith) (c .if2 .left)))
+returns-3 c = let x = c .before .before .before .args in
+    sym (held-past 64 (x .a * x .b) (omega (arith, product-past (2 ^ 64) (x .a) (x .b) (omega arith) (λ e. c .if2 .left (ap (λ (n : ℕ). n / x .b) (c .before .before .wrapping-mul .ensures) ∙ e)))))
 
 pub checked-mul-spec : {M : Type 1} → statement M
-checked-mul-spec = tie.close (tie.spec returns div-if2 mul-t6 returns-2 returns-3)
+checked-mul-spec = tie.close (tie.spec wrapping-mul-requires returns div-if2 returns-2 returns-3)

@@ -1,4 +1,4 @@
--- `layout::DstLayout::extend_checked` meets its contract. Assumes nothing.
+-- `layout::extend_checked` meets its contract. Assumes nothing.
 use mathlib.Core.Path.{refl, sym, _∙_, subst}
 use Rattle.util.specs.Power.{PowerOfTwo}
 use Rattle.util.specs.Refusal.{unless}
@@ -6,8 +6,8 @@ use Rattle.util.proofs.Refusals.{no, tells-not}
 use Rattle.util.proofs.Told.{number-told, number-kept}
 use Rattle.layout.proofs.Steps.{tells-packing, member-power}
 use borrow.Author.Needs.{needs}
-use Rattle.layout.proofs.DstLayout.extend_checked.Statement.{statement}
-use Rattle.layout.proofs.DstLayout.extend_checked.Tie as tie
+use Rattle.layout.proofs.extend_checked.Statement.{statement}
+use Rattle.layout.proofs.extend_checked.Tie as tie
 
 bad-packing-requires : tie.Need-bad-packing-requires
 bad-packing-requires c κs = search needs

@@ -1,4 +1,4 @@
--- `layout::DstLayout::extend_at` meets its contract. Assumes nothing.
+-- `layout::extend_at` meets its contract. Assumes nothing.
 use mathlib.Core.Path.{sym, _∙_}
 use mathlib.Core.List.{[], _∷_}
 use native.Mathlib.Omega.{arith}
@@ -9,8 +9,8 @@ use Rattle.layout.specs.Extend.{placedAt, memberPasses}
 use Rattle.layout.specs.View.{layoutOf, infoSays}
 use Rattle.util.proofs.Tables.{told-by, answer-is, accepted-as, refused-as}
 use borrow.Author.Needs.{needs}
-use Rattle.layout.proofs.DstLayout.extend_at.Statement.{statement}
-use Rattle.layout.proofs.DstLayout.extend_at.Tie as tie
+use Rattle.layout.proofs.extend_at.Statement.{statement}
+use Rattle.layout.proofs.extend_at.Tie as tie
 
 step-mark-requires : tie.Need-step-mark-requires
 step-mark-requires c κs = search needs
