@@ -6,7 +6,8 @@ use mathlib.Core.Logic.{inl, inr}
 use Prim.Native.Nat.{ℕ, zero, suc, _+_, _-_, _*_, _%_, _^_, _≤_, _<_}
 use native.Mathlib.Nat.{mod-eq-of-lt, one-mul, lt-of-le-of-lt}
 use native.Mathlib.Omega.{arith}
-use lib.Pow.{pow-mono}
+use lib.Pow.{pow-mono, pow-pos}
+use lib.Bits.{bitXor, xor-block, xor-self, xor-zero-r}
 use lib.Count.{leadingZeros, leading-top}
 use lib.Dec.{leb}
 use borrow.Author.Tests.{leb-true, leb-false, eq-eqb, ne-eqb}
@@ -64,6 +65,15 @@ align-is {n} w x h = same-align x (parts-of w n (not-zero x) h)
 
 pub phase-is : {n A p : ℕ} (w : ℕ) → IsWord n A p → n < 2 ^ w → p ≡ phaseOf w n
 phase-is {n} w x h = same-phase x (parts-of w n (not-zero x) h)
+
+-- without its alignment, taken out by xor, a word is its phase
+pub xor-phase : {n A p : ℕ} → IsWord n A p → bitXor n A ≡ n - A
+xor-phase {n} {A} {p} x =
+    let k = x .power .exponent in
+    let a : A ≡ 1 * 2 ^ k + 0 = omega (arith, x .power .power) in
+    let m : n ≡ 1 * 2 ^ k + p = omega (arith, x .power .power, x .sum) in
+    let l : p < 2 ^ k = omega (arith, x .power .power, x .below) in
+    ap₂ bitXor m a ∙ xor-block k 1 1 p 0 l (pow-pos k) ∙ ap₂ (λ (y z : ℕ). y * 2 ^ k + z) (xor-self 1) (xor-zero-r p) ∙ omega (arith, x .sum)
 
 -- 1 << (w - 1 - leading zeros), at w bits, is the highest one bit
 pub top-bit : (w n : ℕ) → 0 < n → n < 2 ^ w → (1 * 2 ^ (w - 1 - leadingZeros w n)) % 2 ^ w ≡ alignOf w n

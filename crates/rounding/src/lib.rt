@@ -52,7 +52,8 @@ impl RoundingAlignAndPhase {
         let align = 1u64 << shift;
         ComponentsAnswer::Components {
             align,
-            phase: word - align,
+            // The highest bit is taken out.
+            phase: word ^ align,
         }
     }
 

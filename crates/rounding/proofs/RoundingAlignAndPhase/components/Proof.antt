@@ -1,12 +1,13 @@
 -- `rounding::RoundingAlignAndPhase::components` meets its contract. Assumes nothing.
 use mathlib.Core.Path.{ap, _∙_}
-use Prim.Native.Nat.{ℕ, _-_}
+use Prim.Native.Nat.{ℕ}
+use lib.Bits.{bitXor}
 use native.Mathlib.Omega.{arith}
 use borrow.Author.Tests.{eq-eqb, ne-eqb}
 use Rattle.util.specs.Refusal.{answered, unless}
 use Rattle.util.proofs.Refusals.{told}
-use Rattle.rounding.specs.Word.{componentsFor}
-use Rattle.rounding.proofs.Words.{components-meets, parts-of, top-bit, zeros-below}
+use Rattle.rounding.specs.Word.{alignOf, componentsFor}
+use Rattle.rounding.proofs.Words.{components-meets, parts-of, top-bit, xor-phase, zeros-below}
 use borrow.Author.Needs.{needs}
 use Rattle.rounding.proofs.RoundingAlignAndPhase.components.Statement.{statement}
 use Rattle.rounding.proofs.RoundingAlignAndPhase.components.Tie as tie
@@ -25,17 +26,13 @@ cast-align c = search needs
 shl-align : tie.Need-shl-align
 shl-align c = search needs
 
-sub-t7 : tie.Need-sub-t7
-sub-t7 c =
-    let n = c .before .args .self .0 in
-    omega (arith, top-bit 64 n (omega arith) (omega arith), parts-of 64 n (omega arith) (omega arith) .sum)
-
 returns-2 : tie.Need-returns-2
 unfolding componentsFor unless
 returns-2 c =
     let n = c .before .args .self .0 in
     told (components-meets 64 n (omega arith))
-    (ap (λ (a : ℕ). answered (record { align = a; phase = n - a })) (top-bit 64 n (omega arith) (omega arith)) ∙ simp (ne-eqb n 0 (c .if1 .left)))
+    (ap (λ (a : ℕ). answered (record { align = a; phase = bitXor n a })) (top-bit 64 n (omega arith) (omega arith))
+    ∙ ap (λ (q : ℕ). answered (record { align = alignOf 64 n; phase = q })) (xor-phase (parts-of 64 n (omega arith) (omega arith))) ∙ simp (ne-eqb n 0 (c .if1 .left)))
 
 pub components-spec : {M : Type 1} → statement M
-components-spec = tie.close (tie.spec returns sub-shift cast-align shl-align sub-t7 returns-2)
+components-spec = tie.close (tie.spec returns sub-shift cast-align shl-align returns-2)
