@@ -14,7 +14,6 @@ use Rattle.layout.specs.View.{checkSays}
 use Rattle.layout.specs.Layout.{Layout, layoutCauses, HeldIn, checkFor, fixed, Info, noWord}
 use mathlib.Core.Bool.{Bool, _||_, true, false}
 use Rattle.util.specs.Helpers.{alignCauses}
-use Rattle.layout.specs.Make.{asked, emptyLayout, newZstFor, typeCauses, typeLayout, typeFor, sliceLayout, sliceFor}
 use mathlib.Core.Logic.{_⊎_}
 use lib.Dec.{eqb}
 use Rattle.util.specs.Power.{PowerOfTwo, powerOfTwo}
@@ -25,7 +24,6 @@ use Rattle.rounding.specs.Word.{alignOf, alignFor}
 use Rattle.layout.proofs.Settled.{Settled}
 use Rattle.layout.proofs.Passes as Passes
 use Rattle.layout.proofs.Layouts as Layouts
-use Rattle.layout.proofs.Made as Made
 use Rattle.layout.proofs.Steps as Steps
 use Rattle.layout.proofs.Padding as Padding
 use Rattle.layout.proofs.Settled as Settled
@@ -60,18 +58,6 @@ fixed-refused = Layouts.fixed-refused 32
 
 pub held-accepted : {l : Layout} (r : Check) → Meets (layoutCauses 32 l) (λ _. HeldIn 32 l) (checkSays r) → r ≡ Check.Accepted → HeldIn 32 l
 held-accepted {l} = Layouts.held-accepted {w = 32} {l = l}
-
-pub zst-meets : (a : ℕ) → asked a < 2 ^ 32 → Meets (alignCauses 32 (asked a)) (λ l. l ≡ emptyLayout a) (newZstFor 32 a)
-zst-meets = Made.zst-meets 32
-
-pub type-decided : (size a : ℕ) → a < 2 ^ 32 → Decided (typeCauses 32 size a)
-type-decided = Made.type-decided 32
-
-pub type-meets : (mark : Bool) (size a : ℕ) → a < 2 ^ 32 → Meets (typeCauses 32 size a) (λ l. l ≡ typeLayout mark size a) (typeFor 32 mark size a)
-type-meets = Made.type-meets 32
-
-pub slice-meets : (size a : ℕ) → a < 2 ^ 32 → Meets (typeCauses 32 size a) (λ l. l ≡ sliceLayout size a) (sliceFor 32 size a)
-slice-meets = Made.slice-meets 32
 
 pub tells-packing : (packing : ℕ) → packing < 2 ^ 32 → Tells ((packing ≡ 0) ⊎ PowerOfTwo packing) (eqb packing 0 || powerOfTwo 32 packing)
 tells-packing = Steps.tells-packing 32

@@ -1,7 +1,6 @@
 -- Laws of layouts, over any width.
 pub mod Passes
 pub mod Layouts
-pub mod Made
 pub mod Steps
 pub mod Padding
 pub mod Settled

@@ -1,5 +1,4 @@
 pub mod Layout
-pub mod Make
 pub mod Extend
 pub mod Pad
 pub mod View

@@ -1,18 +1,16 @@
 // Whole layouts, after zerocopy's DstLayout.
 ghost use mathlib.Core.Path.{_≡_};
-ghost use mathlib.Core.Bool.{true, false, not, _&&_};
+ghost use mathlib.Core.Bool.{false, not, _&&_};
 ghost use mathlib.Core.List.{[], _∷_};
 ghost use Prim.Native.Nat.{ℕ, _%_, _<_, max};
 ghost use lib.Dec.{eqb};
 ghost use Rattle.util.specs.Power.{PowerOfTwo};
 ghost use Rattle.util.specs.Round.{up};
 ghost use Rattle.util.specs.Refusal.{answered, refused, unless, None, Meets, Tells};
-ghost use Rattle.util.specs.Helpers.{alignCauses};
 ghost use Rattle.util.specs.View.{numberSays, decisionSays};
 ghost use Rattle.rounding.specs.Word.{IsWord, alignOf};
 ghost use Rattle.trailing.specs.View.{trailingOf};
 ghost use Rattle.layout.specs.Layout.{trailing, noWord, layoutCauses, checkFor, HeldIn};
-ghost use Rattle.layout.specs.Make.{asked, emptyLayout, newZstFor, typeCauses, typeLayout, typeFor, sliceLayout, sliceFor};
 ghost use Rattle.layout.specs.Extend.{memberAlign, placedAt, extended, badPacking, aboveGreatest, passes8, memberPasses, placeCauses, stepCauses, extendCauses, extendFor, Extended, IsTrailing};
 ghost use Rattle.layout.specs.Pad.{fixedPart, coarser, finer, paddedTail, paddedInfo, paddedMark, padded, paddingNeeds, padCauses, padFor, Padded, staticFor, DynamicPadding, dynamicPadding, dynamicFor};
 ghost use Rattle.layout.specs.View.{infoOf, layoutOf, sizedOf, layoutSays, infoSays, checkSays};
@@ -62,50 +60,8 @@ pub enum Check {
     Refused(u64),
 }
 
-// The least alignment, which a layout has where none is asked for.
-pub const MIN_ALIGN: u64 = 1;
-
 // The greatest alignment of the members and the packing of a composed layout.
 pub const CURRENT_MAX_ALIGN: u64 = 1 << 29;
-
-// The alignment asked for; 0 means that none is.
-fn asked_align(repr_align: u64) -> u64
-    ensures { λ r. ⌜ r ≡ asked «repr_align» ⌝ }
-{
-    if repr_align == 0 {
-        MIN_ALIGN
-    } else {
-        repr_align
-    }
-}
-
-// Whether a type can have this size and alignment: the size is a multiple of the alignment.
-fn check_type(size: u64, align: u64) -> Check
-    ensures { λ r. ⌜ checkSays r ≡ unless (typeCauses 64 size align) tt ⌝ }
-{
-    if util::is_power_of_two(align) {
-        if size & (align - 1) == 0 {
-            Check::Accepted
-        } else {
-            Check::Refused(refusal::SIZE_NOT_MULTIPLE_OF_ALIGN)
-        }
-    } else {
-        Check::Refused(refusal::ALIGN_NOT_POWER_OF_TWO)
-    }
-}
-
-fn for_marked_type(size: u64, align: u64, unpadded: bool) -> LayoutAnswer
-    ensures { λ r. ⌜ layoutSays r ≡ typeFor 64 unpadded size align ⌝ }
-{
-    match check_type(size, align) {
-        Check::Accepted => LayoutAnswer::Layout(DstLayout {
-            align,
-            size_info: SizeInfo::Sized { size },
-            statically_shallow_unpadded: unpadded,
-        }),
-        Check::Refused(number) => LayoutAnswer::Refused(number),
-    }
-}
 
 // len rounded up to a multiple of align, where that does not pass the greatest number.
 fn round_up(len: u64, align: u64) -> Answer
@@ -434,59 +390,6 @@ impl DstLayout {
             }
         } else {
             Check::Refused(refusal::ALIGN_NOT_POWER_OF_TWO)
-        }
-    }
-
-    // The layout of a type with no members: size 0 and the alignment asked for.
-    pub fn new_zst(repr_align: u64) -> LayoutAnswer
-        ensures answer { λ r. ⌜ layoutSays r ≡ newZstFor 64 «repr_align» ⌝ }
-        ensures meaning { λ r. ⌜ Meets (alignCauses 64 (asked «repr_align»)) (λ l. l ≡ emptyLayout «repr_align») (layoutSays r) ⌝ }
-    {
-        let align = asked_align(repr_align);
-        if util::is_power_of_two(align) {
-            LayoutAnswer::Layout(DstLayout {
-                align,
-                size_info: SizeInfo::Sized { size: 0 },
-                statically_shallow_unpadded: true,
-            })
-        } else {
-            LayoutAnswer::Refused(refusal::ALIGN_NOT_POWER_OF_TWO)
-        }
-    }
-
-    // The layout of a type of which it is not known whether it has padding.
-    pub fn for_type(size: u64, align: u64) -> LayoutAnswer
-        ensures answer { λ r. ⌜ layoutSays r ≡ typeFor 64 false size align ⌝ }
-        ensures meaning { λ r. ⌜ Meets (typeCauses 64 size align) (λ l. l ≡ typeLayout false size align) (layoutSays r) ⌝ }
-    {
-        for_marked_type(size, align, false)
-    }
-
-    // The layout of a type that is taken to have no padding.
-    pub fn for_unpadded_type(size: u64, align: u64) -> LayoutAnswer
-        ensures answer { λ r. ⌜ layoutSays r ≡ typeFor 64 true size align ⌝ }
-        ensures meaning { λ r. ⌜ Meets (typeCauses 64 size align) (λ l. l ≡ typeLayout true size align) (layoutSays r) ⌝ }
-    {
-        for_marked_type(size, align, true)
-    }
-
-    // The layout of a slice of a type: its elements from offset 0 on, so that the phase is 0 and the word is the alignment.
-    pub fn for_slice(size: u64, align: u64) -> LayoutAnswer
-        ensures answer { λ r. ⌜ layoutSays r ≡ sliceFor 64 size align ⌝ }
-        ensures meaning { λ r. ⌜ Meets (typeCauses 64 size align) (λ l. l ≡ sliceLayout size align) (layoutSays r) ⌝ }
-    {
-        match check_type(size, align) {
-            Check::Accepted => LayoutAnswer::Layout(DstLayout {
-                align,
-                size_info: SizeInfo::SliceDst(TrailingSliceLayout {
-                    offset: 0,
-                    elem_size: size,
-                    size_base: 0,
-                    size_rounding_align_and_phase: RoundingAlignAndPhase(align),
-                }),
-                statically_shallow_unpadded: true,
-            }),
-            Check::Refused(number) => LayoutAnswer::Refused(number),
         }
     }
 

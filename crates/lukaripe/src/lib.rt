@@ -9,7 +9,7 @@ ghost use Rattle.trailing.specs.View.{trailingOf};
 ghost use mathlib.Core.Bool.{true, false};
 ghost use lib.ListN.{length};
 ghost use Rattle.trailing.specs.Sequence.{sameSequence};
-ghost use Rattle.layout.specs.Make.{newZstFor, typeFor, sliceFor};
+ghost use Rattle.make.specs.Make.{newZstFor, typeFor, sliceFor};
 ghost use Rattle.layout.specs.Extend.{extendFor};
 ghost use Rattle.layout.specs.Pad.{padFor, staticFor, dynamicFor};
 ghost use Rattle.layout.specs.View.{layoutSays};
@@ -481,7 +481,7 @@ pub extern "C" fn lukaripe_has_same_size_sequence(layout: Trailing, other: Trail
 pub extern "C" fn lukaripe_new_zst(repr_align: u64) -> LayoutOut
     ensures { λ r. ⌜ r ≡ layoutOut (newZstFor 64 «repr_align») ⌝ }
 {
-    layout_out(DstLayout::new_zst(repr_align))
+    layout_out(make::new_zst(repr_align))
 }
 
 // The layout of a type, its padding not known.
@@ -489,7 +489,7 @@ pub extern "C" fn lukaripe_new_zst(repr_align: u64) -> LayoutOut
 pub extern "C" fn lukaripe_for_type(size: u64, align: u64) -> LayoutOut
     ensures { λ r. ⌜ r ≡ layoutOut (typeFor 64 false size align) ⌝ }
 {
-    layout_out(DstLayout::for_type(size, align))
+    layout_out(make::for_type(size, align))
 }
 
 // The layout of a type without padding.
@@ -497,7 +497,7 @@ pub extern "C" fn lukaripe_for_type(size: u64, align: u64) -> LayoutOut
 pub extern "C" fn lukaripe_for_unpadded_type(size: u64, align: u64) -> LayoutOut
     ensures { λ r. ⌜ r ≡ layoutOut (typeFor 64 true size align) ⌝ }
 {
-    layout_out(DstLayout::for_unpadded_type(size, align))
+    layout_out(make::for_unpadded_type(size, align))
 }
 
 // The layout of a slice.
@@ -505,7 +505,7 @@ pub extern "C" fn lukaripe_for_unpadded_type(size: u64, align: u64) -> LayoutOut
 pub extern "C" fn lukaripe_for_slice(size: u64, align: u64) -> LayoutOut
     ensures { λ r. ⌜ r ≡ layoutOut (sliceFor 64 size align) ⌝ }
 {
-    layout_out(DstLayout::for_slice(size, align))
+    layout_out(make::for_slice(size, align))
 }
 
 // The layout with one member more.

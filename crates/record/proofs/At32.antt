@@ -11,7 +11,7 @@ use Rattle.rounding.specs.Word.{wordZero}
 use Rattle.layout.specs.Layout.{fixed, trailing, Layout, checkFor, Info, layoutCauses}
 use Rattle.record.specs.Bytes.{wordAt}
 use Rattle.record.specs.Record.{Words, wordsAt, recordBytes, wordsOf, wordsLayout, laterWord, wordsCauses, recordCauses, wordsFor, decodeFor, Decodes, encodeFor, encodedInto}
-use Rattle.layout.specs.Make.{newZstFor}
+use Rattle.make.specs.Make.{newZstFor}
 use Rattle.record.specs.Compose.{composed, refusedAt, bind, addMembers, membersOf, composeFor, structFor}
 use Rattle.record.proofs.Compositions.{closing}
 use Rattle.record.proofs.RoundTrips.{Fits, AllBytes}

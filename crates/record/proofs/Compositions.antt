@@ -12,7 +12,7 @@ use Rattle.util.specs.Refusal.{answered, refused}
 use Rattle.util.specs.Helpers.{alignCauses}
 use Rattle.util.proofs.Tables.{answer-is}
 use Rattle.layout.specs.Layout.{fixed, Layout}
-use Rattle.layout.specs.Make.{asked, emptyLayout, newZstFor}
+use Rattle.make.specs.Make.{asked, emptyLayout, newZstFor}
 use Rattle.layout.specs.Pad.{padFor}
 use Rattle.record.specs.Bytes.{valueOf, wordAt}
 use Rattle.record.specs.Record.{wordsAt, wordsFor, decodeFor}

@@ -6,7 +6,7 @@ use lib.Dec.{eqb}
 use lib.ListN.{length, take, drop}
 use Rattle.util.specs.Refusal.{Outcome, answered, refused}
 use Rattle.layout.specs.Layout.{Layout}
-use Rattle.layout.specs.Make.{newZstFor}
+use Rattle.make.specs.Make.{newZstFor}
 use Rattle.layout.specs.Extend.{extendFor}
 use Rattle.layout.specs.Pad.{padFor}
 use Rattle.record.specs.Record.{recordLength, decodeFor}

@@ -432,7 +432,7 @@ pub fn compose(repr_align: u64, repr_packed: u64, members: &[u8]) -> ComposeAnsw
     ensures { λ r. ⌜ composeSays r ≡ composeFor 64 «repr_align» «repr_packed» (now (members .entry)) ⌝ }
 {
     if members.len() % RECORD_BYTES == 0 {
-        match DstLayout::new_zst(repr_align) {
+        match make::new_zst(repr_align) {
             LayoutAnswer::Layout(empty) => add_to_sized(
                 SizedLayout {
                     align: empty.align,

@@ -103,19 +103,19 @@ pub fn tell_layout(inputs: usize, answer: LayoutAnswer) -> Told {
 // Whole layouts.
 
 pub fn new_zst(line: &[u64; WIDTH]) -> Told {
-    tell_layout(1, DstLayout::new_zst(line[1]))
+    tell_layout(1, make::new_zst(line[1]))
 }
 
 pub fn for_type(line: &[u64; WIDTH]) -> Told {
-    tell_layout(2, DstLayout::for_type(line[1], line[2]))
+    tell_layout(2, make::for_type(line[1], line[2]))
 }
 
 pub fn for_unpadded_type(line: &[u64; WIDTH]) -> Told {
-    tell_layout(2, DstLayout::for_unpadded_type(line[1], line[2]))
+    tell_layout(2, make::for_unpadded_type(line[1], line[2]))
 }
 
 pub fn for_slice(line: &[u64; WIDTH]) -> Told {
-    tell_layout(2, DstLayout::for_slice(line[1], line[2]))
+    tell_layout(2, make::for_slice(line[1], line[2]))
 }
 
 fn extended(own: DstLayout, line: &[u64; WIDTH]) -> LayoutAnswer {

@@ -1,6 +1,5 @@
 -- The laws of this crate at 32 bits: each holds at any width. Assumes nothing.
 use mathlib.Core.Path.{_≡_}
-use mathlib.Core.Bool.{false, not}
 use Prim.Native.Nat.{ℕ, _+_, _-_, _%_, _^_, _≤_, _<_, max, min}
 use lib.Bits.{bitAnd}
 use lib.Dec.{eqb}
@@ -34,12 +33,6 @@ tells-power = Powers.tells-power 32
 
 pub tells-mask : (a : ℕ) → a < 2 ^ 32 → 0 < a → Tells (PowerOfTwo a) (eqb (bitAnd a (a - 1)) 0)
 tells-mask = Powers.tells-mask 32
-
-pub mask-power : (a r : ℕ) → a < 2 ^ 32 → r < 2 ^ 32 → (r + 1) % 2 ^ 32 ≡ a → bitAnd a r ≡ 0 → Tells (PowerOfTwo a) (not (eqb a 0))
-mask-power = Powers.mask-power 32
-
-pub mask-none : (a r : ℕ) → a < 2 ^ 32 → r < 2 ^ 32 → (r + 1) % 2 ^ 32 ≡ a → (bitAnd a r ≡ 0 → ⊥) → Tells (PowerOfTwo a) false
-mask-none = Powers.mask-none 32
 
 pub mask-down : {a : ℕ} (v : ℕ) → PowerOfTwo a → a < 2 ^ 32 → v < 2 ^ 32 → bitAnd v ((2 ^ 32 - 1) - (a - 1)) ≡ down v a
 mask-down {a} = Masks.mask-down {a = a} 32

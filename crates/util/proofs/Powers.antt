@@ -2,8 +2,8 @@
 use mathlib.Core.Path.{_≡_, refl, sym, ap, ap₂, _∙_, subst}
 use Prim.Native.Nat.{ℕ, zero, suc, _+_, _-_, _*_, _/_, _%_, _^_, _≤_, _<_, max, min}
 use mathlib.Core.Logic.{_⊎_, inl, inr}
-use mathlib.Core.Bool.{Bool, true, false, not, _||_}
-use native.Mathlib.Nat.{eq-or-lt-of-le, not-le-of-lt, lt-of-not-le, mod-self, mod-eq-of-lt, mul-mod-left, mod-mod-of-dvd, dvd-of-mod-eq-zero, zero-mod, max-eq-left, max-eq-right, le-of-lt}
+use mathlib.Core.Bool.{Bool, true, false, _||_}
+use native.Mathlib.Nat.{eq-or-lt-of-le, not-le-of-lt, lt-of-not-le, mod-self, mul-mod-left, mod-mod-of-dvd, dvd-of-mod-eq-zero, zero-mod, max-eq-left, max-eq-right, le-of-lt}
 use native.Mathlib.Omega.{arith}
 use lib.Pow.{pow-pos, pow-mono, pow-add}
 use lib.Bits.{bitAnd, and-mask, and-block}
@@ -12,7 +12,6 @@ use lib.Dec.{eqb, leb}
 use borrow.Author.Tests.{eqb-true, eqb-false, eq-eqb, leb-true, leb-false}
 use Rattle.util.specs.Power.{PowerOfTwo, powerOfTwo}
 use Rattle.util.specs.Refusal.{Tells, holds, fails}
-use Rattle.util.proofs.Refusals.{tells-eq, tells-lt, yes, told-true}
 
 pub positive : {a : ℕ} → PowerOfTwo a → 0 < a
 positive {a} p = subst (λ (x : ℕ). 0 < x) (sym (p .power)) (pow-pos (p .exponent))
@@ -120,25 +119,3 @@ tells-mask w a h p = let top = leading-top w a p h in go (top .0) (top .3) (eqb 
     go j h true e (inr l) = absurd (omega (arith, and-between j a l h, eqb-true (bitAnd a (a - 1)) 0 e))
     go j h false e (inl q) = absurd (eqb-false _ _ e (subst (λ (x : ℕ). bitAnd x (x - 1) ≡ 0) q (and-mask (2 ^ j) j ∙ mod-self (2 ^ j))))
     go j h false e (inr l) = fails (none-between j a l h)
-
--- the same test of any number, with a - 1 that wraps: 0 passes it too
-less : (w a r : ℕ) → r < 2 ^ w → (r + 1) % 2 ^ w ≡ a → 0 < a → r ≡ a - 1
-less w a r k e p = go (tells-lt (r + 1) (2 ^ w))
-  where
-    go : {b : Bool} → Tells (r + 1 < 2 ^ w) b → r ≡ a - 1
-    go (holds l) = omega (arith, sym (mod-eq-of-lt l) ∙ e)
-    go (fails g) =
-        let t : r + 1 ≡ 2 ^ w = omega (arith, g) in
-        absurd (omega (arith, sym (ap (λ (x : ℕ). x % 2 ^ w) t ∙ mod-self (2 ^ w)) ∙ e))
-
-pub mask-power : (w a r : ℕ) → a < 2 ^ w → r < 2 ^ w → (r + 1) % 2 ^ w ≡ a → bitAnd a r ≡ 0 → Tells (PowerOfTwo a) (not (eqb a 0))
-mask-power w a r h k e z = go (tells-eq a 0)
-  where
-    go : {b : Bool} → Tells (a ≡ 0) b → Tells (PowerOfTwo a) (not b)
-    go (holds q) = fails (λ p. omega (arith, positive p))
-    go (fails n) =
-        let p : 0 < a = omega (arith, n) in
-        holds (yes (tells-mask w a h p) (eq-eqb (bitAnd a (a - 1)) 0 (ap (bitAnd a) (sym (less w a r k e p)) ∙ z)))
-
-pub mask-none : (w a r : ℕ) → a < 2 ^ w → r < 2 ^ w → (r + 1) % 2 ^ w ≡ a → (bitAnd a r ≡ 0 → ⊥) → Tells (PowerOfTwo a) false
-mask-none w a r h k e g = fails (λ p. g (ap (bitAnd a) (less w a r k e (positive p)) ∙ eqb-true (bitAnd a (a - 1)) 0 (told-true (tells-mask w a h (positive p)) p)))

@@ -28,16 +28,15 @@ pub enum Product {
     Passes,
 }
 
-// Whether a is a power of two: it has one bit and is not 0. Tested in this order the two are one test to the compiler.
+// Whether a is a power of two: it is not 0 and has one bit.
 pub fn is_power_of_two(a: u64) -> bool
     ensures answer { λ r. ⌜ r ≡ powerOfTwo 64 a ⌝ }
     ensures meaning { λ r. ⌜ Tells (PowerOfTwo a) r ⌝ }
 {
-    if a & std::num::wrapping_sub_u64(a, 1) == 0 {
-        a != 0
-    } else {
-        false
+    if a == 0 {
+        return false;
     }
+    a & (a - 1) == 0
 }
 
 // The bytes needed to pad len to the next multiple of align.

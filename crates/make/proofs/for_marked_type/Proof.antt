@@ -1,11 +1,11 @@
--- `layout::for_marked_type` meets its contract. Assumes nothing.
+-- `make::for_marked_type` meets its contract. Assumes nothing.
 use mathlib.Core.Path.{sym}
-use Rattle.layout.specs.Make.{typeCauses, typeLayout, typeFor}
+use Rattle.make.specs.Make.{typeCauses, typeLayout, typeFor}
 use Rattle.layout.specs.View.{checkSays}
 use Rattle.util.proofs.Tables.{told-by, accepted-as, refused-as}
 use borrow.Author.Needs.{needs}
-use Rattle.layout.proofs.for_marked_type.Statement.{statement}
-use Rattle.layout.proofs.for_marked_type.Tie as tie
+use Rattle.make.proofs.for_marked_type.Statement.{statement}
+use Rattle.make.proofs.for_marked_type.Tie as tie
 
 check-type-requires : tie.Need-check-type-requires
 check-type-requires c κs = search needs

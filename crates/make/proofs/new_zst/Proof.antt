@@ -1,13 +1,13 @@
--- `layout::DstLayout::new_zst` meets its contract. Assumes nothing.
+-- `make::new_zst` meets its contract. Assumes nothing.
 use mathlib.Core.Path.{sym, _∙_}
 use native.Mathlib.Omega.{arith}
 use Rattle.util.specs.Refusal.{unless}
 use Rattle.util.proofs.Refusals.{told}
-use Rattle.layout.specs.Make.{newZstFor}
-use Rattle.layout.proofs.Made.{zst-meets}
+use Rattle.make.specs.Make.{newZstFor}
+use Rattle.make.proofs.Made.{zst-meets}
 use borrow.Author.Needs.{needs}
-use Rattle.layout.proofs.DstLayout.new_zst.Statement.{statement}
-use Rattle.layout.proofs.DstLayout.new_zst.Tie as tie
+use Rattle.make.proofs.new_zst.Statement.{statement}
+use Rattle.make.proofs.new_zst.Tie as tie
 
 asked-align-requires : tie.Need-asked-align-requires
 asked-align-requires c κs = search needs

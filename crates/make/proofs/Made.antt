@@ -6,7 +6,7 @@ use Rattle.util.specs.Refusal.{Meets, Decided}
 use Rattle.util.specs.Helpers.{alignCauses}
 use Rattle.util.proofs.Refusals.{tells-eq, tells-not, meets}
 use Rattle.util.proofs.Helpers.{align-decided}
-use Rattle.layout.specs.Make.{asked, emptyLayout, newZstFor, typeCauses, typeLayout, typeFor, sliceLayout, sliceFor}
+use Rattle.make.specs.Make.{asked, emptyLayout, newZstFor, typeCauses, typeLayout, typeFor, sliceLayout, sliceFor}
 
 pub zst-meets : (w a : ℕ) → asked a < 2 ^ w → Meets (alignCauses w (asked a)) (λ l. l ≡ emptyLayout a) (newZstFor w a)
 unfolding newZstFor

@@ -1,4 +1,4 @@
--- `layout::check_type` meets its contract. Assumes nothing.
+-- `make::check_type` meets its contract. Assumes nothing.
 use mathlib.Core.Path.{sym, _∙_}
 use borrow.Author.Tests.{eq-eqb, ne-eqb}
 use Rattle.util.specs.Refusal.{unless}
@@ -6,8 +6,8 @@ use Rattle.util.proofs.Refusals.{yes}
 use Rattle.util.proofs.Powers.{positive}
 use Rattle.util.proofs.Masks.{mask-mod}
 use borrow.Author.Needs.{needs}
-use Rattle.layout.proofs.check_type.Statement.{statement}
-use Rattle.layout.proofs.check_type.Tie as tie
+use Rattle.make.proofs.check_type.Statement.{statement}
+use Rattle.make.proofs.check_type.Tie as tie
 
 is-power-of-two-requires : tie.Need-is-power-of-two-requires
 is-power-of-two-requires c κs = search needs

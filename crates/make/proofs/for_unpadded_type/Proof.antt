@@ -1,10 +1,10 @@
--- `layout::DstLayout::for_unpadded_type` meets its contract. Assumes nothing.
+-- `make::for_unpadded_type` meets its contract. Assumes nothing.
 use mathlib.Core.Bool.{true}
 use Rattle.util.proofs.Refusals.{told}
-use Rattle.layout.proofs.Made.{type-meets}
+use Rattle.make.proofs.Made.{type-meets}
 use borrow.Author.Needs.{needs}
-use Rattle.layout.proofs.DstLayout.for_unpadded_type.Statement.{statement}
-use Rattle.layout.proofs.DstLayout.for_unpadded_type.Tie as tie
+use Rattle.make.proofs.for_unpadded_type.Statement.{statement}
+use Rattle.make.proofs.for_unpadded_type.Tie as tie
 
 for-marked-type-requires : tie.Need-for-marked-type-requires
 for-marked-type-requires c κs = search needs

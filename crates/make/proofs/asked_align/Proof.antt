@@ -1,7 +1,7 @@
--- `layout::asked_align` meets its contract. Assumes nothing.
+-- `make::asked_align` meets its contract. Assumes nothing.
 use borrow.Author.Tests.{eq-eqb, ne-eqb}
-use Rattle.layout.proofs.asked_align.Statement.{statement}
-use Rattle.layout.proofs.asked_align.Tie as tie
+use Rattle.make.proofs.asked_align.Statement.{statement}
+use Rattle.make.proofs.asked_align.Tie as tie
 
 returns : tie.Need-returns
 returns c = simp (eq-eqb (c .before .args .repr-align) 0 (c .if1 .taken))

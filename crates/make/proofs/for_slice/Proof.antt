@@ -1,13 +1,13 @@
--- `layout::DstLayout::for_slice` meets its contract. Assumes nothing.
+-- `make::for_slice` meets its contract. Assumes nothing.
 use mathlib.Core.Path.{sym}
 use Rattle.util.proofs.Refusals.{told}
-use Rattle.layout.specs.Make.{typeCauses, sliceLayout, sliceFor}
+use Rattle.make.specs.Make.{typeCauses, sliceLayout, sliceFor}
 use Rattle.layout.specs.View.{checkSays}
 use Rattle.util.proofs.Tables.{told-by, accepted-as, refused-as}
-use Rattle.layout.proofs.Made.{slice-meets}
+use Rattle.make.proofs.Made.{slice-meets}
 use borrow.Author.Needs.{needs}
-use Rattle.layout.proofs.DstLayout.for_slice.Statement.{statement}
-use Rattle.layout.proofs.DstLayout.for_slice.Tie as tie
+use Rattle.make.proofs.for_slice.Statement.{statement}
+use Rattle.make.proofs.for_slice.Tie as tie
 
 check-type-requires : tie.Need-check-type-requires
 check-type-requires c κs = search needs

@@ -1,0 +1,3 @@
+-- Laws of the layouts made of numbers, over any width.
+pub mod Made
+pub mod At32
