@@ -49,7 +49,6 @@ pub fn rows() -> impl Iterator<Item = &'static Row> {
 }
 
 const LAYERS: &[&[Row]] = &[
-    #[cfg(layer = "util")]
     &[
         row!("is_power_of_two", cases, c =>
             lukaripe_is_power_of_two(c.align),
@@ -72,7 +71,6 @@ const LAYERS: &[&[Row]] = &[
             plain::min(c.align_n, c.other_align_n),
             tested::min(c.align, c.other_align)),
     ],
-    #[cfg(layer = "rounding")]
     &[
         row!("rounding_new", cases, c =>
             lukaripe_rounding_new(c.align, c.phase),
@@ -87,7 +85,6 @@ const LAYERS: &[&[Row]] = &[
             plain::rounding_align(word(c)),
             tested::rounding_align(c.tail.0[3])),
     ],
-    #[cfg(layer = "trailing")]
     &[
         row!("size_offset", cases, c =>
             lukaripe_size_offset(c.tail),
@@ -114,7 +111,6 @@ const LAYERS: &[&[Row]] = &[
             plain::has_same_size_sequence(c.tail_n, c.tail_n),
             tested::has_same_size_sequence(c.tail, c.tail)),
     ],
-    #[cfg(layer = "layout")]
     &[
         row!("new_zst", cases, c =>
             lukaripe_new_zst(c.packing),
@@ -149,7 +145,6 @@ const LAYERS: &[&[Row]] = &[
             plain::requires_dynamic_padding(c.whole_n),
             tested::requires_dynamic_padding(c.whole)),
     ],
-    #[cfg(layer = "record")]
     &[
         row!("decode", cases, c =>
             unsafe { lukaripe_decode(c.record.as_ptr(), c.record.len()) },
@@ -184,7 +179,6 @@ const LAYERS: &[&[Row]] = &[
             plain::for_repr_c_struct(None, c.packing_n, &c.list_n),
             tested::for_repr_c_struct(0, c.packing, &c.list)),
     ],
-    #[cfg(layer = "cast")]
     &[
         row!("validate_cast_and_convert_metadata", cases, c =>
             lukaripe_validate_cast_and_convert_metadata(c.whole, c.addr, c.len, c.suffix),
@@ -195,7 +189,6 @@ const LAYERS: &[&[Row]] = &[
             plain::metadata_for_exact_size(&c.whole_n, c.exact as usize),
             tested::metadata_for_exact_size(c.whole, c.exact)),
     ],
-    #[cfg(layer = "convert")]
     &[
         row!("size_sequences_match", cases, c =>
             lukaripe_size_sequences_match(c.source_tail, c.tail, c.params.0[1]),

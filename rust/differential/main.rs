@@ -23,8 +23,6 @@ use rows::{Row, Slot, LAYERS};
 use std::process::ExitCode;
 use std::time::Instant;
 
-/// The layers that were not compiled in, by tools/differential.
-const LEFT_OUT: &str = env!("LEFT_OUT");
 
 const USAGE: &str = "\
 usage: differential [--cases N] [--seed S] [--only FUNCTION] [--record N]
@@ -209,9 +207,6 @@ fn report(tried: &[Tried], seed: u64, progress: &Progress) {
     }
     println!("{compared} inputs compared with the Rust, and apart {apart} checked against document 01's table");
     println!("seed {seed}, {:.1} million inputs a second", progress.rate());
-    if !LEFT_OUT.is_empty() {
-        println!("LEFT OUT, since the library has not all of their exports: {LEFT_OUT}");
-    }
 }
 
 fn all(options: &Options) -> Result<(), String> {

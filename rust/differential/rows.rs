@@ -2,19 +2,12 @@
 //!
 //! A layer is compiled in where the library has its exports; tools/differential looks and says so.
 
-#[cfg(layer = "cast")]
 mod cast;
-#[cfg(layer = "convert")]
 mod convert;
-#[cfg(layer = "layout")]
 mod layout;
-#[cfg(layer = "record")]
 mod record;
-#[cfg(layer = "rounding")]
 mod rounding;
-#[cfg(layer = "trailing")]
 mod trailing;
-#[cfg(layer = "util")]
 mod util;
 
 use crate::answer::Answer;
@@ -24,19 +17,12 @@ use crate::random::Random;
 use std::fmt;
 
 pub const LAYERS: &[&[Row]] = &[
-    #[cfg(layer = "util")]
     util::ROWS,
-    #[cfg(layer = "rounding")]
     rounding::ROWS,
-    #[cfg(layer = "trailing")]
     trailing::ROWS,
-    #[cfg(layer = "layout")]
     layout::ROWS,
-    #[cfg(layer = "record")]
     record::ROWS,
-    #[cfg(layer = "cast")]
     cast::ROWS,
-    #[cfg(layer = "convert")]
     convert::ROWS,
 ];
 

@@ -22,30 +22,20 @@
 #[path = "../../exports.rs"]
 mod exports;
 
+mod cast;
+mod convert;
 mod helpers;
+mod layout;
+mod record;
 mod refusal;
 mod rounding;
 mod trailing;
 
-#[cfg(feature = "layouts")]
-mod cast;
-#[cfg(feature = "layouts")]
-mod convert;
-#[cfg(feature = "layouts")]
-mod layout;
-#[cfg(feature = "layouts")]
-mod record;
-
+pub use cast::{Cast, CastType};
+pub use convert::{size_sequences_match, CastParams};
 pub use helpers::{is_power_of_two, max, min, padding_needed_for, round_down_to_next_multiple_of_alignment};
+pub use layout::{Layout, SizeInfo};
+pub use record::{compose, for_repr_c_struct, Refused, RECORD_LENGTH};
 pub use refusal::{Refusal, Result};
 pub use rounding::RoundingAlignAndPhase;
 pub use trailing::Trailing;
-
-#[cfg(feature = "layouts")]
-pub use cast::{Cast, CastType};
-#[cfg(feature = "layouts")]
-pub use convert::{size_sequences_match, CastParams};
-#[cfg(feature = "layouts")]
-pub use layout::{Layout, SizeInfo};
-#[cfg(feature = "layouts")]
-pub use record::{compose, for_repr_c_struct, Refused, RECORD_LENGTH};

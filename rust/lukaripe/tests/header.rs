@@ -37,16 +37,13 @@ fn agrees_with_the_header() {
         of_struct::<Told<2>>("components"),
         of_struct::<Trailing>("trailing"),
         of_struct::<Told<4>>("trailing_answer"),
-    ];
-    #[cfg(feature = "layouts")]
-    rust.extend([
         of_struct::<exports::Layout>("layout"),
         of_struct::<Told<6>>("layout_answer"),
         of_struct::<Told<7>>("composed"),
         of_struct::<Told<2>>("cast"),
         of_struct::<exports::CastParams>("cast_params"),
         of_struct::<Told<4>>("cast_params_answer"),
-    ]);
+    ];
     rust.extend(Refusal::ALL.map(of_refusal));
     let header: BTreeSet<&str> = header.lines().collect();
     assert_eq!(header, rust.iter().map(String::as_str).collect());

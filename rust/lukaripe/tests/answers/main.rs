@@ -1,7 +1,6 @@
 //! Calls each function of the crate on the recorded answers of crates/replay, and compares. LUKARIPE_ANSWERS names another
 //! file. How a line reads is written in rust/differential/recorded.rs.
 
-#[cfg(feature = "layouts")]
 mod layouts;
 
 use lukaripe::*;
@@ -9,7 +8,7 @@ use std::collections::BTreeSet;
 use std::{env, fs};
 
 /// The functions have the numbers from 1 to this.
-const FUNCTIONS: u64 = if cfg!(feature = "layouts") { 32 } else { 14 };
+const FUNCTIONS: u64 = 32;
 
 /// The inputs of a line that are left.
 struct Inputs<'a>(std::slice::Iter<'a, u64>);
@@ -70,10 +69,7 @@ fn call(function: u64, i: &mut Inputs) -> Option<Vec<u64>> {
         12 => number(i.trailing().size_for_elems(i.number())),
         13 => trailing(i.trailing().advance(i.number(), i.number())),
         14 => decision(i.trailing().has_same_size_sequence(i.trailing())),
-        #[cfg(feature = "layouts")]
         _ => return layouts::call(function, i),
-        #[cfg(not(feature = "layouts"))]
-        _ => panic!("no function {function}"),
     })
 }
 
