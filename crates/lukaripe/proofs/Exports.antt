@@ -12,10 +12,10 @@ use Rattle.record.specs.Record.{wordsFor}
 use Rattle.lukaripe.specs.declared.Layout as given
 use Rattle.lukaripe.specs.Export.{bindOutcome, wordsGiven, withLayout}
 
-pub with-layout : {T : Type 0} {x : DstLayout} (l : given.Layout) (f : Layout → Outcome T) (r : LayoutAnswer) → layoutSays r ≡ wordsFor 64 (wordsGiven l) → r ≡ Answer.Layout x
-    → f (layoutOf x) ≡ withLayout l f
-with-layout {T} l f r e g = ap (λ (o : Outcome Layout). bindOutcome o f) (sym (told-by layoutSays e g))
+pub with-layout : {T : Type 0} {x : DstLayout} (w : ℕ) (l : given.Layout) (f : Layout → Outcome T) (r : LayoutAnswer) → layoutSays r ≡ wordsFor w (wordsGiven l) → r ≡ Answer.Layout x
+    → f (layoutOf x) ≡ withLayout w l f
+with-layout {T} w l f r e g = ap (λ (o : Outcome Layout). bindOutcome o f) (sym (told-by layoutSays e g))
 
-pub with-refused : {T : Type 0} {k : ℕ} (l : given.Layout) (f : Layout → Outcome T) (r : LayoutAnswer) → layoutSays r ≡ wordsFor 64 (wordsGiven l) → r ≡ Answer.Refused k
-    → refused k ≡ withLayout l f
-with-refused {T} l f r e g = ap (λ (o : Outcome Layout). bindOutcome o f) (sym (told-by layoutSays e g))
+pub with-refused : {T : Type 0} {k : ℕ} (w : ℕ) (l : given.Layout) (f : Layout → Outcome T) (r : LayoutAnswer) → layoutSays r ≡ wordsFor w (wordsGiven l) → r ≡ Answer.Refused k
+    → refused k ≡ withLayout w l f
+with-refused {T} w l f r e g = ap (λ (o : Outcome Layout). bindOutcome o f) (sym (told-by layoutSays e g))

@@ -65,8 +65,8 @@ layoutOut (answered l) = wordsOut (wordsOf l)
 layoutOut (refused k) = record { refusal = k; align = 0; kind = 0; «size_or_base» = 0; offset = 0; «elem_size» = 0; word = 0 }
 
 -- what is done with a layout that was handed over: its words are tested as a record's are
-abbrev pub withLayout : {T : Type 0} → given-layout.Layout → (Layout → Outcome T) → Outcome T
-withLayout l f = bindOutcome (wordsFor 64 (wordsGiven l)) f
+abbrev pub withLayout : {T : Type 0} → ℕ → given-layout.Layout → (Layout → Outcome T) → Outcome T
+withLayout w l f = bindOutcome (wordsFor w (wordsGiven l)) f
 
 abbrev pub composedWords : Words → ComposedOut
 composedWords r = record { refusal = 0; place = 0; align = r .align; kind = r .kind; «size_or_base» = r .size; offset = r .offset; «elem_size» = r .elem; word = r .word }
@@ -99,13 +99,13 @@ abbrev pub refusalOut : Outcome (Unit {0}) → ℕ
 refusalOut (answered u) = 0
 refusalOut (refused k) = k
 
-abbrev pub encodeGiven : given-layout.Layout → ℕ → Outcome (Unit {0})
-encodeGiven l n = cond (eqb n recordLength) (withLayout l (λ x. encodeFor 64 x n)) (refused 20)
+abbrev pub encodeGiven : ℕ → given-layout.Layout → ℕ → Outcome (Unit {0})
+encodeGiven w l n = cond (eqb n recordLength) (withLayout w l (λ x. encodeFor w x n)) (refused 20)
 
 -- the lent bytes after it
-abbrev pub encodedLayout : Outcome Layout → List ℕ → List ℕ
-encodedLayout (answered x) old = encodedInto 64 x old
-encodedLayout (refused k) old = old
+abbrev pub encodedLayout : ℕ → Outcome Layout → List ℕ → List ℕ
+encodedLayout w (answered x) old = encodedInto w x old
+encodedLayout w (refused k) old = old
 
-abbrev pub encodedGiven : given-layout.Layout → List ℕ → List ℕ
-encodedGiven l old = cond (eqb (length old) recordLength) (encodedLayout (wordsFor 64 (wordsGiven l)) old) old
+abbrev pub encodedGiven : ℕ → given-layout.Layout → List ℕ → List ℕ
+encodedGiven w l old = cond (eqb (length old) recordLength) (encodedLayout w (wordsFor w (wordsGiven l)) old) old

@@ -511,7 +511,7 @@ pub extern "C" fn lukaripe_for_slice(size: u64, align: u64) -> LayoutOut
 // The layout with one member more.
 #[no_mangle]
 pub extern "C" fn lukaripe_extend(layout: Layout, field: Layout, repr_packed: u64) -> LayoutOut
-    ensures { λ r. ⌜ r ≡ layoutOut (withLayout layout (λ l. withLayout field (λ m. extendFor 64 l m «repr_packed»))) ⌝ }
+    ensures { λ r. ⌜ r ≡ layoutOut (withLayout 64 layout (λ l. withLayout 64 field (λ m. extendFor 64 l m «repr_packed»))) ⌝ }
 {
     match layout_in(layout) {
         LayoutAnswer::Layout(l) => match layout_in(field) {
@@ -525,7 +525,7 @@ pub extern "C" fn lukaripe_extend(layout: Layout, field: Layout, repr_packed: u6
 // The layout with its closing padding.
 #[no_mangle]
 pub extern "C" fn lukaripe_pad_to_align(layout: Layout) -> LayoutOut
-    ensures { λ r. ⌜ r ≡ layoutOut (withLayout layout (λ l. padFor 64 l)) ⌝ }
+    ensures { λ r. ⌜ r ≡ layoutOut (withLayout 64 layout (λ l. padFor 64 l)) ⌝ }
 {
     match layout_in(layout) {
         LayoutAnswer::Layout(l) => layout_out(l.pad_to_align()),
@@ -536,7 +536,7 @@ pub extern "C" fn lukaripe_pad_to_align(layout: Layout) -> LayoutOut
 // Whether padding is not known to be absent.
 #[no_mangle]
 pub extern "C" fn lukaripe_requires_static_padding(layout: Layout) -> Number
-    ensures { λ r. ⌜ r ≡ decisionOut (withLayout layout (λ l. staticFor 64 l)) ⌝ }
+    ensures { λ r. ⌜ r ≡ decisionOut (withLayout 64 layout (λ l. staticFor 64 l)) ⌝ }
 {
     match layout_in(layout) {
         LayoutAnswer::Layout(l) => decision_out(l.requires_static_padding()),
@@ -547,7 +547,7 @@ pub extern "C" fn lukaripe_requires_static_padding(layout: Layout) -> Number
 // Whether padding depends on the count.
 #[no_mangle]
 pub extern "C" fn lukaripe_requires_dynamic_padding(layout: Layout) -> Number
-    ensures { λ r. ⌜ r ≡ decisionOut (withLayout layout (λ l. dynamicFor 64 l)) ⌝ }
+    ensures { λ r. ⌜ r ≡ decisionOut (withLayout 64 layout (λ l. dynamicFor 64 l)) ⌝ }
 {
     match layout_in(layout) {
         LayoutAnswer::Layout(l) => decision_out(l.requires_dynamic_padding()),
@@ -566,8 +566,8 @@ pub extern "C" fn lukaripe_decode(bytes: &[u8]) -> LayoutOut
 // The record of a layout into 48 lent bytes: the refusal number, and then no byte has changed.
 #[no_mangle]
 pub extern "C" fn lukaripe_encode(layout: Layout, out: &mut [u8]) -> u64
-    ensures { λ r. ⌜ r ≡ refusalOut (encodeGiven layout (length (now (out .entry)))) ⌝ }
-    ensures { λ _. ⌜ now (out .exit) ≡ encodedGiven layout (now (out .entry)) ⌝ }
+    ensures { λ r. ⌜ r ≡ refusalOut (encodeGiven 64 layout (length (now (out .entry)))) ⌝ }
+    ensures { λ _. ⌜ now (out .exit) ≡ encodedGiven 64 layout (now (out .entry)) ⌝ }
 {
     if out.len() != 48 {
         return refusal::RECORD_LENGTH;
@@ -617,7 +617,7 @@ pub extern "C" fn lukaripe_validate_cast_and_convert_metadata(
     bytes_len: u64,
     suffix: bool,
 ) -> CastOut
-    ensures { λ r. ⌜ r ≡ castOut (withLayout layout (λ l. castFor 64 l (sideGiven suffix) addr «bytes_len»)) ⌝ }
+    ensures { λ r. ⌜ r ≡ castOut (withLayout 64 layout (λ l. castFor 64 l (sideGiven suffix) addr «bytes_len»)) ⌝ }
 {
     let side = cast_type(suffix);
     match layout_in(layout) {
@@ -634,7 +634,7 @@ pub extern "C" fn lukaripe_validate_cast_and_convert_metadata(
 // The greatest count of exactly this size.
 #[no_mangle]
 pub extern "C" fn lukaripe_metadata_for_exact_size(layout: Layout, size: u64) -> Number
-    ensures { λ r. ⌜ r ≡ numberOut (withLayout layout (λ l. exactFor 64 l size)) ⌝ }
+    ensures { λ r. ⌜ r ≡ numberOut (withLayout 64 layout (λ l. exactFor 64 l size)) ⌝ }
 {
     match layout_in(layout) {
         LayoutAnswer::Layout(l) => number_out(cast::metadata_for_exact_size(l, size)),
@@ -657,7 +657,7 @@ pub extern "C" fn lukaripe_size_sequences_match(
 // How counts of one layout are converted to another.
 #[no_mangle]
 pub extern "C" fn lukaripe_try_compute(src: Layout, dst: Layout) -> CastParamsOut
-    ensures { λ r. ⌜ r ≡ paramsOut (withLayout src (λ l. withLayout dst (λ m. computeFor 64 (sameSequence 64) l m))) ⌝ }
+    ensures { λ r. ⌜ r ≡ paramsOut (withLayout 64 src (λ l. withLayout 64 dst (λ m. computeFor 64 (sameSequence 64) l m))) ⌝ }
 {
     match layout_in(src) {
         LayoutAnswer::Layout(l) => match layout_in(dst) {

@@ -19,7 +19,7 @@ unfoldable pub highestBit : ℕ → ℕ → ℕ
 highestBit zero n = 0
 highestBit (suc k) n = cond (leb (2 ^ k) n) (2 ^ k) (highestBit k n)
 
--- the alignment and the phase of a word of w bits (`parts-of`: these are its parts; `same-parts`: it has no others)
+-- the alignment and the phase of a word of w bits (`parts-of`: these are its parts; `same-align`, `same-phase`: it has no others)
 abbrev pub alignOf : ℕ → ℕ → ℕ
 alignOf w n = highestBit w n
 

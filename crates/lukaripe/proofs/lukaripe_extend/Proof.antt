@@ -45,21 +45,21 @@ returns c =
     let x = layoutOf (c .before .before .before .before .before .before .before .l .given .0 .0) in
     c .layout-out .ensures
     ∙ ap layoutOut (c .before .extend .ensures .0
-    ∙ with-layout (a .field) (λ (m : Layout). extendFor 64 x m (a .repr-packed)) (c .before .before .before .before .before .layout-in2 .result) (c .before .before .before .before .before .layout-in2 .ensures) (c .before .before .before .m .given .1)
-    ∙ with-layout (a .layout) (λ (l : Layout). withLayout (a .field) (λ (m : Layout). extendFor 64 l m (a .repr-packed))) (c .before .before .before .before .before .before .before .before .before .layout-in .result) (c .before .before .before .before .before .before .before .before .before .layout-in .ensures) (c .before .before .before .before .before .before .before .l .given .1))
+    ∙ with-layout 64 (a .field) (λ (m : Layout). extendFor 64 x m (a .repr-packed)) (c .before .before .before .before .before .layout-in2 .result) (c .before .before .before .before .before .layout-in2 .ensures) (c .before .before .before .m .given .1)
+    ∙ with-layout 64 (a .layout) (λ (l : Layout). withLayout 64 (a .field) (λ (m : Layout). extendFor 64 l m (a .repr-packed))) (c .before .before .before .before .before .before .before .before .before .layout-in .result) (c .before .before .before .before .before .before .before .before .before .layout-in .ensures) (c .before .before .before .before .before .before .before .l .given .1))
 
 returns-2 : tie.Need-returns-2
 returns-2 c =
     let a = c .before .before .before .before .before .before .before .before .before .args in
     let x = layoutOf (c .before .before .before .before .before .before .l .given .0 .0) in
     c .layout-out2 .ensures
-    ∙ ap layoutOut (with-refused (a .field) (λ (m : Layout). extendFor 64 x m (a .repr-packed)) (c .before .before .before .before .layout-in2 .result) (c .before .before .before .before .layout-in2 .ensures) (c .before .before .refusal .given .1)
-    ∙ with-layout (a .layout) (λ (l : Layout). withLayout (a .field) (λ (m : Layout). extendFor 64 l m (a .repr-packed))) (c .before .before .before .before .before .before .before .before .layout-in .result) (c .before .before .before .before .before .before .before .before .layout-in .ensures) (c .before .before .before .before .before .before .l .given .1))
+    ∙ ap layoutOut (with-refused 64 (a .field) (λ (m : Layout). extendFor 64 x m (a .repr-packed)) (c .before .before .before .before .layout-in2 .result) (c .before .before .before .before .layout-in2 .ensures) (c .before .before .refusal .given .1)
+    ∙ with-layout 64 (a .layout) (λ (l : Layout). withLayout 64 (a .field) (λ (m : Layout). extendFor 64 l m (a .repr-packed))) (c .before .before .before .before .before .before .before .before .layout-in .result) (c .before .before .before .before .before .before .before .before .layout-in .ensures) (c .before .before .before .before .before .before .l .given .1))
 
 returns-3 : tie.Need-returns-3
 returns-3 c =
     let a = c .before .before .before .before .before .args in
-    c .layout-out3 .ensures ∙ ap layoutOut (with-refused (a .layout) (λ (l : Layout). withLayout (a .field) (λ (m : Layout). extendFor 64 l m (a .repr-packed))) (c .before .before .before .before .layout-in .result) (c .before .before .before .before .layout-in .ensures) (c .before .before .refusal2 .given .1))
+    c .layout-out3 .ensures ∙ ap layoutOut (with-refused 64 (a .layout) (λ (l : Layout). withLayout 64 (a .field) (λ (m : Layout). extendFor 64 l m (a .repr-packed))) (c .before .before .before .before .layout-in .result) (c .before .before .before .before .layout-in .ensures) (c .before .before .refusal2 .given .1))
 
 pub lukaripe-extend-spec : {M : Type 1} → statement M
 lukaripe-extend-spec =

@@ -29,12 +29,12 @@ number-out-requires-2 c κs = search needs
 returns : tie.Need-returns
 returns c =
     let a = c .before .before .before .before .before .before .args in
-    c .number-out .ensures ∙ ap numberOut (c .before .metadata-for-exact-size .ensures .0 ∙ with-layout (a .layout) (λ (l : Layout). exactFor 64 l (a .size)) (c .before .before .before .before .before .layout-in .result) (c .before .before .before .before .before .layout-in .ensures) (c .before .before .before .l .given .1))
+    c .number-out .ensures ∙ ap numberOut (c .before .metadata-for-exact-size .ensures .0 ∙ with-layout 64 (a .layout) (λ (l : Layout). exactFor 64 l (a .size)) (c .before .before .before .before .before .layout-in .result) (c .before .before .before .before .before .layout-in .ensures) (c .before .before .before .l .given .1))
 
 returns-2 : tie.Need-returns-2
 returns-2 c =
     let a = c .before .before .before .before .before .args in
-    c .number-out2 .ensures ∙ ap numberOut (with-refused (a .layout) (λ (l : Layout). exactFor 64 l (a .size)) (c .before .before .before .before .layout-in .result) (c .before .before .before .before .layout-in .ensures) (c .before .before .refusal .given .1))
+    c .number-out2 .ensures ∙ ap numberOut (with-refused 64 (a .layout) (λ (l : Layout). exactFor 64 l (a .size)) (c .before .before .before .before .layout-in .result) (c .before .before .before .before .layout-in .ensures) (c .before .before .refusal .given .1))
 
 pub lukaripe-metadata-for-exact-size-spec : {M : Type 1} → statement M
 lukaripe-metadata-for-exact-size-spec =

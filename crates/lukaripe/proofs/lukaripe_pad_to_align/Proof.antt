@@ -29,12 +29,12 @@ layout-out-requires-2 c κs = search needs
 returns : tie.Need-returns
 returns c =
     let a = c .before .before .before .before .before .before .args in
-    c .layout-out .ensures ∙ ap layoutOut (c .before .pad-to-align .ensures .0 ∙ with-layout (a .layout) (λ (l : Layout). padFor 64 l) (c .before .before .before .before .before .layout-in .result) (c .before .before .before .before .before .layout-in .ensures) (c .before .before .before .l .given .1))
+    c .layout-out .ensures ∙ ap layoutOut (c .before .pad-to-align .ensures .0 ∙ with-layout 64 (a .layout) (λ (l : Layout). padFor 64 l) (c .before .before .before .before .before .layout-in .result) (c .before .before .before .before .before .layout-in .ensures) (c .before .before .before .l .given .1))
 
 returns-2 : tie.Need-returns-2
 returns-2 c =
     let a = c .before .before .before .before .before .args in
-    c .layout-out2 .ensures ∙ ap layoutOut (with-refused (a .layout) (λ (l : Layout). padFor 64 l) (c .before .before .before .before .layout-in .result) (c .before .before .before .before .layout-in .ensures) (c .before .before .refusal .given .1))
+    c .layout-out2 .ensures ∙ ap layoutOut (with-refused 64 (a .layout) (λ (l : Layout). padFor 64 l) (c .before .before .before .before .layout-in .result) (c .before .before .before .before .layout-in .ensures) (c .before .before .refusal .given .1))
 
 pub lukaripe-pad-to-align-spec : {M : Type 1} → statement M
 lukaripe-pad-to-align-spec =

@@ -29,12 +29,12 @@ decision-out-requires-2 c κs = search needs
 returns : tie.Need-returns
 returns c =
     let a = c .before .before .before .before .before .before .args in
-    c .decision-out .ensures ∙ ap decisionOut (c .before .requires-static-padding .ensures .0 ∙ with-layout (a .layout) (λ (l : Layout). staticFor 64 l) (c .before .before .before .before .before .layout-in .result) (c .before .before .before .before .before .layout-in .ensures) (c .before .before .before .l .given .1))
+    c .decision-out .ensures ∙ ap decisionOut (c .before .requires-static-padding .ensures .0 ∙ with-layout 64 (a .layout) (λ (l : Layout). staticFor 64 l) (c .before .before .before .before .before .layout-in .result) (c .before .before .before .before .before .layout-in .ensures) (c .before .before .before .l .given .1))
 
 returns-2 : tie.Need-returns-2
 returns-2 c =
     let a = c .before .before .before .before .before .args in
-    c .decision-out2 .ensures ∙ ap decisionOut (with-refused (a .layout) (λ (l : Layout). staticFor 64 l) (c .before .before .before .before .layout-in .result) (c .before .before .before .before .layout-in .ensures) (c .before .before .refusal .given .1))
+    c .decision-out2 .ensures ∙ ap decisionOut (with-refused 64 (a .layout) (λ (l : Layout). staticFor 64 l) (c .before .before .before .before .layout-in .result) (c .before .before .before .before .layout-in .ensures) (c .before .before .refusal .given .1))
 
 pub lukaripe-requires-static-padding-spec : {M : Type 1} → statement M
 lukaripe-requires-static-padding-spec =

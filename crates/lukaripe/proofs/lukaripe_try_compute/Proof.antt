@@ -46,21 +46,21 @@ returns c =
     let x = layoutOf (c .before .before .before .before .before .before .before .l .given .0 .0) in
     c .params-out .ensures
     ∙ ap paramsOut (c .before .try-compute .ensures .0
-    ∙ with-layout (a .dst) (λ (m : Layout). computeFor 64 (sameSequence 64) x m) (c .before .before .before .before .before .layout-in2 .result) (c .before .before .before .before .before .layout-in2 .ensures) (c .before .before .before .m .given .1)
-    ∙ with-layout (a .src) (λ (l : Layout). withLayout (a .dst) (λ (m : Layout). computeFor 64 (sameSequence 64) l m)) (c .before .before .before .before .before .before .before .before .before .layout-in .result) (c .before .before .before .before .before .before .before .before .before .layout-in .ensures) (c .before .before .before .before .before .before .before .l .given .1))
+    ∙ with-layout 64 (a .dst) (λ (m : Layout). computeFor 64 (sameSequence 64) x m) (c .before .before .before .before .before .layout-in2 .result) (c .before .before .before .before .before .layout-in2 .ensures) (c .before .before .before .m .given .1)
+    ∙ with-layout 64 (a .src) (λ (l : Layout). withLayout 64 (a .dst) (λ (m : Layout). computeFor 64 (sameSequence 64) l m)) (c .before .before .before .before .before .before .before .before .before .layout-in .result) (c .before .before .before .before .before .before .before .before .before .layout-in .ensures) (c .before .before .before .before .before .before .before .l .given .1))
 
 returns-2 : tie.Need-returns-2
 returns-2 c =
     let a = c .before .before .before .before .before .before .before .before .before .args in
     let x = layoutOf (c .before .before .before .before .before .before .l .given .0 .0) in
     c .params-out2 .ensures
-    ∙ ap paramsOut (with-refused (a .dst) (λ (m : Layout). computeFor 64 (sameSequence 64) x m) (c .before .before .before .before .layout-in2 .result) (c .before .before .before .before .layout-in2 .ensures) (c .before .before .refusal .given .1)
-    ∙ with-layout (a .src) (λ (l : Layout). withLayout (a .dst) (λ (m : Layout). computeFor 64 (sameSequence 64) l m)) (c .before .before .before .before .before .before .before .before .layout-in .result) (c .before .before .before .before .before .before .before .before .layout-in .ensures) (c .before .before .before .before .before .before .l .given .1))
+    ∙ ap paramsOut (with-refused 64 (a .dst) (λ (m : Layout). computeFor 64 (sameSequence 64) x m) (c .before .before .before .before .layout-in2 .result) (c .before .before .before .before .layout-in2 .ensures) (c .before .before .refusal .given .1)
+    ∙ with-layout 64 (a .src) (λ (l : Layout). withLayout 64 (a .dst) (λ (m : Layout). computeFor 64 (sameSequence 64) l m)) (c .before .before .before .before .before .before .before .before .layout-in .result) (c .before .before .before .before .before .before .before .before .layout-in .ensures) (c .before .before .before .before .before .before .l .given .1))
 
 returns-3 : tie.Need-returns-3
 returns-3 c =
     let a = c .before .before .before .before .before .args in
-    c .params-out3 .ensures ∙ ap paramsOut (with-refused (a .src) (λ (l : Layout). withLayout (a .dst) (λ (m : Layout). computeFor 64 (sameSequence 64) l m)) (c .before .before .before .before .layout-in .result) (c .before .before .before .before .layout-in .ensures) (c .before .before .refusal2 .given .1))
+    c .params-out3 .ensures ∙ ap paramsOut (with-refused 64 (a .src) (λ (l : Layout). withLayout 64 (a .dst) (λ (m : Layout). computeFor 64 (sameSequence 64) l m)) (c .before .before .before .before .layout-in .result) (c .before .before .before .before .layout-in .ensures) (c .before .before .refusal2 .given .1))
 
 pub lukaripe-try-compute-spec : {M : Type 1} → statement M
 lukaripe-try-compute-spec =

@@ -35,12 +35,12 @@ cast-out-requires-2 c κs = search needs
 returns : tie.Need-returns
 returns c =
     let a = c .before .before .before .before .before .before .before .args in
-    c .cast-out .ensures ∙ ap (castOut) (c .before .validate-cast-and-convert-metadata .ensures .0 ∙ ap (λ (s : Side). castFor 64 (layoutOf (c .before .before .before .l .given .0 .0)) s (a .addr) (a .bytes-len)) (c .before .before .before .before .before .before .cast-type .ensures) ∙ with-layout (a .layout) (λ (l : Layout). castFor 64 l (sideGiven (a .suffix)) (a .addr) (a .bytes-len)) (c .before .before .before .before .before .layout-in .result) (c .before .before .before .before .before .layout-in .ensures) (c .before .before .before .l .given .1))
+    c .cast-out .ensures ∙ ap (castOut) (c .before .validate-cast-and-convert-metadata .ensures .0 ∙ ap (λ (s : Side). castFor 64 (layoutOf (c .before .before .before .l .given .0 .0)) s (a .addr) (a .bytes-len)) (c .before .before .before .before .before .before .cast-type .ensures) ∙ with-layout 64 (a .layout) (λ (l : Layout). castFor 64 l (sideGiven (a .suffix)) (a .addr) (a .bytes-len)) (c .before .before .before .before .before .layout-in .result) (c .before .before .before .before .before .layout-in .ensures) (c .before .before .before .l .given .1))
 
 returns-2 : tie.Need-returns-2
 returns-2 c =
     let a = c .before .before .before .before .before .before .args in
-    c .cast-out2 .ensures ∙ ap (castOut) (with-refused (a .layout) (λ (l : Layout). castFor 64 l (sideGiven (a .suffix)) (a .addr) (a .bytes-len)) (c .before .before .before .before .layout-in .result) (c .before .before .before .before .layout-in .ensures) (c .before .before .refusal .given .1))
+    c .cast-out2 .ensures ∙ ap (castOut) (with-refused 64 (a .layout) (λ (l : Layout). castFor 64 l (sideGiven (a .suffix)) (a .addr) (a .bytes-len)) (c .before .before .before .before .layout-in .result) (c .before .before .before .before .layout-in .ensures) (c .before .before .refusal .given .1))
 
 pub lukaripe-validate-cast-and-convert-metadata-spec : {M : Type 1} → statement M
 lukaripe-validate-cast-and-convert-metadata-spec =
