@@ -7,7 +7,7 @@ use Rattle.util.specs.Refusal.{answered, refused, unless, Meets, Decided, Tells
 use Rattle.util.specs.View.{numberSays}
 use Rattle.util.specs.declared.Answer.{Answer}
 use Rattle.util.specs.declared.Answer.the-variants as Answer
-use Rattle.layout.specs.Extend.{passes8, memberAlign, extended, badPacking, memberPasses, placeCauses, stepCauses, extendCauses, extendFor, Extended}
+use Rattle.layout.specs.Extend.{passes8, LeastPlace, roundUpCauses, roundUpFor, memberAlign, extended, badPacking, memberPasses, placeCauses, stepCauses, extendCauses, extendFor, Extended}
 use Rattle.layout.specs.declared.Check.{Check}
 use Rattle.layout.specs.declared.Check.the-variants as Check
 use Rattle.layout.specs.View.{checkSays}
@@ -40,6 +40,12 @@ up-told {n} = Passes.up-told {n = n} 32
 
 pub up-refused : {k : ℕ} (v : ℕ) (r : Answer) → numberSays r ≡ unless (passes8 32 v ∷ []) v → r ≡ Answer.Refused k → (k ≡ 8) × (M 32 < v)
 up-refused {k} = Passes.up-refused {k = k} 32
+
+pub round-meets : (v a : ℕ) → a < 2 ^ 32 → Meets (roundUpCauses 32 v a) (LeastPlace v a) (roundUpFor 32 v a)
+round-meets = Passes.round-meets 32
+
+pub round-power : {a : ℕ} (v : ℕ) → PowerOfTwo a → a < 2 ^ 32 → roundUpFor 32 v a ≡ unless (passes8 32 (up v a) ∷ []) (up v a)
+round-power {a} = Passes.round-power {a = a} 32
 
 pub layout-decided : (l : Layout) → l .align < 2 ^ 32 → Decided (layoutCauses 32 l)
 layout-decided = Layouts.layout-decided 32

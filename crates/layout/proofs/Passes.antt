@@ -2,17 +2,23 @@
 use mathlib.Core.Path.{_≡_, sym, ap, _∙_}
 use mathlib.Core.Bool.{Bool, cond}
 use mathlib.Core.List.{[], _∷_}
-use Prim.Native.Nat.{ℕ, _≤_, _<_}
+use Prim.Native.Nat.{ℕ, _^_, _≤_, _<_}
 use native.Mathlib.Omega.{arith}
 use borrow.Author.Tests.{le-ltb, lt-ltb}
 use Rattle.util.specs.Width.{M}
-use Rattle.util.specs.Refusal.{answered, refused, unless, Tells, holds, fails}
+use Rattle.util.specs.Power.{PowerOfTwo}
+use Rattle.util.specs.Round.{up}
+use Rattle.util.specs.Refusal.{answered, refused, unless, Tells, holds, fails, Meets}
 use Rattle.util.specs.View.{numberSays}
 use Rattle.util.specs.declared.Answer.{Answer}
 use Rattle.util.specs.declared.Answer.the-variants as Answer
-use Rattle.util.proofs.Refusals.{tells-lt}
-use Rattle.layout.specs.Extend.{passes8}
-use Rattle.util.proofs.Tables.{apart}
+use Rattle.util.specs.Helpers.{alignCauses}
+use Rattle.util.proofs.Refusals.{tells-lt, meets, clear}
+use Rattle.util.proofs.Powers.{positive}
+use Rattle.util.proofs.Rounding.{up-multiple, up-ge, up-least}
+use Rattle.util.proofs.Helpers.{power, align-decided}
+use Rattle.layout.specs.Extend.{passes8, LeastPlace, roundUpCauses, roundUpFor}
+use Rattle.util.proofs.Tables.{apart, accepted-first}
 
 -- a number that is at most M is not refused; one above M is, by 8
 pub within : {T : Type 0} (w v : ℕ) (x : T) → v ≤ M w → answered x ≡ unless (passes8 w v ∷ []) x
@@ -39,3 +45,17 @@ up-told w v r e g = kept (M w) v (tells-lt (M w) v) (sym (ap numberSays g) ∙ e
 pub up-refused : {k : ℕ} (w v : ℕ) (r : Answer) → numberSays r ≡ unless (passes8 w v ∷ []) v → r ≡ Answer.Refused k → (k ≡ 8) × (M w < v)
 unfolding unless
 up-refused {k} w v r e g = stopped (M w) v k v (tells-lt (M w) v) (sym (ap numberSays g) ∙ e)
+
+-- rounding up gives the least place
+pub least-place : (s a : ℕ) → 0 < a → LeastPlace s a (up s a)
+least-place s a h = record { after = up-ge s a h; aligned = up-multiple s a; least = λ k g e. up-least s a k h e g }
+
+pub round-meets : (w v a : ℕ) → a < 2 ^ w → Meets (roundUpCauses w v a) (LeastPlace v a) (roundUpFor w v a)
+unfolding roundUpFor
+round-meets w v a h =
+    meets (roundUpCauses w v a) (up v a) (align-decided w a h, λ _. (tells-lt (M w) (up v a), λ _. tt)) (λ n. least-place v a (positive (power w a h (n .0))))
+
+-- to a power of two only 8 is left to refuse
+pub round-power : {a : ℕ} (w v : ℕ) → PowerOfTwo a → a < 2 ^ w → roundUpFor w v a ≡ unless (passes8 w (up v a) ∷ []) (up v a)
+unfolding roundUpFor
+round-power {a} w v p h = accepted-first (alignCauses w a) (passes8 w (up v a) ∷ []) v (up v a) (clear (alignCauses w a) (align-decided w a h, λ _. tt) ((λ n. n p), tt))

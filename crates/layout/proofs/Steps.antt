@@ -15,12 +15,12 @@ use Rattle.util.specs.Refusal.{Outcome, answered, refused, unless, Tells, holds
 use Rattle.util.specs.Helpers.{Larger, alignsCauses}
 use Rattle.util.proofs.Refusals.{tells-eq, tells-lt, tells-not, tells-and, tells-or, meets, granted}
 use Rattle.util.proofs.Powers.{positive, tells-power}
-use Rattle.util.proofs.Rounding.{up-multiple, up-ge, up-least}
 use Rattle.util.proofs.Helpers.{power, max-meets, max-answered}
 use Rattle.layout.specs.Layout.{Info, fixed, trailing, Layout, layoutCauses, checkFor}
-use Rattle.layout.specs.Extend.{memberAlign, placeOf, extended, badPacking, greatestAlign, IsTrailing, isTrailing, Passes9, passes9, memberPasses, placeCauses, stepCauses, extendCauses, extendFor, LeastPlace, Extended}
+use Rattle.layout.specs.Extend.{memberAlign, placeOf, extended, badPacking, greatestAlign, IsTrailing, isTrailing, Passes9, passes9, memberPasses, placeCauses, stepCauses, extendCauses, extendFor, Extended}
 use Rattle.util.proofs.Tables.{decided-both, none-both, refused-first, accepted-first}
 use Rattle.layout.proofs.Layouts.{layout-decided}
+use Rattle.layout.proofs.Passes.{least-place}
 
 -- what is not refuted holds, where a test decides it
 pub stable : {P : Type 0} {b : Bool} → Tells P b → ((P → ⊥) → ⊥) → P
@@ -94,10 +94,6 @@ pub extend-decided : (w : ℕ) (l m : Layout) (packing : ℕ) → l .align < 2 ^
 extend-decided w l m packing hl hm hp =
     decided-both (layoutCauses w l) (layoutCauses w m ++ stepCauses w l m packing) (layout-decided w l hl)
     (λ _. decided-both (layoutCauses w m) (stepCauses w l m packing) (layout-decided w m hm) (λ _. step-decided w l m packing hp))
-
--- rounding up gives the least place
-least-place : (s a : ℕ) → 0 < a → LeastPlace s a (up s a)
-least-place s a h = record { after = up-ge s a h; aligned = up-multiple s a; least = λ k g e. up-least s a k h e g }
 
 -- the larger of two powers
 larger : {a b : ℕ} (w : ℕ) → PowerOfTwo a → PowerOfTwo b → a < 2 ^ w → b < 2 ^ w → Larger a b (max a b)

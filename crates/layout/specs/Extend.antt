@@ -10,7 +10,7 @@ use Rattle.util.specs.Width.{M}
 use Rattle.util.specs.Power.{PowerOfTwo, powerOfTwo}
 use Rattle.util.specs.Round.{up}
 use Rattle.util.specs.Refusal.{Outcome, Cause, unless, Tells}
-use Rattle.util.specs.Helpers.{Larger}
+use Rattle.util.specs.Helpers.{badAlign, Larger}
 use Rattle.layout.specs.Layout.{Info, fixed, trailing, Layout, layoutCauses}
 
 -- a member's alignment: the smaller of its own and the packing; packing 0 means that none was asked for
@@ -81,6 +81,19 @@ afterTrailing i = record { number = 7; test = isTrailing i; means = IsTrailing i
 abbrev pub passes8 : ℕ → ℕ → Cause
 passes8 w v = record { number = 8; test = ltb (M w) v; means = M w < v }
 
+-- q is the least place that is no lower than s and a multiple of a
+pub record LeastPlace (s a q : ℕ) : Type 0 where
+  pub after : s ≤ q
+  pub aligned : q % a ≡ 0
+  pub least : (k : ℕ) → s ≤ k → k % a ≡ 0 → q ≤ k
+
+-- `round_up`: a number rounded up, as places and sizes are
+abbrev pub roundUpCauses : ℕ → ℕ → ℕ → List Cause
+roundUpCauses w v a = badAlign w a ∷ passes8 w (up v a) ∷ []
+
+unfoldable pub roundUpFor : ℕ → ℕ → ℕ → Outcome ℕ
+roundUpFor w v a = unless (roundUpCauses w v a) (up v a)
+
 -- 9: the member's size, o or b, placed at q, passes M
 abbrev pub Passes9 : ℕ → ℕ → Info → Type 0
 Passes9 w q (fixed s) = M w < q + s
@@ -111,12 +124,6 @@ extendCauses w l m packing = layoutCauses w l ++ (layoutCauses w m ++ stepCauses
 -- `extend`
 unfoldable pub extendFor : ℕ → Layout → Layout → ℕ → Outcome Layout
 extendFor w l m packing = unless (extendCauses w l m packing) (extended l m packing)
-
--- q is the least place that is no lower than s and a multiple of a
-pub record LeastPlace (s a q : ℕ) : Type 0 where
-  pub after : s ≤ q
-  pub aligned : q % a ≡ 0
-  pub least : (k : ℕ) → s ≤ k → k % a ≡ 0 → q ≤ k
 
 -- what the step means: the member stands at the least place that aligns it
 pub record Extended (l m : Layout) (packing : ℕ) (r : Layout) : Type 0 where

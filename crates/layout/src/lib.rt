@@ -11,7 +11,7 @@ ghost use Rattle.util.specs.View.{numberSays, decisionSays};
 ghost use Rattle.rounding.specs.Word.{IsWord, alignOf};
 ghost use Rattle.trailing.specs.View.{trailingOf};
 ghost use Rattle.layout.specs.Layout.{trailing, noWord, layoutCauses, checkFor, HeldIn};
-ghost use Rattle.layout.specs.Extend.{memberAlign, placedAt, extended, badPacking, aboveGreatest, passes8, memberPasses, placeCauses, stepCauses, extendCauses, extendFor, Extended, IsTrailing};
+ghost use Rattle.layout.specs.Extend.{memberAlign, placedAt, extended, badPacking, aboveGreatest, passes8, roundUpCauses, roundUpFor, LeastPlace, memberPasses, placeCauses, stepCauses, extendCauses, extendFor, Extended, IsTrailing};
 ghost use Rattle.layout.specs.Pad.{fixedPart, coarser, finer, paddedTail, paddedInfo, paddedMark, padded, paddingNeeds, padCauses, padFor, Padded, staticFor, DynamicPadding, dynamicPadding, dynamicFor};
 ghost use Rattle.layout.specs.View.{infoOf, layoutOf, sizedOf, layoutSays, infoSays, checkSays};
 use rounding::ComponentsAnswer;
@@ -64,9 +64,9 @@ pub enum Check {
 pub const CURRENT_MAX_ALIGN: u64 = 1 << 29;
 
 // len rounded up to a multiple of align, where that does not pass the greatest number.
-fn round_up(len: u64, align: u64) -> Answer
-    requires { ⌜ PowerOfTwo align ⌝ }
-    ensures { λ r. ⌜ numberSays r ≡ unless (passes8 64 (up len align) ∷ []) (up len align) ⌝ }
+pub fn round_up(len: u64, align: u64) -> Answer
+    ensures answer { λ r. ⌜ numberSays r ≡ roundUpFor 64 len align ⌝ }
+    ensures meaning { λ r. ⌜ Meets (roundUpCauses 64 len align) (LeastPlace len align) (numberSays r) ⌝ }
 {
     match util::padding_needed_for(len, align) {
         Answer::Number(padding) => {

@@ -11,13 +11,13 @@ use Rattle.rounding.proofs.Words.{align-is, phase-is}
 use Rattle.trailing.specs.View.{trailingOf}
 use Rattle.layout.specs.Layout.{trailing}
 use Rattle.layout.specs.Pad.{fixedPart, coarser}
-use Rattle.layout.proofs.Passes.{within, past, up-told, up-refused}
+use Rattle.layout.proofs.Passes.{within, past, up-told, up-refused, round-power}
 use borrow.Author.Needs.{needs}
 use Rattle.layout.proofs.pad_coarser.Statement.{statement}
 use Rattle.layout.proofs.pad_coarser.Tie as tie
 
 round-up-requires : tie.Need-round-up-requires
-round-up-requires c κs = c .pre .1 .power
+round-up-requires c κs = search needs
 
 enum-known-rounded-base : tie.Need-enum-known-rounded-base
 enum-known-rounded-base c = search needs
@@ -32,7 +32,7 @@ returns c =
     let t = trailingOf (a .tail) in
     let x = k .pre .1 in
     let f : up (t .base) (a .size-align) + a .size-phase ≡ fixedPart 64 t = ap₂ (λ (y z : ℕ). up (t .base) y + z) (align-is 64 x (omega arith)) (phase-is 64 x (omega arith)) in
-    let n = up-told 64 (up (t .base) (a .size-align)) (c .before .before .before .before .round-up .result) (c .before .before .before .before .round-up .ensures) (c .before .before .rounded-base .given .1) in
+    let n = up-told 64 (up (t .base) (a .size-align)) (c .before .before .before .before .round-up .result) (c .before .before .before .before .round-up .ensures .0 ∙ round-power 64 (t .base) (k .pre .1 .power) (k .fits .size-align .fits)) (c .before .before .rounded-base .given .1) in
     past 64 (fixedPart 64 t) (trailing (coarser 64 (a .align) t)) (omega (arith, f, n .0))
 
 add-fixed-contribution : tie.Need-add-fixed-contribution
@@ -59,7 +59,7 @@ returns-2 c =
     let x = k .pre .1 in
     let f : up (t .base) (a .size-align) + a .size-phase ≡ fixedPart 64 t = ap₂ (λ (y z : ℕ). up (t .base) y + z) (align-is 64 x (omega arith)) (phase-is 64 x (omega arith)) in
     let q = k .pre .0 in
-    let n = up-told 64 (up (t .base) (a .size-align)) (c .before .before .before .before .round-up .result) (c .before .before .before .before .round-up .ensures) (c .before .before .rounded-base .given .1) in
+    let n = up-told 64 (up (t .base) (a .size-align)) (c .before .before .before .before .round-up .result) (c .before .before .before .before .round-up .ensures .0 ∙ round-power 64 (t .base) (k .pre .1 .power) (k .fits .size-align .fits)) (c .before .before .rounded-base .given .1) in
     let v = c .before .before .rounded-base .given .0 .0 + a .size-phase in
     let g : v ≡ fixedPart 64 t = ap (λ (y : ℕ). y + a .size-phase) (n .0) ∙ f in
     let b = mask-down 64 v q (k .fits .align .fits) (omega arith) ∙ ap (λ (y : ℕ). down y (a .align)) g in
@@ -74,7 +74,7 @@ returns-3 c =
     let t = trailingOf (a .tail) in
     let x = k .pre .1 in
     let f : up (t .base) (a .size-align) + a .size-phase ≡ fixedPart 64 t = ap₂ (λ (y z : ℕ). up (t .base) y + z) (align-is 64 x (omega arith)) (phase-is 64 x (omega arith)) in
-    let n = up-refused 64 (up (t .base) (a .size-align)) (c .before .before .before .round-up .result) (c .before .before .before .round-up .ensures) (c .before .number .given .1) in
+    let n = up-refused 64 (up (t .base) (a .size-align)) (c .before .before .before .round-up .result) (c .before .before .before .round-up .ensures .0 ∙ round-power 64 (t .base) (k .pre .1 .power) (k .fits .size-align .fits)) (c .before .number .given .1) in
     ap refused (n .0) ∙ past 64 (fixedPart 64 t) (trailing (coarser 64 (a .align) t)) (omega (arith, f, n .1))
 
 pub pad-coarser-spec : {M : Type 1} → statement M

@@ -11,6 +11,7 @@ use Rattle.layout.specs.Extend.{passes8}
 use Rattle.layout.specs.View.{infoOf}
 use Rattle.layout.specs.declared.SizeInfo.{SizeInfo}
 use Rattle.layout.specs.declared.SizeInfo.the-variants.{SliceDst}
+use Rattle.layout.proofs.Passes.{round-power}
 use Rattle.util.proofs.Tables.{told-by, answer-is, accepted-as, refused-as}
 use borrow.Author.Needs.{needs}
 use Rattle.layout.proofs.pad_size.Statement.{statement}
@@ -40,7 +41,7 @@ returns : tie.Need-returns
 returns c =
     let s = c .before .before .before .before .before .size-info .given .0 .0 in
     let a = c .before .before .before .before .before .before .before .args .align in
-    let e = told-by numberSays (c .before .before .before .round-up .ensures) (c .before .padded-size .given .1) in
+    let e = told-by numberSays (c .before .before .before .round-up .ensures .0 ∙ round-power 64 s (c .before .before .before .before .before .before .before .pre .0) (c .before .before .before .before .before .before .before .fits .align .fits)) (c .before .padded-size .given .1) in
     simp (c .before .before .before .before .before .size-info .given .1)
     (ap (λ (n : ℕ). answered (fixed n)) (answer-is (passes8 64 (up s a) ∷ []) (up s a) e) ∙ sym (accepted-as (passes8 64 (up s a) ∷ []) (up s a) (fixed (up s a)) e))
 
@@ -48,7 +49,7 @@ returns-2 : tie.Need-returns-2
 returns-2 c =
     let s = c .before .before .before .before .before .size-info .given .0 .0 in
     let a = c .before .before .before .before .before .before .before .args .align in
-    simp (c .before .before .before .before .before .size-info .given .1) (sym (refused-as (passes8 64 (up s a) ∷ []) (up s a) (fixed (up s a)) (told-by numberSays (c .before .before .before .round-up .ensures) (c .before .number .given .1))))
+    simp (c .before .before .before .before .before .size-info .given .1) (sym (refused-as (passes8 64 (up s a) ∷ []) (up s a) (fixed (up s a)) (told-by numberSays (c .before .before .before .round-up .ensures .0 ∙ round-power 64 s (c .before .before .before .before .before .before .before .pre .0) (c .before .before .before .before .before .before .before .fits .align .fits)) (c .before .number .given .1))))
 
 returns-3 : tie.Need-returns-3
 returns-3 c = simp (c .before .before .size-info2 .given .1) (c .pad-trailing .ensures)

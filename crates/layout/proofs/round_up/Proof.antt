@@ -1,14 +1,23 @@
 -- `layout::round_up` meets its contract. Assumes nothing.
-use mathlib.Core.Path.{_≡_, ap, _∙_}
-use Prim.Native.Nat.{_+_}
+use mathlib.Core.Path.{_≡_, sym, ap, _∙_}
+use mathlib.Core.List.{[], _∷_}
+use Prim.Native.Nat.{ℕ, _+_}
 use native.Mathlib.Omega.{arith}
-use Rattle.util.specs.Round.{up}
+use Rattle.util.specs.Power.{PowerOfTwo}
+use Rattle.util.specs.Round.{up, padding}
 use Rattle.util.specs.Refusal.{answered}
+use Rattle.util.specs.Helpers.{alignCauses, paddingFor}
+use Rattle.util.specs.View.{numberSays}
+use Rattle.util.specs.declared.Answer.{Answer}
+use Rattle.util.specs.declared.Answer.the-variants as Variants
+use Rattle.util.proofs.Refusals.{told}
+use Rattle.util.proofs.Tables.{told-by, accepted-none, refused-first}
 use Rattle.util.proofs.Powers.{positive}
 use Rattle.util.proofs.Rounding.{up-padding}
-use Rattle.util.proofs.Helpers.{padding-answered}
-use Rattle.util.proofs.Told.{number-told, number-kept}
-use Rattle.layout.proofs.Passes.{within, past}
+use Rattle.util.proofs.Helpers.{power, align-decided, padding-answered}
+use Rattle.util.proofs.Told.{number-told}
+use Rattle.layout.proofs.Passes.{within, past, round-meets, round-power}
+use Rattle.layout.specs.Extend.{passes8, roundUpFor}
 use borrow.Author.Needs.{needs}
 use Rattle.layout.proofs.round_up.Statement.{statement}
 use Rattle.layout.proofs.round_up.Tie as tie
@@ -28,25 +37,42 @@ add-t10 c = search needs
 enum-known-number : tie.Need-enum-known-number
 enum-known-number c = search needs
 
+-- an answer of the padding says that the alignment is a power of two
+aligned : (k : tie.Start) (r : Answer) {n : ℕ} → numberSays r ≡ paddingFor 64 (k .args .len) (k .args .align) → r ≡ Variants.Number n → PowerOfTwo (k .args .align)
+unfolding paddingFor
+aligned k r e g =
+    let a = k .args .align in
+    power 64 a (k .fits .align .fits) (accepted-none (alignCauses 64 a) (padding (k .args .len) a) (align-decided 64 a (k .fits .align .fits), λ _. tt) (told-by numberSays e g) .0)
+
 returns : tie.Need-returns
 returns c =
     let k = c .before .before .before .before .before in
-    let e = number-told (c .before .before .before .before .padding-needed-for .result) (c .before .before .before .before .padding-needed-for .ensures .0) (padding-answered 64 (k .args .len) (k .pre) (k .fits .align .fits)) (c .before .before .padding .given .1) in
-    let u = up-padding (k .args .len) (k .args .align) (positive (k .pre)) in
-    past 64 (up (k .args .len) (k .args .align)) (up (k .args .len) (k .args .align)) (omega arith)
+    let f = c .before .before .before .before .padding-needed-for in
+    let p = aligned k (f .result) (f .ensures .0) (c .before .before .padding .given .1) in
+    let e = number-told (f .result) (f .ensures .0) (padding-answered 64 (k .args .len) p (k .fits .align .fits)) (c .before .before .padding .given .1) in
+    let u = up-padding (k .args .len) (k .args .align) (positive p) in
+    told (round-meets 64 (k .args .len) (k .args .align) (k .fits .align .fits))
+    (past 64 (up (k .args .len) (k .args .align)) (up (k .args .len) (k .args .align)) (omega arith) ∙ sym (round-power 64 (k .args .len) p (k .fits .align .fits)))
 
 returns-2 : tie.Need-returns-2
 returns-2 c =
     let k = c .before .before .before .before .before in
-    let e = number-told (c .before .before .before .before .padding-needed-for .result) (c .before .before .before .before .padding-needed-for .ensures .0) (padding-answered 64 (k .args .len) (k .pre) (k .fits .align .fits)) (c .before .before .padding .given .1) in
-    let u = up-padding (k .args .len) (k .args .align) (positive (k .pre)) in
+    let f = c .before .before .before .before .padding-needed-for in
+    let p = aligned k (f .result) (f .ensures .0) (c .before .before .padding .given .1) in
+    let e = number-told (f .result) (f .ensures .0) (padding-answered 64 (k .args .len) p (k .fits .align .fits)) (c .before .before .padding .given .1) in
+    let u = up-padding (k .args .len) (k .args .align) (positive p) in
     let s : k .args .len + c .before .before .padding .given .0 .0 ≡ up (k .args .len) (k .args .align) = omega arith in
-    ap answered s ∙ within 64 (up (k .args .len) (k .args .align)) (up (k .args .len) (k .args .align)) (omega arith)
+    told (round-meets 64 (k .args .len) (k .args .align) (k .fits .align .fits))
+    (ap answered s ∙ within 64 (up (k .args .len) (k .args .align)) (up (k .args .len) (k .args .align)) (omega arith) ∙ sym (round-power 64 (k .args .len) p (k .fits .align .fits)))
 
 returns-3 : tie.Need-returns-3
+unfolding roundUpFor paddingFor
 returns-3 c =
     let k = c .before .before .before .before in
-    absurd (number-kept (c .before .before .before .padding-needed-for .result) (c .before .before .before .padding-needed-for .ensures .0) (padding-answered 64 (k .args .len) (k .pre) (k .fits .align .fits)) (c .before .number .given .1))
+    let v = k .args .len in
+    let a = k .args .align in
+    told (round-meets 64 v a (k .fits .align .fits))
+    (sym (refused-first (alignCauses 64 a) (passes8 64 (up v a) ∷ []) (padding v a) (up v a) (told-by numberSays (c .before .before .before .padding-needed-for .ensures .0) (c .before .number .given .1))))
 
 pub round-up-spec : {M : Type 1} → statement M
 round-up-spec =
