@@ -7,7 +7,7 @@ use Rattle.rounding.specs.Word.{IsWord}
 use Rattle.trailing.specs.Size.{Trailing, A, p, sizeAt}
 use Rattle.trailing.specs.Count.{GreatestBytes, bytesWithin, GreatestCount, countWithin}
 use Rattle.layout.specs.Layout.{Info, Layout, sizeIn, noWord, layoutCauses}
-use Rattle.layout.specs.Pad.{Padded}
+use Rattle.padding.specs.Pad.{Padded}
 use Rattle.cast.specs.Cast.{Side, suffix, Greatest, countIn, elemZero, tooSmall, bytesCauses, castCauses, Grant, castFor, Granted, prefix, grantOf}
 use Rattle.cast.specs.Exact.{hasExact, ExactCount, ExactIn, noExact, exactCauses, exactFor}
 use mathlib.Core.Bool.{false}

@@ -20,7 +20,7 @@ use Rattle.trailing.specs.Size.{Trailing, A, p, sizeWith, sizeAt}
 use Rattle.trailing.specs.Count.{GreatestBytes, bytesWithin, GreatestCount, countWithin}
 use Rattle.trailing.proofs.Sizes.{size-within, size-mono, size-ge, greatest-bytes, greatest-count}
 use Rattle.layout.specs.Layout.{Info, fixed, trailing, Layout, IsCount, sizeIn, noWord, layoutCauses}
-use Rattle.layout.specs.Pad.{SameShape, Padded}
+use Rattle.padding.specs.Pad.{SameShape, Padded}
 use Rattle.layout.proofs.Layouts.{layout-decided}
 use Rattle.cast.specs.Cast.{Side, prefix, suffix, testedAddress, splitAt, Greatest, countIn, elemZero, addressPasses, notAligned, tooSmall, bytesCauses, castCauses, Grant, grantOf, castFor, Granted}
 

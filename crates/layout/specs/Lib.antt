@@ -1,4 +1,3 @@
 pub mod Layout
 pub mod Extend
-pub mod Pad
 pub mod View

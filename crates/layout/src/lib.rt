@@ -1,25 +1,18 @@
 // Whole layouts, after zerocopy's DstLayout.
 ghost use mathlib.Core.Path.{_≡_};
-ghost use mathlib.Core.Bool.{false, not, _&&_};
+ghost use mathlib.Core.Bool.{_&&_};
 ghost use mathlib.Core.List.{[], _∷_};
-ghost use Prim.Native.Nat.{ℕ, _%_, _<_, max};
+ghost use Prim.Native.Nat.{ℕ, max};
 ghost use lib.Dec.{eqb};
 ghost use Rattle.util.specs.Power.{PowerOfTwo};
-ghost use Rattle.util.specs.Round.{up};
-ghost use Rattle.util.specs.Refusal.{answered, refused, unless, None, Meets, Tells};
-ghost use Rattle.util.specs.View.{numberSays, decisionSays};
-ghost use Rattle.rounding.specs.Word.{IsWord, alignOf};
+ghost use Rattle.util.specs.Refusal.{answered, refused, unless, Meets};
+ghost use Rattle.util.specs.View.{numberSays};
 ghost use Rattle.trailing.specs.View.{trailingOf};
-ghost use Rattle.layout.specs.Layout.{trailing, noWord, layoutCauses, checkFor, HeldIn};
-ghost use Rattle.layout.specs.Extend.{memberAlign, placedAt, extended, badPacking, aboveGreatest, passes8, roundUpCauses, roundUpFor, LeastPlace, memberPasses, placeCauses, stepCauses, extendCauses, extendFor, Extended, IsTrailing};
-ghost use Rattle.layout.specs.Pad.{fixedPart, coarser, finer, paddedTail, paddedInfo, paddedMark, padded, paddingNeeds, padCauses, padFor, Padded, staticFor, DynamicPadding, dynamicPadding, dynamicFor};
+ghost use Rattle.layout.specs.Layout.{trailing, layoutCauses, checkFor, HeldIn};
+ghost use Rattle.layout.specs.Extend.{memberAlign, placedAt, extended, badPacking, aboveGreatest, roundUpCauses, roundUpFor, LeastPlace, memberPasses, placeCauses, stepCauses, extendCauses, extendFor, Extended, IsTrailing};
 ghost use Rattle.layout.specs.View.{infoOf, layoutOf, sizedOf, layoutSays, infoSays, checkSays};
-use rounding::ComponentsAnswer;
-use rounding::RoundingAlignAndPhase;
-use trailing::SizeAnswer;
 use trailing::TrailingSliceLayout;
 use util::Answer;
-use util::Decision;
 use util::refusal;
 
 // How large a layout is: a size, or a size at each count.
@@ -232,143 +225,6 @@ pub fn extend_sized(own: SizedLayout, field: DstLayout, repr_packed: u64) -> Lay
     }
 }
 
-// Padding to an alignment above that of the rounding word. The fixed part of every size, the base rounded up to the word's
-// alignment and the phase, splits into a multiple of the new alignment and the new phase.
-fn pad_coarser(
-    tail: TrailingSliceLayout,
-    size_align: u64,
-    size_phase: u64,
-    align: u64,
-) -> SizeInfoAnswer
-    requires { ⌜ PowerOfTwo align × IsWord (tail .«size_rounding_align_and_phase» .0) «size_align» «size_phase» ⌝ }
-    ensures { λ r. ⌜ infoSays r ≡ unless (passes8 64 (fixedPart 64 (trailingOf tail)) ∷ []) (trailing (coarser 64 align (trailingOf tail))) ⌝ }
-{
-    match round_up(tail.size_base, size_align) {
-        Answer::Number(rounded_base) => {
-            if u64::MAX - rounded_base < size_phase {
-                return SizeInfoAnswer::Refused(refusal::ROUNDING_PASSES_MAX);
-            }
-            let fixed_contribution = rounded_base + size_phase;
-            let align_mask = align - 1;
-            let phase = fixed_contribution & align_mask;
-            SizeInfoAnswer::Info(SizeInfo::SliceDst(TrailingSliceLayout {
-                offset: tail.offset,
-                elem_size: tail.elem_size,
-                size_base: fixed_contribution & !align_mask,
-                size_rounding_align_and_phase: RoundingAlignAndPhase(align + phase),
-            }))
-        }
-        Answer::Refused(number) => SizeInfoAnswer::Refused(number),
-    }
-}
-
-// Padding to an alignment that divides that of the rounding word: what the word rounds is a multiple of it already.
-fn pad_finer(tail: TrailingSliceLayout, align: u64) -> SizeInfoAnswer
-    requires { ⌜ PowerOfTwo align ⌝ }
-    ensures { λ r. ⌜ infoSays r ≡ unless (passes8 64 (up (tail .«size_base») align) ∷ []) (trailing (finer align (trailingOf tail))) ⌝ }
-{
-    let word = tail.size_rounding_align_and_phase;
-    match round_up(tail.size_base, align) {
-        Answer::Number(size_base) => SizeInfoAnswer::Info(SizeInfo::SliceDst(TrailingSliceLayout {
-            offset: tail.offset,
-            elem_size: tail.elem_size,
-            size_base,
-            size_rounding_align_and_phase: word,
-        })),
-        Answer::Refused(number) => SizeInfoAnswer::Refused(number),
-    }
-}
-
-fn pad_trailing(tail: TrailingSliceLayout, align: u64) -> SizeInfoAnswer
-    requires { ⌜ PowerOfTwo align × (0 < tail .«size_rounding_align_and_phase» .0) ⌝ }
-    ensures { λ r. ⌜ infoSays r ≡ unless (passes8 64 (paddingNeeds 64 align (trailing (trailingOf tail))) ∷ []) (trailing (paddedTail 64 align (trailingOf tail))) ⌝ }
-{
-    let word = tail.size_rounding_align_and_phase;
-    match word.components() {
-        ComponentsAnswer::Components {
-            align: size_align,
-            phase: size_phase,
-        } => {
-            if size_align < align {
-                pad_coarser(tail, size_align, size_phase, align)
-            } else {
-                pad_finer(tail, align)
-            }
-        }
-        ComponentsAnswer::Refused(number) => SizeInfoAnswer::Refused(number),
-    }
-}
-
-// The sizes, rounded up to the alignment.
-fn pad_size(size_info: SizeInfo, align: u64) -> SizeInfoAnswer
-    requires { ⌜ PowerOfTwo align × (noWord (infoOf «size_info») .means → ⊥) ⌝ }
-    ensures { λ r. ⌜ infoSays r ≡ unless (passes8 64 (paddingNeeds 64 align (infoOf «size_info»)) ∷ []) (paddedInfo 64 align (infoOf «size_info»)) ⌝ }
-{
-    match size_info {
-        SizeInfo::Sized { size } => match round_up(size, align) {
-            Answer::Number(padded_size) => {
-                SizeInfoAnswer::Info(SizeInfo::Sized { size: padded_size })
-            }
-            Answer::Refused(number) => SizeInfoAnswer::Refused(number),
-        },
-        SizeInfo::SliceDst(tail) => pad_trailing(tail, align),
-    }
-}
-
-// Whether the mark stays: that of a fixed layout falls where padding adds bytes, which it does not to a multiple.
-fn pad_mark(size_info: SizeInfo, align: u64, unpadded: bool) -> bool
-    requires { ⌜ PowerOfTwo align ⌝ }
-    ensures { λ r. ⌜ r ≡ paddedMark align (infoOf «size_info») unpadded ⌝ }
-{
-    match size_info {
-        SizeInfo::Sized { size } => {
-            if unpadded {
-                let remainder = size & (align - 1);
-                remainder == 0
-            } else {
-                false
-            }
-        }
-        SizeInfo::SliceDst(_) => unpadded,
-    }
-}
-
-// Whether the padding changes with the count: the element size is not a multiple of the rounding word's alignment.
-fn has_dynamic_stride(tail: TrailingSliceLayout) -> Decision
-    requires { ⌜ 0 < tail .«size_rounding_align_and_phase» .0 ⌝ }
-    ensures { λ r. ⌜ decisionSays r ≡ answered (not (eqb (tail .«elem_size» % alignOf 64 (tail .«size_rounding_align_and_phase» .0)) 0)) ⌝ }
-{
-    let word = tail.size_rounding_align_and_phase;
-    match word.align() {
-        Answer::Number(align) => Decision::Is(tail.elem_size & (align - 1) != 0),
-        Answer::Refused(number) => Decision::Refused(number),
-    }
-}
-
-fn trailing_padding(tail: TrailingSliceLayout) -> Decision
-    requires { ⌜ 0 < tail .«size_rounding_align_and_phase» .0 ⌝ }
-    ensures { λ r. ⌜ decisionSays r ≡ answered (dynamicPadding 64 (trailing (trailingOf tail))) ⌝ }
-{
-    let SizeAnswer::Size(initial_size) = tail.size_for_elems(0) else {
-        return Decision::Is(true);
-    };
-    if initial_size == tail.offset {
-        has_dynamic_stride(tail)
-    } else {
-        Decision::Is(true)
-    }
-}
-
-fn dynamic_padding(size_info: SizeInfo) -> Decision
-    requires { ⌜ (noWord (infoOf «size_info») .means → ⊥) ⌝ }
-    ensures { λ r. ⌜ decisionSays r ≡ answered (dynamicPadding 64 (infoOf «size_info»)) ⌝ }
-{
-    match size_info {
-        SizeInfo::Sized { size: _ } => Decision::Is(false),
-        SizeInfo::SliceDst(tail) => trailing_padding(tail),
-    }
-}
-
 impl DstLayout {
     // Whether the layout is one: its alignment is a power of two and its rounding word, if it has one, is not 0.
     pub fn check(self) -> Check
@@ -432,60 +288,6 @@ impl DstLayout {
                 repr_packed,
             ),
             SizeInfo::SliceDst(_) => LayoutAnswer::Refused(self.after_trailing(field, repr_packed)),
-        }
-    }
-
-    fn pad_checked(self) -> LayoutAnswer
-        requires { ⌜ None (layoutCauses 64 (layoutOf self)) ⌝ }
-        ensures { λ r. ⌜ layoutSays r ≡ unless (passes8 64 (paddingNeeds 64 (self .align) (infoOf (self .«size_info»))) ∷ []) (padded 64 (layoutOf self)) ⌝ }
-    {
-        let align = self.align;
-        let size_info = self.size_info;
-        let unpadded = pad_mark(size_info, align, self.statically_shallow_unpadded);
-        match pad_size(size_info, align) {
-            SizeInfoAnswer::Info(padded_info) => LayoutAnswer::Layout(DstLayout {
-                align,
-                size_info: padded_info,
-                statically_shallow_unpadded: unpadded,
-            }),
-            SizeInfoAnswer::Refused(number) => LayoutAnswer::Refused(number),
-        }
-    }
-
-    // The layout with the padding after its last member: each size rounded up to the alignment.
-    pub fn pad_to_align(self) -> LayoutAnswer
-        ensures answer { λ r. ⌜ layoutSays r ≡ padFor 64 (layoutOf self) ⌝ }
-        ensures meaning { λ r. ⌜ Meets (padCauses 64 (layoutOf self)) (Padded 64 (layoutOf self)) (layoutSays r) ⌝ }
-    {
-        match self.check() {
-            Check::Accepted => self.pad_checked(),
-            Check::Refused(number) => LayoutAnswer::Refused(number),
-        }
-    }
-
-    // Whether padding between the members is not ruled out. A yes does not mean that there is some.
-    pub fn requires_static_padding(self) -> Decision
-        ensures answer { λ r. ⌜ decisionSays r ≡ staticFor 64 (layoutOf self) ⌝ }
-        ensures meaning { λ r. ⌜ Meets (layoutCauses 64 (layoutOf self)) (Tells (layoutOf self .mark ≡ false)) (decisionSays r) ⌝ }
-    {
-        match self.check() {
-            Check::Accepted => {
-                let unpadded = self.statically_shallow_unpadded;
-                Decision::Is(!unpadded)
-            }
-            Check::Refused(number) => Decision::Refused(number),
-        }
-    }
-
-    // Whether padding after the elements is not ruled out at every count. A yes does not mean that a count needs some.
-    pub fn requires_dynamic_padding(self) -> Decision
-        ensures answer { λ r. ⌜ decisionSays r ≡ dynamicFor 64 (layoutOf self) ⌝ }
-        ensures meaning { λ r. ⌜ Meets (layoutCauses 64 (layoutOf self)) (Tells (DynamicPadding 64 (infoOf (self .«size_info»)))) (decisionSays r) ⌝ }
-    {
-        let size_info = self.size_info;
-        match self.check() {
-            Check::Accepted => dynamic_padding(size_info),
-            Check::Refused(number) => Decision::Refused(number),
         }
     }
 }

@@ -11,7 +11,7 @@ ghost use lib.ListN.{length};
 ghost use Rattle.trailing.specs.Sequence.{sameSequence};
 ghost use Rattle.make.specs.Make.{newZstFor, typeFor, sliceFor};
 ghost use Rattle.layout.specs.Extend.{extendFor};
-ghost use Rattle.layout.specs.Pad.{padFor, staticFor, dynamicFor};
+ghost use Rattle.padding.specs.Pad.{padFor, staticFor, dynamicFor};
 ghost use Rattle.layout.specs.View.{layoutSays};
 ghost use Rattle.record.specs.Record.{wordsFor, decodeFor};
 ghost use Rattle.record.specs.Scalar.{target64, scalarFor};
@@ -528,7 +528,7 @@ pub extern "C" fn lukaripe_pad_to_align(layout: Layout) -> LayoutOut
     ensures { λ r. ⌜ r ≡ layoutOut (withLayout 64 layout (λ l. padFor 64 l)) ⌝ }
 {
     match layout_in(layout) {
-        LayoutAnswer::Layout(l) => layout_out(l.pad_to_align()),
+        LayoutAnswer::Layout(l) => layout_out(padding::pad_to_align(l)),
         LayoutAnswer::Refused(refusal) => layout_out(LayoutAnswer::Refused(refusal)),
     }
 }
@@ -539,7 +539,7 @@ pub extern "C" fn lukaripe_requires_static_padding(layout: Layout) -> Number
     ensures { λ r. ⌜ r ≡ decisionOut (withLayout 64 layout (λ l. staticFor 64 l)) ⌝ }
 {
     match layout_in(layout) {
-        LayoutAnswer::Layout(l) => decision_out(l.requires_static_padding()),
+        LayoutAnswer::Layout(l) => decision_out(padding::requires_static_padding(l)),
         LayoutAnswer::Refused(refusal) => decision_out(Decision::Refused(refusal)),
     }
 }
@@ -550,7 +550,7 @@ pub extern "C" fn lukaripe_requires_dynamic_padding(layout: Layout) -> Number
     ensures { λ r. ⌜ r ≡ decisionOut (withLayout 64 layout (λ l. dynamicFor 64 l)) ⌝ }
 {
     match layout_in(layout) {
-        LayoutAnswer::Layout(l) => decision_out(l.requires_dynamic_padding()),
+        LayoutAnswer::Layout(l) => decision_out(padding::requires_dynamic_padding(l)),
         LayoutAnswer::Refused(refusal) => decision_out(Decision::Refused(refusal)),
     }
 }

@@ -13,7 +13,7 @@ use Rattle.util.specs.Helpers.{alignCauses}
 use Rattle.util.proofs.Tables.{answer-is}
 use Rattle.layout.specs.Layout.{fixed, Layout}
 use Rattle.make.specs.Make.{asked, emptyLayout, newZstFor}
-use Rattle.layout.specs.Pad.{padFor}
+use Rattle.padding.specs.Pad.{padFor}
 use Rattle.record.specs.Bytes.{valueOf, wordAt}
 use Rattle.record.specs.Record.{wordsAt, wordsFor, decodeFor}
 use Rattle.record.specs.Compose.{Composed, composed, refusedAt, andThen, bind, memberStep, addMembers, composeMembers, composeStruct, membersOf, composeFor, structFor}

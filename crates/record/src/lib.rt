@@ -10,7 +10,7 @@ ghost use Rattle.util.specs.Refusal.{unless, Meets};
 ghost use Rattle.util.specs.Helpers.{badAlign};
 ghost use Rattle.rounding.specs.Word.{wordZero};
 ghost use Rattle.layout.specs.Layout.{fixed, trailing};
-ghost use Rattle.layout.specs.Pad.{padFor};
+ghost use Rattle.padding.specs.Pad.{padFor};
 ghost use Rattle.layout.specs.View.{layoutOf, sizedOf, layoutSays};
 ghost use Rattle.record.specs.Bytes.{wordAt, wordBytes};
 ghost use Rattle.record.specs.Record.{wordsAt, recordBytes, wordsOf, laterWord, wordsCauses, recordCauses, wordsFor, decodeFor, Decodes, encodeFor, encodedInto};
@@ -456,7 +456,7 @@ pub fn compose(repr_align: u64, repr_packed: u64, members: &[u8]) -> ComposeAnsw
 fn pad_composed(l: DstLayout, count: u64) -> ComposeAnswer
     ensures { λ r. ⌜ composeSays r ≡ andThen (padFor 64 (layoutOf l)) count composed ⌝ }
 {
-    match l.pad_to_align() {
+    match padding::pad_to_align(l) {
         LayoutAnswer::Layout(padded) => ComposeAnswer::Layout(padded),
         LayoutAnswer::Refused(number) => ComposeAnswer::Refused {
             number,

@@ -134,21 +134,21 @@ pub fn extend(line: &[u64; WIDTH]) -> Told {
 
 pub fn pad_to_align(line: &[u64; WIDTH]) -> Told {
     match first(line) {
-        LayoutAnswer::Layout(l) => tell_layout(6, l.pad_to_align()),
+        LayoutAnswer::Layout(l) => tell_layout(6, padding::pad_to_align(l)),
         LayoutAnswer::Refused(refusal) => tell_refusal(6, 7, refusal),
     }
 }
 
 pub fn requires_static_padding(line: &[u64; WIDTH]) -> Told {
     match first(line) {
-        LayoutAnswer::Layout(l) => tell_decision(6, l.requires_static_padding()),
+        LayoutAnswer::Layout(l) => tell_decision(6, padding::requires_static_padding(l)),
         LayoutAnswer::Refused(refusal) => tell_number(6, refusal, 0),
     }
 }
 
 pub fn requires_dynamic_padding(line: &[u64; WIDTH]) -> Told {
     match first(line) {
-        LayoutAnswer::Layout(l) => tell_decision(6, l.requires_dynamic_padding()),
+        LayoutAnswer::Layout(l) => tell_decision(6, padding::requires_dynamic_padding(l)),
         LayoutAnswer::Refused(refusal) => tell_number(6, refusal, 0),
     }
 }

@@ -1,7 +1,7 @@
 -- `lukaripe::lukaripe_pad_to_align` meets its contract. Assumes nothing.
 use mathlib.Core.Path.{ap, _∙_}
 use Rattle.layout.specs.Layout.{Layout}
-use Rattle.layout.specs.Pad.{padFor}
+use Rattle.padding.specs.Pad.{padFor}
 use Rattle.lukaripe.specs.Export.{layoutOut}
 use Rattle.lukaripe.proofs.Exports.{with-layout, with-refused}
 use borrow.Author.Needs.{needs}

@@ -1,7 +1,7 @@
 -- `lukaripe::lukaripe_requires_static_padding` meets its contract. Assumes nothing.
 use mathlib.Core.Path.{ap, _∙_}
 use Rattle.layout.specs.Layout.{Layout}
-use Rattle.layout.specs.Pad.{staticFor}
+use Rattle.padding.specs.Pad.{staticFor}
 use Rattle.lukaripe.specs.Export.{decisionOut}
 use Rattle.lukaripe.proofs.Exports.{with-layout, with-refused}
 use borrow.Author.Needs.{needs}

@@ -1,0 +1,5 @@
+-- Laws of padding, over any width.
+pub mod Padding
+pub mod Settled
+pub mod Marks
+pub mod At32
