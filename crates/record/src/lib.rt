@@ -199,8 +199,7 @@ fn wide(x: u8) -> u64
     x as u64
 }
 
-// The little-endian word at at. The compiler makes one load of this, and early, which a sum of nested products would not let
-// it: so a record is read in place where it is asked for.
+// The little-endian word at at. The compiler makes one load of a flat sum, and that before it decides what to inline.
 fn read_word(s: &[u8], at: usize) -> u64
     requires { ⌜ at + 8 ≤ length (now s) ⌝ }
     ensures { λ r. ⌜ r ≡ wordAt (now (s .entry)) at ⌝ }
@@ -362,7 +361,8 @@ fn sized_step(own: SizedLayout, repr_packed: u64, members: &[u8], at: usize) -> 
     }
 }
 
-// Each member in turn from the one at from on, at the end of the layout.
+// Each member in turn from the one at from on, at the end of the layout. This goes on behind a trailing member, where the next
+// one is refused.
 fn add_members(start: DstLayout, repr_packed: u64, members: &[u8], from: usize) -> ComposeAnswer
     ensures { λ r. ⌜ composeSays r ≡ addMembers 64 «repr_packed» from (layoutOf start) (membersOf 64 (length (now (members .entry)) / 48 - from) (drop (from * 48) (now (members .entry)))) ⌝ }
 {
@@ -386,8 +386,8 @@ fn add_members(start: DstLayout, repr_packed: u64, members: &[u8], from: usize) 
     ComposeAnswer::Layout(l)
 }
 
-// Each member in turn at the end of a layout with a size. A member that makes it trailing leaves this loop, which then need
-// carry no more than the size.
+// Each member in turn at the end of a layout with a size. A trailing member leaves this loop, which so carries three words and
+// no whole layout.
 fn add_to_sized(start: SizedLayout, repr_packed: u64, members: &[u8]) -> ComposeAnswer
     ensures { λ r. ⌜ composeSays r ≡ addMembers 64 «repr_packed» 0 (sizedOf start) (membersOf 64 (length (now (members .entry)) / 48) (now (members .entry))) ⌝ }
 {
