@@ -94,18 +94,7 @@ paramsOut (answered (sizedToUnsized n)) = record { refusal = 0; kind = 1; «offs
 paramsOut (answered (unsizedToUnsized d k)) = record { refusal = 0; kind = 2; «offset_delta_elems» = d; «elem_multiple» = k; «dst_meta» = 0 }
 paramsOut (refused k) = record { refusal = k; kind = 0; «offset_delta_elems» = 0; «elem_multiple» = 0; «dst_meta» = 0 }
 
--- `encode` of a layout that was handed over: 20 for the lent bytes, then the words' tests
+-- the refusal number alone, where nothing else comes back
 abbrev pub refusalOut : Outcome (Unit {0}) → ℕ
 refusalOut (answered u) = 0
 refusalOut (refused k) = k
-
-abbrev pub encodeGiven : ℕ → given-layout.Layout → ℕ → Outcome (Unit {0})
-encodeGiven w l n = cond (eqb n recordLength) (withLayout w l (λ x. encodeFor w x n)) (refused 20)
-
--- the lent bytes after it
-abbrev pub encodedLayout : ℕ → Outcome Layout → List ℕ → List ℕ
-encodedLayout w (answered x) old = encodedInto w x old
-encodedLayout w (refused k) old = old
-
-abbrev pub encodedGiven : ℕ → given-layout.Layout → List ℕ → List ℕ
-encodedGiven w l old = cond (eqb (length old) recordLength) (encodedLayout w (wordsFor w (wordsGiven l)) old) old

@@ -13,7 +13,7 @@ ghost use Rattle.make.specs.Make.{newZstFor, typeFor, sliceFor};
 ghost use Rattle.layout.specs.Extend.{extendFor};
 ghost use Rattle.padding.specs.Pad.{padFor, staticFor, dynamicFor};
 ghost use Rattle.layout.specs.View.{layoutSays};
-ghost use Rattle.record.specs.Record.{wordsFor, decodeFor};
+ghost use Rattle.record.specs.Record.{wordsFor, decodeFor, encodeWordsFor, encodedWordsInto};
 ghost use Rattle.record.specs.Scalar.{target64, scalarFor};
 ghost use Rattle.record.specs.Compose.{composeFor, structFor};
 ghost use Rattle.record.specs.View.{composeSays};
@@ -23,7 +23,7 @@ ghost use Rattle.cast.specs.View.{sideOf, castSays};
 ghost use Rattle.convert.specs.Match.{matchFor};
 ghost use Rattle.convert.specs.Convert.{computeFor, metadataFor};
 ghost use Rattle.convert.specs.View.{paramsIn, computeSays};
-ghost use Rattle.lukaripe.specs.Export.{numberOut, decisionOut, componentsOut, trailingIn, trailingOut, wordsGiven, layoutOut, withLayout, composedOut, castOut, sideGiven, paramsGiven, paramsOut, refusalOut, encodeGiven, encodedGiven};
+ghost use Rattle.lukaripe.specs.Export.{numberOut, decisionOut, componentsOut, trailingIn, trailingOut, wordsGiven, layoutOut, withLayout, composedOut, castOut, sideGiven, paramsGiven, paramsOut, refusalOut};
 use cast::CastAnswer;
 use cast::CastType;
 use convert::CastParamsInner;
@@ -32,6 +32,7 @@ use layout::DstLayout;
 use layout::LayoutAnswer;
 use record::ComposeAnswer;
 use record::EncodeAnswer;
+use record::Words;
 use rounding::ComponentsAnswer;
 use rounding::NewAnswer;
 use rounding::RoundingAlignAndPhase;
@@ -566,18 +567,20 @@ pub extern "C" fn lukaripe_decode(bytes: &[u8]) -> LayoutOut
 // The record of a layout into 48 lent bytes: the refusal number, and then no byte has changed.
 #[no_mangle]
 pub extern "C" fn lukaripe_encode(layout: Layout, out: &mut [u8]) -> u64
-    ensures { λ r. ⌜ r ≡ refusalOut (encodeGiven 64 layout (length (now (out .entry)))) ⌝ }
-    ensures { λ _. ⌜ now (out .exit) ≡ encodedGiven 64 layout (now (out .entry)) ⌝ }
+    ensures { λ r. ⌜ r ≡ refusalOut (encodeWordsFor 64 (wordsGiven layout) (length (now (out .entry)))) ⌝ }
+    ensures { λ _. ⌜ now (out .exit) ≡ encodedWordsInto 64 (wordsGiven layout) (now (out .entry)) ⌝ }
 {
-    if out.len() != 48 {
-        return refusal::RECORD_LENGTH;
-    }
-    match layout_in(layout) {
-        LayoutAnswer::Layout(l) => match record::encode(l, out) {
-            EncodeAnswer::Encoded => 0,
-            EncodeAnswer::Refused(number) => number,
-        },
-        LayoutAnswer::Refused(number) => number,
+    let words = Words {
+        align: layout.align,
+        kind: layout.kind,
+        size: layout.size_or_base,
+        offset: layout.offset,
+        elem_size: layout.elem_size,
+        word: layout.word,
+    };
+    match record::encode_words(words, out) {
+        EncodeAnswer::Encoded => 0,
+        EncodeAnswer::Refused(number) => number,
     }
 }
 

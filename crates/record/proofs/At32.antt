@@ -10,7 +10,7 @@ use Rattle.util.specs.Helpers.{badAlign}
 use Rattle.rounding.specs.Word.{wordZero}
 use Rattle.layout.specs.Layout.{fixed, trailing, Layout, checkFor, Info, layoutCauses}
 use Rattle.record.specs.Bytes.{wordAt}
-use Rattle.record.specs.Record.{Words, wordsAt, recordBytes, wordsOf, wordsLayout, laterWord, wordsCauses, recordCauses, wordsFor, decodeFor, Decodes, encodeFor, encodedInto}
+use Rattle.record.specs.Record.{Words, wordsAt, recordBytes, wordsOf, wordsLayout, laterWord, wordsCauses, recordCauses, wordsFor, decodeFor, Decodes, encodeFor, encodeWordsFor, encodedInto}
 use Rattle.make.specs.Make.{newZstFor}
 use Rattle.record.specs.Compose.{composed, refusedAt, bind, addMembers, membersOf, composeFor, structFor}
 use Rattle.record.proofs.Compositions.{closing}
@@ -52,15 +52,6 @@ kind-3 a b o e v {k} = Records.kind-3 32 a b o e v {k = k}
 pub encode-checked : (l : Layout) (n : ℕ) → n ≡ 48 → encodeFor 32 l n ≡ checkFor 32 l
 encode-checked = Records.encode-checked 32
 
-pub encode-done : (l : Layout) (s x : List ℕ) → length s ≡ 48 → checkFor 32 l ≡ answered tt → x ≡ sets s 0 (recordBytes (wordsOf l)) → (answered tt ≡ encodeFor 32 l (length s)) × (x ≡ encodedInto 32 l s)
-encode-done = Records.encode-done 32
-
-pub encode-refused : (l : Layout) (s : List ℕ) {k : ℕ} → length s ≡ 48 → checkFor 32 l ≡ refused k → (refused k ≡ encodeFor 32 l (length s)) × (s ≡ encodedInto 32 l s)
-encode-refused l s {k} = Records.encode-refused 32 l s {k = k}
-
-pub encode-other : (l : Layout) (s : List ℕ) → (length s ≡ 48 → ⊥) → (refused 20 ≡ encodeFor 32 l (length s)) × (s ≡ encodedInto 32 l s)
-encode-other = Records.encode-other 32
-
 pub member-at : (s : List ℕ) (k : ℕ) → k + 48 ≤ length s → decodeFor 32 (take 48 (drop k s)) ≡ wordsFor 32 (wordsAt s k)
 member-at = Compositions.member-at 32
 
@@ -87,6 +78,9 @@ compose-length = Compositions.compose-length 32
 
 pub struct-closes : (a p : ℕ) (s : List ℕ) → structFor 32 a p s ≡ bind (composeFor 32 a p s) (closing 32 (length s / 48))
 struct-closes = Compositions.struct-closes 32
+
+pub words-encoded : (l : Layout) (n : ℕ) → encodeWordsFor 32 (wordsOf l) n ≡ encodeFor 32 l n
+words-encoded = RoundTrips.words-encoded 32
 
 pub words-checked : (a : ℕ) (i : Info) (m : Bool) → let l : Layout = record { align = a; info = i; mark = m } in wordsFor 32 (wordsOf l) ≡ unless (layoutCauses 32 l) l
 words-checked = RoundTrips.words-checked 32

@@ -8,7 +8,7 @@ use borrow.Author.Tests.{eq-eqb, ne-eqb}
 use lib.Dec.{eqb}
 use lib.ListN.{length}
 use lib.Seq.{sets}
-use Rattle.util.specs.Refusal.{Outcome, answered, refused, unless, Tells, None, Meets, Decided}
+use Rattle.util.specs.Refusal.{Cause, Outcome, answered, refused, unless, Tells, None, Meets, Decided}
 use Rattle.util.specs.Helpers.{badAlign}
 use Rattle.rounding.specs.Word.{wordZero}
 use Rattle.util.proofs.Refusals.{known, tells-eq, tells-le, tells-lt, tells-not, tells-and, meets}
@@ -16,7 +16,7 @@ use Rattle.util.proofs.Helpers.{align-decided}
 use Rattle.trailing.specs.Size.{Trailing}
 use Rattle.layout.specs.Layout.{fixed, trailing, Layout, checkFor}
 use Rattle.record.specs.Bytes.{wordAt}
-use Rattle.record.specs.Record.{Words, wordsAt, recordBytes, wordsOf, wordsLayout, laterWord, trailingWordZero, wordsCauses, recordCauses, wordsFor, decodeFor, Decodes, infoWords, encodeFor, after, encodedInto}
+use Rattle.record.specs.Record.{Words, wordsAt, recordBytes, wordsOf, wordsLayout, laterWord, trailingWordZero, wordsCauses, recordCauses, wordsFor, decodeFor, Decodes, infoWords, writeFor, after, writtenInto, encodeFor}
 use Rattle.record.proofs.LittleEndian.{sets-whole, record-length}
 
 zeros : (o e v : ℕ) → Tells ((o ≡ 0) × ((e ≡ 0) × (v ≡ 0))) (eqb o 0 && (eqb e 0 && eqb v 0))
@@ -94,19 +94,21 @@ pub encode-checked : (w : ℕ) (l : Layout) (n : ℕ) → n ≡ 48 → encodeFor
 unfolding encodeFor checkFor unless
 encode-checked w l n h = simp (eq-eqb n 48 h)
 
-pub encode-done : (w : ℕ) (l : Layout) (s x : List ℕ) → length s ≡ 48 → checkFor w l ≡ answered tt → x ≡ sets s 0 (recordBytes (wordsOf l))
-    → (answered tt ≡ encodeFor w l (length s)) × (x ≡ encodedInto w l s)
-encode-done w l s x h n e =
-    let k = encode-checked w l (length s) h ∙ n in
-    (sym k, e ∙ sets-whole (recordBytes (wordsOf l)) s (record-length (wordsOf l) ∙ sym h) ∙ sym (ap (λ (o : Outcome (Unit {0})). after o (recordBytes (wordsOf l)) s) k))
+-- six words into lent bytes: written, refused by what refuses the words, and by the length
+module _ (cs : List Cause) (r : Words) (s : List ℕ) where
+  pub write-done : (x : List ℕ) → length s ≡ 48 → _≡_ {A = Outcome (Unit {0})} (unless cs tt) (answered tt) → x ≡ sets s 0 (recordBytes r) → (answered tt ≡ writeFor cs (length s)) × (x ≡ writtenInto cs r s)
+  unfolding unless
+  write-done x h n e =
+      let k : writeFor cs (length s) ≡ answered tt = simp (eq-eqb (length s) 48 h) n in
+      (sym k, e ∙ sets-whole (recordBytes r) s (record-length r ∙ sym h) ∙ sym (ap (λ (o : Outcome (Unit {0})). after o (recordBytes r) s) k))
 
-left : (w : ℕ) (l : Layout) (s : List ℕ) {k : ℕ} → encodeFor w l (length s) ≡ refused k → (refused k ≡ encodeFor w l (length s)) × (s ≡ encodedInto w l s)
-left w l s e = (sym e, sym (ap (λ (o : Outcome (Unit {0})). after o (recordBytes (wordsOf l)) s) e))
+  left : {k : ℕ} → writeFor cs (length s) ≡ refused k → (refused k ≡ writeFor cs (length s)) × (s ≡ writtenInto cs r s)
+  left e = (sym e, sym (ap (λ (o : Outcome (Unit {0})). after o (recordBytes r) s) e))
 
-pub encode-refused : (w : ℕ) (l : Layout) (s : List ℕ) {k : ℕ} → length s ≡ 48 → checkFor w l ≡ refused k
-    → (refused k ≡ encodeFor w l (length s)) × (s ≡ encodedInto w l s)
-encode-refused w l s h n = left w l s (encode-checked w l (length s) h ∙ n)
+  pub write-refused : {k : ℕ} → length s ≡ 48 → _≡_ {A = Outcome (Unit {0})} (unless cs tt) (refused k) → (refused k ≡ writeFor cs (length s)) × (s ≡ writtenInto cs r s)
+  unfolding unless
+  write-refused h n = left (simp (eq-eqb (length s) 48 h) n)
 
-pub encode-other : (w : ℕ) (l : Layout) (s : List ℕ) → (length s ≡ 48 → ⊥) → (refused 20 ≡ encodeFor w l (length s)) × (s ≡ encodedInto w l s)
-unfolding encodeFor unless
-encode-other w l s n = left w l s (simp (ne-eqb (length s) 48 n))
+  pub write-other : (length s ≡ 48 → ⊥) → (refused 20 ≡ writeFor cs (length s)) × (s ≡ writtenInto cs r s)
+  unfolding unless
+  write-other n = left (simp (ne-eqb (length s) 48 n))

@@ -16,7 +16,7 @@ use Rattle.util.proofs.Tables.{apart, answer-is, accepted-as}
 use Rattle.util.specs.Helpers.{badAlign}
 use Rattle.layout.specs.Layout.{Info, fixed, trailing, Layout, layoutCauses, checkFor}
 use Rattle.record.specs.Bytes.{valueOf, bytesOf, wordAt, wordBytes}
-use Rattle.record.specs.Record.{Words, wordsAt, recordBytes, wordsOf, wordsLayout, laterWord, wordsCauses, badLength, wordsFor, decodeFor, encodeFor, after, encodedInto}
+use Rattle.record.specs.Record.{Words, wordsAt, recordBytes, wordsOf, wordsLayout, laterWord, wordsCauses, badLength, wordsFor, decodeFor, encodeFor, after, encodedInto, encodeWordsFor, writeFor}
 use Rattle.record.proofs.LittleEndian.{value-bytes, record-length}
 use Rattle.record.proofs.Records.{later-decided, decoded, decode-words, encode-checked}
 
@@ -33,6 +33,17 @@ words-checked w a (fixed s) true = refl
 words-checked w a (fixed s) false = refl
 words-checked w a (trailing t) true = refl
 words-checked w a (trailing t) false = refl
+
+-- so the words of a layout are written where the layout is
+pub words-encoded : (w : ℕ) (l : Layout) (n : ℕ) → encodeWordsFor w (wordsOf l) n ≡ encodeFor w l n
+unfolding encodeWordsFor encodeFor unless
+words-encoded w l n = go (l .info) (l .mark)
+  where
+    go : (i : Info) (m : Bool) → let l : Layout = record { align = l .align; info = i; mark = m } in writeFor (wordsCauses w (wordsOf l)) n ≡ writeFor (layoutCauses w l) n
+    go (fixed s) true = refl
+    go (fixed s) false = refl
+    go (trailing t) true = refl
+    go (trailing t) false = refl
 
 -- each word is held in its eight bytes
 pub record Fits (r : Words) : Type 0 where

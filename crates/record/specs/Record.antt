@@ -111,17 +111,28 @@ decodeFor w s = unless (recordCauses w s) (wordsLayout (wordsAt s 0))
 abbrev pub Decodes : Words → Layout → Type 0
 Decodes r l = wordsOf l ≡ r
 
--- `encode`: 20 for the lent bytes, then what refuses the layout
-abbrev pub encodeCauses : ℕ → Layout → ℕ → List Cause
-encodeCauses w l n = badLength n ∷ layoutCauses w l
-
-unfoldable pub encodeFor : ℕ → Layout → ℕ → Outcome (Unit {0})
-encodeFor w l n = unless (encodeCauses w l n) tt
+-- six words into lent bytes: 20 for those, then what refuses the words, cs
+abbrev pub writeFor : List Cause → ℕ → Outcome (Unit {0})
+writeFor cs n = unless (badLength n ∷ cs) tt
 
 -- the lent bytes after it: the record; on a refusal, as they were
 abbrev pub after : Outcome (Unit {0}) → List ℕ → List ℕ → List ℕ
 after (answered u) new old = new
 after (refused k) new old = old
 
+abbrev pub writtenInto : List Cause → Words → List ℕ → List ℕ
+writtenInto cs r old = after (writeFor cs (length old)) (recordBytes r) old
+
+-- `encode`: the words of a layout, and what refuses the layout
+unfoldable pub encodeFor : ℕ → Layout → ℕ → Outcome (Unit {0})
+encodeFor w l n = writeFor (layoutCauses w l) n
+
 abbrev pub encodedInto : ℕ → Layout → List ℕ → List ℕ
 encodedInto w l old = after (encodeFor w l (length old)) (recordBytes (wordsOf l)) old
+
+-- `encode_words`: any six words, tested as a record's are
+unfoldable pub encodeWordsFor : ℕ → Words → ℕ → Outcome (Unit {0})
+encodeWordsFor w r n = writeFor (wordsCauses w r) n
+
+abbrev pub encodedWordsInto : ℕ → Words → List ℕ → List ℕ
+encodedWordsInto w r old = after (encodeWordsFor w r (length old)) (recordBytes r) old

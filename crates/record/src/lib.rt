@@ -13,11 +13,10 @@ ghost use Rattle.layout.specs.Layout.{fixed, trailing};
 ghost use Rattle.padding.specs.Pad.{padFor};
 ghost use Rattle.layout.specs.View.{layoutOf, sizedOf, layoutSays};
 ghost use Rattle.record.specs.Bytes.{wordAt, wordBytes};
-ghost use Rattle.record.specs.Record.{wordsAt, recordBytes, wordsOf, laterWord, wordsCauses, recordCauses, wordsFor, decodeFor, Decodes, encodeFor, encodedInto};
+ghost use Rattle.record.specs.Record.{wordsAt, recordBytes, wordsOf, laterWord, wordsCauses, recordCauses, wordsFor, decodeFor, Decodes, encodeFor, encodedInto, encodeWordsFor, encodedWordsInto};
 ghost use Rattle.record.specs.Scalar.{target64, scalarCauses, scalarLayout, scalarFor};
 ghost use Rattle.record.specs.Compose.{composed, andThen, memberStep, addMembers, membersOf, composeFor, structFor};
 ghost use Rattle.record.specs.View.{wordsIn, encodeSays, composeSays};
-use layout::Check;
 use layout::DstLayout;
 use layout::LayoutAnswer;
 use layout::SizeInfo;
@@ -293,22 +292,30 @@ fn put_words(out: &mut [u8], r: Words)
     put_word(out, 40, r.word);
 }
 
+// The record of six words, tested as a record's are, into the lent bytes; a refusal leaves them as they were.
+pub fn encode_words(w: Words, out: &mut [u8]) -> EncodeAnswer
+    ensures answer { λ r. ⌜ encodeSays r ≡ encodeWordsFor 64 (wordsIn w) (length (now (out .entry))) ⌝ }
+    ensures bytes { λ _. ⌜ now (out .exit) ≡ encodedWordsInto 64 (wordsIn w) (now (out .entry)) ⌝ }
+{
+    if out.len() == RECORD_BYTES {
+        match layout_from_words(w.align, w.kind, w.size, w.offset, w.elem_size, w.word) {
+            LayoutAnswer::Layout(_) => {
+                put_words(out, w);
+                EncodeAnswer::Encoded
+            }
+            LayoutAnswer::Refused(number) => EncodeAnswer::Refused(number),
+        }
+    } else {
+        EncodeAnswer::Refused(refusal::RECORD_LENGTH)
+    }
+}
+
 // The record of a layout, into the lent bytes; a refusal leaves them as they were.
 pub fn encode(l: DstLayout, out: &mut [u8]) -> EncodeAnswer
     ensures answer { λ r. ⌜ encodeSays r ≡ encodeFor 64 (layoutOf l) (length (now (out .entry))) ⌝ }
     ensures bytes { λ _. ⌜ now (out .exit) ≡ encodedInto 64 (layoutOf l) (now (out .entry)) ⌝ }
 {
-    if out.len() == RECORD_BYTES {
-        match l.check() {
-            Check::Accepted => {
-                put_words(out, words_from_layout(l));
-                EncodeAnswer::Encoded
-            }
-            Check::Refused(number) => EncodeAnswer::Refused(number),
-        }
-    } else {
-        EncodeAnswer::Refused(refusal::RECORD_LENGTH)
-    }
+    encode_words(words_from_layout(l), out)
 }
 
 // The sizes of the scalars by code, which are their alignments too.
