@@ -82,6 +82,9 @@ struct-closes = Compositions.struct-closes 32
 pub words-encoded : (l : Layout) (n : ℕ) → encodeWordsFor 32 (wordsOf l) n ≡ encodeFor 32 l n
 words-encoded = RoundTrips.words-encoded 32
 
+pub words-kept : (r : Words) {l : Layout} → wordsFor 32 r ≡ answered l → wordsOf l ≡ r
+words-kept r {l} = RoundTrips.words-kept 32 r {l = l}
+
 pub words-checked : (a : ℕ) (i : Info) (m : Bool) → let l : Layout = record { align = a; info = i; mark = m } in wordsFor 32 (wordsOf l) ≡ unless (layoutCauses 32 l) l
 words-checked = RoundTrips.words-checked 32
 

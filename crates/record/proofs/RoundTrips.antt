@@ -129,7 +129,7 @@ unfolding decodeFor unless
 decoded-length w s e = known (tells-eq (length s) 48) (no (tells-not (tells-eq (length s) 48)) (past (badLength (length s) .test) 20 _ e .0))
 
 -- words that are read as a layout are the words of that layout
-words-kept : (w : ℕ) (r : Words) {l : Layout} → wordsFor w r ≡ answered l → wordsOf l ≡ r
+pub words-kept : (w : ℕ) (r : Words) {l : Layout} → wordsFor w r ≡ answered l → wordsOf l ≡ r
 unfolding wordsFor unless
 words-kept w r {l} e =
     let q1 = past (ltb 3 (r .kind)) 21 _ e in

@@ -299,8 +299,10 @@ pub fn encode_words(w: Words, out: &mut [u8]) -> EncodeAnswer
 {
     if out.len() == RECORD_BYTES {
         match layout_from_words(w.align, w.kind, w.size, w.offset, w.elem_size, w.word) {
-            LayoutAnswer::Layout(_) => {
-                put_words(out, w);
+            // The words of the layout are those given, but moved one by one: of those given the compiler would load two at once,
+            // and wait for the caller's stores of them.
+            LayoutAnswer::Layout(l) => {
+                put_words(out, words_from_layout(l));
                 EncodeAnswer::Encoded
             }
             LayoutAnswer::Refused(number) => EncodeAnswer::Refused(number),
