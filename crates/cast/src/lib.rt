@@ -101,26 +101,6 @@ fn fit_trailing(tail: TrailingSliceLayout, len: u64) -> CastAnswer
     }
 }
 
-// What fits in len bytes, as the grant of a prefix.
-fn fit(size_info: SizeInfo, len: u64) -> CastAnswer
-    requires { ⌜ (noWord (infoOf «size_info») .means → ⊥) × (elemZero (infoOf «size_info») .means → ⊥) ⌝ }
-    ensures { λ r. ⌜ castSays r ≡ unless (tooSmall 64 (infoOf «size_info») len ∷ []) (grantOf 64 (infoOf «size_info») prefix len) ⌝ }
-{
-    match size_info {
-        SizeInfo::Sized { size } => {
-            if size > len {
-                CastAnswer::Refused(refusal::CAST_TOO_SMALL)
-            } else {
-                CastAnswer::Granted {
-                    elems: 0,
-                    split_at: size,
-                }
-            }
-        }
-        SizeInfo::SliceDst(tail) => fit_trailing(tail, len),
-    }
-}
-
 // The cast of a layout that passed its check: the alignment is judged before the size.
 fn cast_checked(layout: DstLayout, addr: u64, len: u64, cast_type: CastType) -> CastAnswer
     requires { ⌜ None (layoutCauses 64 (layoutOf layout)) ⌝ }
@@ -136,15 +116,27 @@ fn cast_checked(layout: DstLayout, addr: u64, len: u64, cast_type: CastType) -> 
     if tested_address(addr, len, cast_type) & (layout.align - 1) != 0 {
         return CastAnswer::Refused(refusal::CAST_NOT_ALIGNED);
     }
-    match fit(size_info, len) {
-        CastAnswer::Granted {
-            elems,
-            split_at: self_bytes,
-        } => CastAnswer::Granted {
-            elems,
-            split_at: split_around(self_bytes, len, cast_type),
+    match size_info {
+        SizeInfo::Sized { size } => {
+            if size > len {
+                CastAnswer::Refused(refusal::CAST_TOO_SMALL)
+            } else {
+                CastAnswer::Granted {
+                    elems: 0,
+                    split_at: split_around(size, len, cast_type),
+                }
+            }
+        }
+        SizeInfo::SliceDst(tail) => match fit_trailing(tail, len) {
+            CastAnswer::Granted {
+                elems,
+                split_at: self_bytes,
+            } => CastAnswer::Granted {
+                elems,
+                split_at: split_around(self_bytes, len, cast_type),
+            },
+            CastAnswer::Refused(number) => CastAnswer::Refused(number),
         },
-        CastAnswer::Refused(number) => CastAnswer::Refused(number),
     }
 }
 

@@ -12,7 +12,7 @@ ghost use Rattle.trailing.specs.Sequence.{sameSequence};
 ghost use Rattle.make.specs.Make.{newZstFor, typeFor, sliceFor};
 ghost use Rattle.layout.specs.Extend.{extendFor};
 ghost use Rattle.padding.specs.Pad.{padFor, staticFor, dynamicFor};
-ghost use Rattle.layout.specs.View.{layoutSays};
+ghost use Rattle.layout.specs.View.{layoutOf, layoutSays};
 ghost use Rattle.record.specs.Record.{wordsFor, decodeFor, encodeWordsFor, encodedWordsInto};
 ghost use Rattle.record.specs.Scalar.{target64, scalarFor};
 ghost use Rattle.record.specs.Compose.{composeFor, structFor};
@@ -30,6 +30,8 @@ use convert::CastParamsInner;
 use convert::ComputeAnswer;
 use layout::DstLayout;
 use layout::LayoutAnswer;
+use layout::SizeInfo;
+use layout::SizedLayout;
 use record::ComposeAnswer;
 use record::EncodeAnswer;
 use record::Words;
@@ -183,6 +185,25 @@ fn layout_in(l: Layout) -> LayoutAnswer
         l.elem_size,
         l.word,
     )
+}
+
+// `extend`, of which the compiler inlines the way of a layout with a size.
+fn with_member(l: DstLayout, m: DstLayout, repr_packed: u64) -> LayoutAnswer
+    ensures { λ r. ⌜ layoutSays r ≡ extendFor 64 (layoutOf l) (layoutOf m) «repr_packed» ⌝ }
+{
+    let size_info = l.size_info;
+    match size_info {
+        SizeInfo::Sized { size } => layout::extend_sized(
+            SizedLayout {
+                align: l.align,
+                size,
+                statically_shallow_unpadded: l.statically_shallow_unpadded,
+            },
+            m,
+            repr_packed,
+        ),
+        SizeInfo::SliceDst(_) => l.extend(m, repr_packed),
+    }
 }
 
 fn layout_out(a: LayoutAnswer) -> LayoutOut
@@ -516,7 +537,7 @@ pub extern "C" fn lukaripe_extend(layout: Layout, field: Layout, repr_packed: u6
 {
     match layout_in(layout) {
         LayoutAnswer::Layout(l) => match layout_in(field) {
-            LayoutAnswer::Layout(m) => layout_out(l.extend(m, repr_packed)),
+            LayoutAnswer::Layout(m) => layout_out(with_member(l, m, repr_packed)),
             LayoutAnswer::Refused(refusal) => layout_out(LayoutAnswer::Refused(refusal)),
         },
         LayoutAnswer::Refused(refusal) => layout_out(LayoutAnswer::Refused(refusal)),

@@ -5,7 +5,6 @@ ghost use Rattle.util.specs.Refusal.{unless, Meets};
 ghost use Rattle.util.specs.Helpers.{alignCauses};
 ghost use Rattle.layout.specs.View.{layoutSays, checkSays};
 ghost use Rattle.make.specs.Make.{asked, emptyLayout, newZstFor, typeCauses, typeLayout, typeFor, sliceLayout, sliceFor};
-use layout::Check;
 use layout::DstLayout;
 use layout::LayoutAnswer;
 use layout::SizeInfo;
@@ -27,31 +26,21 @@ fn asked_align(repr_align: u64) -> u64
     }
 }
 
-// Whether a type can have this size and alignment: the size is a multiple of the alignment.
-fn check_type(size: u64, align: u64) -> Check
-    ensures { λ r. ⌜ checkSays r ≡ unless (typeCauses 64 size align) tt ⌝ }
-{
-    if util::is_power_of_two(align) {
-        if size & (align - 1) == 0 {
-            Check::Accepted
-        } else {
-            Check::Refused(refusal::SIZE_NOT_MULTIPLE_OF_ALIGN)
-        }
-    } else {
-        Check::Refused(refusal::ALIGN_NOT_POWER_OF_TWO)
-    }
-}
-
 fn for_marked_type(size: u64, align: u64, unpadded: bool) -> LayoutAnswer
     ensures { λ r. ⌜ layoutSays r ≡ typeFor 64 unpadded size align ⌝ }
 {
-    match check_type(size, align) {
-        Check::Accepted => LayoutAnswer::Layout(DstLayout {
-            align,
-            size_info: SizeInfo::Sized { size },
-            statically_shallow_unpadded: unpadded,
-        }),
-        Check::Refused(number) => LayoutAnswer::Refused(number),
+    if util::is_power_of_two(align) {
+        if size & (align - 1) == 0 {
+            LayoutAnswer::Layout(DstLayout {
+                align,
+                size_info: SizeInfo::Sized { size },
+                statically_shallow_unpadded: unpadded,
+            })
+        } else {
+            LayoutAnswer::Refused(refusal::SIZE_NOT_MULTIPLE_OF_ALIGN)
+        }
+    } else {
+        LayoutAnswer::Refused(refusal::ALIGN_NOT_POWER_OF_TWO)
     }
 }
 
@@ -93,17 +82,23 @@ pub fn for_slice(size: u64, align: u64) -> LayoutAnswer
     ensures answer { λ r. ⌜ layoutSays r ≡ sliceFor 64 size align ⌝ }
     ensures meaning { λ r. ⌜ Meets (typeCauses 64 size align) (λ l. l ≡ sliceLayout size align) (layoutSays r) ⌝ }
 {
-    match check_type(size, align) {
-        Check::Accepted => LayoutAnswer::Layout(DstLayout {
-            align,
-            size_info: SizeInfo::SliceDst(TrailingSliceLayout {
-                offset: 0,
-                elem_size: size,
-                size_base: 0,
-                size_rounding_align_and_phase: RoundingAlignAndPhase(align),
-            }),
-            statically_shallow_unpadded: true,
-        }),
-        Check::Refused(number) => LayoutAnswer::Refused(number),
+    if util::is_power_of_two(align) {
+        let remainder = size & (align - 1);
+        if remainder == 0 {
+            LayoutAnswer::Layout(DstLayout {
+                align,
+                size_info: SizeInfo::SliceDst(TrailingSliceLayout {
+                    offset: 0,
+                    elem_size: size,
+                    size_base: 0,
+                    size_rounding_align_and_phase: RoundingAlignAndPhase(align),
+                }),
+                statically_shallow_unpadded: true,
+            })
+        } else {
+            LayoutAnswer::Refused(refusal::SIZE_NOT_MULTIPLE_OF_ALIGN)
+        }
+    } else {
+        LayoutAnswer::Refused(refusal::ALIGN_NOT_POWER_OF_TWO)
     }
 }

@@ -93,22 +93,6 @@ fn pad_trailing(tail: TrailingSliceLayout, align: u64) -> SizeInfoAnswer
     }
 }
 
-// The sizes, rounded up to the alignment.
-fn pad_size(size_info: SizeInfo, align: u64) -> SizeInfoAnswer
-    requires { ⌜ PowerOfTwo align × (noWord (infoOf «size_info») .means → ⊥) ⌝ }
-    ensures { λ r. ⌜ infoSays r ≡ unless (passes8 64 (paddingNeeds 64 align (infoOf «size_info»)) ∷ []) (paddedInfo 64 align (infoOf «size_info»)) ⌝ }
-{
-    match size_info {
-        SizeInfo::Sized { size } => match layout::round_up(size, align) {
-            Answer::Number(padded_size) => {
-                SizeInfoAnswer::Info(SizeInfo::Sized { size: padded_size })
-            }
-            Answer::Refused(number) => SizeInfoAnswer::Refused(number),
-        },
-        SizeInfo::SliceDst(tail) => pad_trailing(tail, align),
-    }
-}
-
 // Whether the mark stays: that of a fixed layout falls where padding adds bytes, which it does not to a multiple.
 fn pad_mark(size_info: SizeInfo, align: u64, unpadded: bool) -> bool
     requires { ⌜ PowerOfTwo align ⌝ }
@@ -127,29 +111,23 @@ fn pad_mark(size_info: SizeInfo, align: u64, unpadded: bool) -> bool
     }
 }
 
-// Whether the padding changes with the count: the element size is not a multiple of the rounding word's alignment.
-fn has_dynamic_stride(tail: TrailingSliceLayout) -> Decision
-    requires { ⌜ 0 < tail .«size_rounding_align_and_phase» .0 ⌝ }
-    ensures { λ r. ⌜ decisionSays r ≡ answered (not (eqb (tail .«elem_size» % alignOf 64 (tail .«size_rounding_align_and_phase» .0)) 0)) ⌝ }
-{
-    let word = tail.size_rounding_align_and_phase;
-    match word.align() {
-        Answer::Number(align) => Decision::Is(tail.elem_size & (align - 1) != 0),
-        Answer::Refused(number) => Decision::Refused(number),
-    }
-}
-
 fn trailing_padding(tail: TrailingSliceLayout) -> Decision
     requires { ⌜ 0 < tail .«size_rounding_align_and_phase» .0 ⌝ }
     ensures { λ r. ⌜ decisionSays r ≡ answered (dynamicPadding 64 (trailing (trailingOf tail))) ⌝ }
 {
-    let SizeAnswer::Size(initial_size) = tail.size_for_elems(0) else {
-        return Decision::Is(true);
-    };
-    if initial_size == tail.offset {
-        has_dynamic_stride(tail)
-    } else {
-        Decision::Is(true)
+    let word = tail.size_rounding_align_and_phase;
+    match word.align() {
+        Answer::Number(align) => {
+            let SizeAnswer::Size(initial_size) = tail.size_for_elems(0) else {
+                return Decision::Is(true);
+            };
+            if initial_size == tail.offset {
+                Decision::Is(tail.elem_size & (align - 1) != 0)
+            } else {
+                Decision::Is(true)
+            }
+        }
+        Answer::Refused(number) => Decision::Refused(number),
     }
 }
 
@@ -170,13 +148,23 @@ fn pad_checked(layout: DstLayout) -> LayoutAnswer
     let align = layout.align;
     let size_info = layout.size_info;
     let unpadded = pad_mark(size_info, align, layout.statically_shallow_unpadded);
-    match pad_size(size_info, align) {
-        SizeInfoAnswer::Info(padded_info) => LayoutAnswer::Layout(DstLayout {
-            align,
-            size_info: padded_info,
-            statically_shallow_unpadded: unpadded,
-        }),
-        SizeInfoAnswer::Refused(number) => LayoutAnswer::Refused(number),
+    match size_info {
+        SizeInfo::Sized { size } => match layout::round_up(size, align) {
+            Answer::Number(padded) => LayoutAnswer::Layout(DstLayout {
+                align,
+                size_info: SizeInfo::Sized { size: padded },
+                statically_shallow_unpadded: unpadded,
+            }),
+            Answer::Refused(number) => LayoutAnswer::Refused(number),
+        },
+        SizeInfo::SliceDst(tail) => match pad_trailing(tail, align) {
+            SizeInfoAnswer::Info(padded_info) => LayoutAnswer::Layout(DstLayout {
+                align,
+                size_info: padded_info,
+                statically_shallow_unpadded: unpadded,
+            }),
+            SizeInfoAnswer::Refused(number) => LayoutAnswer::Refused(number),
+        },
     }
 }
 

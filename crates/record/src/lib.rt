@@ -74,61 +74,6 @@ fn later_words_zero(offset: u64, elem_size: u64, word: u64) -> bool
     }
 }
 
-fn fixed_from_words(
-    align: u64,
-    size: u64,
-    offset: u64,
-    elem_size: u64,
-    word: u64,
-    unpadded: bool,
-) -> LayoutAnswer
-    ensures { λ r. ⌜ layoutSays r ≡ unless (badAlign 64 align ∷ laterWord (record { align = align; kind = 0; size = size; offset = offset; elem = «elem_size»; word = word }) ∷ []) (record { align = align; info = fixed size; mark = unpadded }) ⌝ }
-{
-    if util::is_power_of_two(align) {
-        if later_words_zero(offset, elem_size, word) {
-            LayoutAnswer::Layout(DstLayout {
-                align,
-                size_info: SizeInfo::Sized { size },
-                statically_shallow_unpadded: unpadded,
-            })
-        } else {
-            LayoutAnswer::Refused(refusal::FIXED_RECORD)
-        }
-    } else {
-        LayoutAnswer::Refused(refusal::ALIGN_NOT_POWER_OF_TWO)
-    }
-}
-
-fn trailing_from_words(
-    align: u64,
-    size_base: u64,
-    offset: u64,
-    elem_size: u64,
-    word: u64,
-    unpadded: bool,
-) -> LayoutAnswer
-    ensures { λ r. ⌜ layoutSays r ≡ unless (badAlign 64 align ∷ wordZero word ∷ []) (record { align = align; info = trailing (record { offset = offset; elem = «elem_size»; base = «size_base»; word = word }); mark = unpadded }) ⌝ }
-{
-    if util::is_power_of_two(align) {
-        if word == 0 {
-            LayoutAnswer::Refused(refusal::ROUNDING_WORD_ZERO)
-        } else {
-            LayoutAnswer::Layout(DstLayout {
-                align,
-                size_info: SizeInfo::SliceDst(TrailingSliceLayout {
-                    offset,
-                    elem_size,
-                    size_base,
-                    size_rounding_align_and_phase: RoundingAlignAndPhase(word),
-                }),
-                statically_shallow_unpadded: unpadded,
-            })
-        }
-    } else {
-        LayoutAnswer::Refused(refusal::ALIGN_NOT_POWER_OF_TWO)
-    }
-}
-
 // The layout of the six words of a record. It compares the whole kind, since the compiler would read the bytes of the kind
 // apart to get at its lowest bit.
 pub fn layout_from_words(
@@ -142,19 +87,36 @@ pub fn layout_from_words(
     ensures answer { λ r. ⌜ layoutSays r ≡ wordsFor 64 (record { align = align; kind = kind; size = size; offset = offset; elem = «elem_size»; word = word }) ⌝ }
     ensures meaning { λ r. ⌜ Meets (wordsCauses 64 (record { align = align; kind = kind; size = size; offset = offset; elem = «elem_size»; word = word })) (Decodes (record { align = align; kind = kind; size = size; offset = offset; elem = «elem_size»; word = word })) (layoutSays r) ⌝ }
 {
-    if kind == KIND_FIXED {
-        return fixed_from_words(align, size, offset, elem_size, word, false);
+    if kind > GREATEST_KIND {
+        return LayoutAnswer::Refused(refusal::KIND);
     }
-    if kind == KIND_FIXED_MARKED {
-        return fixed_from_words(align, size, offset, elem_size, word, true);
+    if util::is_power_of_two(align) {
+        let unpadded = kind % 2 == 1;
+        if kind < KIND_TRAILING {
+            if later_words_zero(offset, elem_size, word) {
+                return LayoutAnswer::Layout(DstLayout {
+                    align,
+                    size_info: SizeInfo::Sized { size },
+                    statically_shallow_unpadded: unpadded,
+                });
+            }
+            return LayoutAnswer::Refused(refusal::FIXED_RECORD);
+        }
+        if word == 0 {
+            return LayoutAnswer::Refused(refusal::ROUNDING_WORD_ZERO);
+        }
+        return LayoutAnswer::Layout(DstLayout {
+            align,
+            size_info: SizeInfo::SliceDst(TrailingSliceLayout {
+                offset,
+                elem_size,
+                size_base: size,
+                size_rounding_align_and_phase: RoundingAlignAndPhase(word),
+            }),
+            statically_shallow_unpadded: unpadded,
+        });
     }
-    if kind == KIND_TRAILING {
-        return trailing_from_words(align, size, offset, elem_size, word, false);
-    }
-    if kind == GREATEST_KIND {
-        return trailing_from_words(align, size, offset, elem_size, word, true);
-    }
-    LayoutAnswer::Refused(refusal::KIND)
+    LayoutAnswer::Refused(refusal::ALIGN_NOT_POWER_OF_TWO)
 }
 
 fn marked_kind(kind: u64, unpadded: bool) -> u64

@@ -21,8 +21,8 @@ layout-in-requires-2 c κs = search needs
 enum-known-m : tie.Need-enum-known-m
 enum-known-m c = search needs
 
-extend-requires : tie.Need-extend-requires
-extend-requires c κs = search needs
+with-member-requires : tie.Need-with-member-requires
+with-member-requires c κs = search needs
 
 layout-out-requires : tie.Need-layout-out-requires
 layout-out-requires c κs = search needs
@@ -44,7 +44,7 @@ returns c =
     let a = c .before .before .before .before .before .before .before .before .before .before .args in
     let x = layoutOf (c .before .before .before .before .before .before .before .l .given .0 .0) in
     c .layout-out .ensures
-    ∙ ap layoutOut (c .before .extend .ensures .0
+    ∙ ap layoutOut (c .before .with-member .ensures
     ∙ with-layout 64 (a .field) (λ (m : Layout). extendFor 64 x m (a .repr-packed)) (c .before .before .before .before .before .layout-in2 .result) (c .before .before .before .before .before .layout-in2 .ensures) (c .before .before .before .m .given .1)
     ∙ with-layout 64 (a .layout) (λ (l : Layout). withLayout 64 (a .field) (λ (m : Layout). extendFor 64 l m (a .repr-packed))) (c .before .before .before .before .before .before .before .before .before .layout-in .result) (c .before .before .before .before .before .before .before .before .before .layout-in .ensures) (c .before .before .before .before .before .before .before .l .given .1))
 
@@ -69,7 +69,7 @@ lukaripe-extend-spec =
     enum-known-l
     layout-in-requires-2
     enum-known-m
-    extend-requires
+    with-member-requires
     layout-out-requires
     enum-known-refusal
     layout-out-requires-2

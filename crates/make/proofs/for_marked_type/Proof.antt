@@ -1,33 +1,37 @@
 -- `make::for_marked_type` meets its contract. Assumes nothing.
-use mathlib.Core.Path.{sym}
-use Rattle.make.specs.Make.{typeCauses, typeLayout, typeFor}
-use Rattle.layout.specs.View.{checkSays}
-use Rattle.util.proofs.Tables.{told-by, accepted-as, refused-as}
+use mathlib.Core.Path.{sym, _∙_}
+use borrow.Author.Tests.{eq-eqb, ne-eqb}
+use Rattle.util.specs.Refusal.{unless}
+use Rattle.util.proofs.Powers.{positive}
+use Rattle.util.proofs.Masks.{mask-mod}
 use borrow.Author.Needs.{needs}
+use Rattle.util.proofs.Refusals.{yes}
+use Rattle.make.specs.Make.{typeFor}
 use Rattle.make.proofs.for_marked_type.Statement.{statement}
 use Rattle.make.proofs.for_marked_type.Tie as tie
 
-check-type-requires : tie.Need-check-type-requires
-check-type-requires c κs = search needs
+is-power-of-two-requires : tie.Need-is-power-of-two-requires
+is-power-of-two-requires c κs = search needs
 
-enum-told : tie.Need-enum-told
-enum-told c = search needs
-
-enum-known-number : tie.Need-enum-known-number
-enum-known-number c = search needs
+sub-if2 : tie.Need-sub-if2
+sub-if2 c = positive (yes (c .before .is-power-of-two .ensures .1) (c .if1 .taken))
 
 returns : tie.Need-returns
-unfolding typeFor
+unfolding typeFor unless
 returns c =
-    let a = c .before .before .before .args in
-    sym (accepted-as (typeCauses 64 (a .size) (a .align)) tt (typeLayout (a .unpadded) (a .size) (a .align)) (told-by checkSays (c .before .before .check-type .ensures) (c .enum-told .given .1)))
+    let p = yes (c .before .before .is-power-of-two .ensures .1) (c .before .if1 .taken) in
+    simp (sym (c .before .before .is-power-of-two .ensures .0) ∙ c .before .if1 .taken, eq-eqb _ 0 (sym (mask-mod (c .before .before .before .args .size) p) ∙ c .if2 .taken))
 
 returns-2 : tie.Need-returns-2
-unfolding typeFor
+unfolding typeFor unless
 returns-2 c =
-    let a = c .before .before .before .before .args in
-    sym (refused-as (typeCauses 64 (a .size) (a .align)) tt (typeLayout (a .unpadded) (a .size) (a .align)) (told-by checkSays (c .before .before .before .check-type .ensures) (c .before .number .given .1)))
+    let p = yes (c .before .before .is-power-of-two .ensures .1) (c .before .if1 .taken) in
+    simp (sym (c .before .before .is-power-of-two .ensures .0) ∙ c .before .if1 .taken, ne-eqb _ 0 (λ e. c .if2 .left (mask-mod (c .before .before .before .args .size) p ∙ e)))
+
+returns-3 : tie.Need-returns-3
+unfolding typeFor unless
+returns-3 c = simp (sym (c .before .is-power-of-two .ensures .0) ∙ c .if1 .left)
 
 pub for-marked-type-spec : {M : Type 1} → statement M
 for-marked-type-spec =
-    tie.close (tie.spec check-type-requires enum-told enum-known-number returns returns-2)
+    tie.close (tie.spec is-power-of-two-requires sub-if2 returns returns-2 returns-3)

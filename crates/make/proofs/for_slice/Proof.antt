@@ -1,37 +1,45 @@
 -- `make::for_slice` meets its contract. Assumes nothing.
-use mathlib.Core.Path.{sym}
-use Rattle.util.proofs.Refusals.{told}
-use Rattle.make.specs.Make.{typeCauses, sliceLayout, sliceFor}
-use Rattle.layout.specs.View.{checkSays}
-use Rattle.util.proofs.Tables.{told-by, accepted-as, refused-as}
-use Rattle.make.proofs.Made.{slice-meets}
+use mathlib.Core.Path.{sym, _∙_}
+use borrow.Author.Tests.{eq-eqb, ne-eqb}
+use Rattle.util.specs.Refusal.{unless}
+use Rattle.util.proofs.Powers.{positive}
+use Rattle.util.proofs.Masks.{mask-mod}
 use borrow.Author.Needs.{needs}
+use Rattle.util.proofs.Refusals.{yes, told}
+use Rattle.make.specs.Make.{sliceFor}
+use Rattle.make.proofs.Made.{slice-meets}
 use Rattle.make.proofs.for_slice.Statement.{statement}
 use Rattle.make.proofs.for_slice.Tie as tie
 
-check-type-requires : tie.Need-check-type-requires
-check-type-requires c κs = search needs
+is-power-of-two-requires : tie.Need-is-power-of-two-requires
+is-power-of-two-requires c κs = search needs
 
-enum-told : tie.Need-enum-told
-enum-told c = search needs
-
-enum-known-number : tie.Need-enum-known-number
-enum-known-number c = search needs
+sub-remainder : tie.Need-sub-remainder
+sub-remainder c = positive (yes (c .before .is-power-of-two .ensures .1) (c .if1 .taken))
 
 returns : tie.Need-returns
-unfolding sliceFor
+unfolding sliceFor unless
 returns c =
-    let a = c .before .before .before .args in
-    told (slice-meets 64 (a .size) (a .align) (c .before .before .before .fits .align .fits))
-    (sym (accepted-as (typeCauses 64 (a .size) (a .align)) tt (sliceLayout (a .size) (a .align)) (told-by checkSays (c .before .before .check-type .ensures) (c .enum-told .given .1))))
+    let k = c .before .before .before in
+    let p = yes (c .before .before .is-power-of-two .ensures .1) (c .before .if1 .taken) in
+    told (slice-meets 64 (k .args .size) (k .args .align) (k .fits .align .fits))
+    (simp (sym (c .before .before .is-power-of-two .ensures .0) ∙ c .before .if1 .taken, eq-eqb _ 0 (sym (mask-mod (k .args .size) p) ∙ c .if2 .taken)))
 
 returns-2 : tie.Need-returns-2
-unfolding sliceFor
+unfolding sliceFor unless
 returns-2 c =
-    let a = c .before .before .before .before .args in
-    told (slice-meets 64 (a .size) (a .align) (c .before .before .before .before .fits .align .fits))
-    (sym (refused-as (typeCauses 64 (a .size) (a .align)) tt (sliceLayout (a .size) (a .align)) (told-by checkSays (c .before .before .before .check-type .ensures) (c .before .number .given .1))))
+    let k = c .before .before .before in
+    let p = yes (c .before .before .is-power-of-two .ensures .1) (c .before .if1 .taken) in
+    told (slice-meets 64 (k .args .size) (k .args .align) (k .fits .align .fits))
+    (simp (sym (c .before .before .is-power-of-two .ensures .0) ∙ c .before .if1 .taken, ne-eqb _ 0 (λ e. c .if2 .left (mask-mod (k .args .size) p ∙ e))))
+
+returns-3 : tie.Need-returns-3
+unfolding sliceFor unless
+returns-3 c =
+    let k = c .before .before in
+    told (slice-meets 64 (k .args .size) (k .args .align) (k .fits .align .fits))
+    (simp (sym (c .before .is-power-of-two .ensures .0) ∙ c .if1 .left))
 
 pub for-slice-spec : {M : Type 1} → statement M
 for-slice-spec =
-    tie.close (tie.spec check-type-requires enum-told enum-known-number returns returns-2)
+    tie.close (tie.spec is-power-of-two-requires sub-remainder returns returns-2 returns-3)
