@@ -10,7 +10,7 @@ use lib.Dec.{ltb}
 use lib.ListN.{length, set, drop, length-append}
 use lib.Seq.{sets, sets-eq, length-sets, length-take-le}
 use Rattle.io.specs.Counts.{Counts}
-use Rattle.record.specs.Compose.{Composed, refusedAt, structFor}
+use Rattle.compose.specs.Compose.{Composed, refusedAt, structFor}
 use Rattle.record.proofs.LittleEndian.{sets-sets}
 use Rattle.listing.specs.Line.{digitsOf, decimal, atText, lineOf, listFor, lineLength, lineInto}
 

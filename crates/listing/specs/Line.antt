@@ -5,7 +5,7 @@ use Prim.Native.Nat.{ℕ, zero, suc, _+_, _/_, _%_}
 use lib.Dec.{ltb}
 use lib.ListN.{length, drop}
 use Rattle.record.specs.Record.{Words, wordsOf}
-use Rattle.record.specs.Compose.{Composed, composed, refusedAt, structFor}
+use Rattle.compose.specs.Compose.{Composed, composed, refusedAt, structFor}
 
 -- a number in decimal, in at most k digits, in ASCII
 abbrev pub digitsOf : ℕ → ℕ → List ℕ

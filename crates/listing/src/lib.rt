@@ -4,9 +4,10 @@ ghost use Prim.Native.Nat.{_+_, _≤_, _<_, _^_};
 ghost use lib.ListN.{length};
 ghost use lib.Seq.{sets};
 ghost use Rattle.io.specs.Counts.{Counts};
-ghost use Rattle.record.specs.View.{wordsIn, composeSays};
+ghost use Rattle.record.specs.View.{wordsIn};
+ghost use Rattle.compose.specs.View.{composeSays};
 ghost use Rattle.listing.specs.Line.{digitsOf, token, wordsLine, refusedText, atText, refusedLine, listFor, lineLength, lineInto};
-use record::ComposeAnswer;
+use compose::ComposeAnswer;
 use record::Words;
 use util::refusal;
 
@@ -103,7 +104,7 @@ fn compose_list(list: &[u8]) -> ComposeAnswer
             place: 0,
         }
     } else {
-        record::for_repr_c_struct(0, 0, list)
+        compose::for_repr_c_struct(0, 0, list)
     }
 }
 

@@ -9,7 +9,7 @@ use Rattle.rounding.specs.Word.{Components}
 use Rattle.trailing.specs.Size.{Trailing}
 use Rattle.layout.specs.Layout.{Layout}
 use Rattle.record.specs.Record.{Words, recordLength, wordsOf, wordsFor, encodeFor, encodedInto}
-use Rattle.record.specs.Compose.{Composed, composed, refusedAt}
+use Rattle.compose.specs.Compose.{Composed, composed, refusedAt}
 use Rattle.cast.specs.Cast.{Side, prefix, suffix, Grant}
 use Rattle.convert.specs.Convert.{Params, sizedToSized, sizedToUnsized, unsizedToUnsized}
 use Rattle.lukaripe.specs.declared.Layout as given-layout

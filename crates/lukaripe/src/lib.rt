@@ -15,8 +15,8 @@ ghost use Rattle.padding.specs.Pad.{padFor, staticFor, dynamicFor};
 ghost use Rattle.layout.specs.View.{layoutOf, layoutSays};
 ghost use Rattle.record.specs.Record.{wordsFor, decodeFor, encodeWordsFor, encodedWordsInto};
 ghost use Rattle.record.specs.Scalar.{target64, scalarFor};
-ghost use Rattle.record.specs.Compose.{composeFor, structFor};
-ghost use Rattle.record.specs.View.{composeSays};
+ghost use Rattle.compose.specs.Compose.{composeFor, structFor};
+ghost use Rattle.compose.specs.View.{composeSays};
 ghost use Rattle.cast.specs.Cast.{castFor};
 ghost use Rattle.cast.specs.Exact.{exactFor};
 ghost use Rattle.cast.specs.View.{sideOf, castSays};
@@ -26,13 +26,13 @@ ghost use Rattle.convert.specs.View.{paramsIn, computeSays};
 ghost use Rattle.lukaripe.specs.Export.{numberOut, decisionOut, componentsOut, trailingIn, trailingOut, wordsGiven, layoutOut, withLayout, composedOut, castOut, sideGiven, paramsGiven, paramsOut, refusalOut};
 use cast::CastAnswer;
 use cast::CastType;
+use compose::ComposeAnswer;
 use convert::CastParamsInner;
 use convert::ComputeAnswer;
 use layout::DstLayout;
 use layout::LayoutAnswer;
 use layout::SizeInfo;
 use layout::SizedLayout;
-use record::ComposeAnswer;
 use record::EncodeAnswer;
 use record::Words;
 use rounding::ComponentsAnswer;
@@ -177,14 +177,14 @@ fn trailing_in(t: Trailing) -> TrailingSliceLayout
 fn layout_in(l: Layout) -> LayoutAnswer
     ensures { λ r. ⌜ layoutSays r ≡ wordsFor 64 (wordsGiven l) ⌝ }
 {
-    record::layout_from_words(
-        l.align,
-        l.kind,
-        l.size_or_base,
-        l.offset,
-        l.elem_size,
-        l.word,
-    )
+    record::layout_from_words(Words {
+        align: l.align,
+        kind: l.kind,
+        size: l.size_or_base,
+        offset: l.offset,
+        elem_size: l.elem_size,
+        word: l.word,
+    })
 }
 
 // `extend`, of which the compiler inlines the way of a layout with a size.
@@ -618,7 +618,7 @@ pub extern "C" fn lukaripe_scalar(code: u64) -> LayoutOut
 pub extern "C" fn lukaripe_compose(repr_align: u64, repr_packed: u64, members: &[u8]) -> ComposedOut
     ensures { λ r. ⌜ r ≡ composedOut (composeFor 64 «repr_align» «repr_packed» (now (members .entry))) ⌝ }
 {
-    composed_out(record::compose(repr_align, repr_packed, members))
+    composed_out(compose::compose(repr_align, repr_packed, members))
 }
 
 // The layout of a member list.
@@ -630,7 +630,7 @@ pub extern "C" fn lukaripe_for_repr_c_struct(
 ) -> ComposedOut
     ensures { λ r. ⌜ r ≡ composedOut (structFor 64 «repr_align» «repr_packed» (now (members .entry))) ⌝ }
 {
-    composed_out(record::for_repr_c_struct(repr_align, repr_packed, members))
+    composed_out(compose::for_repr_c_struct(repr_align, repr_packed, members))
 }
 
 // How many elements the bytes at an address hold, and where they split.

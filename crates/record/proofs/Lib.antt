@@ -1,7 +1,6 @@
--- Laws of records and of compositions, over any width.
+-- Laws of records and scalars, over any width.
 pub mod LittleEndian
 pub mod Records
-pub mod Compositions
 pub mod Scalars
 pub mod RoundTrips
 pub mod At32

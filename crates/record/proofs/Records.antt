@@ -9,8 +9,6 @@ use lib.Dec.{eqb}
 use lib.ListN.{length}
 use lib.Seq.{sets}
 use Rattle.util.specs.Refusal.{Cause, Outcome, answered, refused, unless, Tells, None, Meets, Decided}
-use Rattle.util.specs.Helpers.{badAlign}
-use Rattle.rounding.specs.Word.{wordZero}
 use Rattle.util.proofs.Refusals.{known, tells-eq, tells-le, tells-lt, tells-not, tells-and, meets}
 use Rattle.util.proofs.Helpers.{align-decided}
 use Rattle.trailing.specs.Size.{Trailing}
@@ -58,27 +56,6 @@ record-meets w s h = meets (recordCauses w s) (wordsLayout (wordsAt s 0)) (recor
 pub decode-words : (w : ℕ) (s : List ℕ) → length s ≡ 48 → decodeFor w s ≡ wordsFor w (wordsAt s 0)
 unfolding decodeFor wordsFor unless
 decode-words w s h = simp (eq-eqb (length s) 48 h)
-
--- what each kind leaves to test, and the layout of it
-pub kind-0 : (w a b o e v : ℕ) {k : ℕ} → k ≡ 0
-    → unless (badAlign w a ∷ laterWord (record { align = a; kind = 0; size = b; offset = o; elem = e; word = v }) ∷ []) (record { align = a; info = fixed b; mark = false }) ≡ wordsFor w (record { align = a; kind = k; size = b; offset = o; elem = e; word = v })
-unfolding wordsFor unless
-kind-0 w a b o e v h = rw h
-
-pub kind-1 : (w a b o e v : ℕ) {k : ℕ} → k ≡ 1
-    → unless (badAlign w a ∷ laterWord (record { align = a; kind = 0; size = b; offset = o; elem = e; word = v }) ∷ []) (record { align = a; info = fixed b; mark = true }) ≡ wordsFor w (record { align = a; kind = k; size = b; offset = o; elem = e; word = v })
-unfolding wordsFor unless
-kind-1 w a b o e v h = rw h
-
-pub kind-2 : (w a b o e v : ℕ) {k : ℕ} → k ≡ 2
-    → unless (badAlign w a ∷ wordZero v ∷ []) (record { align = a; info = trailing (record { offset = o; elem = e; base = b; word = v }); mark = false }) ≡ wordsFor w (record { align = a; kind = k; size = b; offset = o; elem = e; word = v })
-unfolding wordsFor unless
-kind-2 w a b o e v h = rw h
-
-pub kind-3 : (w a b o e v : ℕ) {k : ℕ} → k ≡ 3
-    → unless (badAlign w a ∷ wordZero v ∷ []) (record { align = a; info = trailing (record { offset = o; elem = e; base = b; word = v }); mark = true }) ≡ wordsFor w (record { align = a; kind = k; size = b; offset = o; elem = e; word = v })
-unfolding wordsFor unless
-kind-3 w a b o e v h = rw h
 
 -- the words of a layout, of which the kind is one more where it has the mark
 pub fixed-words : (a k s : ℕ) (m : Bool) → k ≡ cond m (0 + 1) 0 → infoWords a k (fixed s) ≡ wordsOf (record { align = a; info = fixed s; mark = m })

@@ -1,5 +1,4 @@
 pub mod Bytes
 pub mod Record
 pub mod Scalar
-pub mod Compose
 pub mod View

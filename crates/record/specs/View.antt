@@ -1,13 +1,9 @@
 -- What the types of this crate are, over numbers: document 01's number and values for each case of an answer. Assumes nothing.
 use Rattle.util.specs.Refusal.{Outcome, answered, refused}
-use Rattle.layout.specs.View.{layoutOf}
 use Rattle.record.specs.Record.{Words}
-use Rattle.record.specs.Compose.{Composed, composed, refusedAt}
 use Rattle.record.specs.declared.Words as W
 use Rattle.record.specs.declared.EncodeAnswer.{EncodeAnswer}
 use Rattle.record.specs.declared.EncodeAnswer.the-variants as Encode
-use Rattle.record.specs.declared.ComposeAnswer.{ComposeAnswer}
-use Rattle.record.specs.declared.ComposeAnswer.the-variants as Compose
 
 abbrev pub wordsIn : W.Words → Words
 wordsIn r = record { align = r .align; kind = r .kind; size = r .size; offset = r .offset; elem = r .«elem_size»; word = r .word }
@@ -15,7 +11,3 @@ wordsIn r = record { align = r .align; kind = r .kind; size = r .size; offset = 
 abbrev pub encodeSays : EncodeAnswer → Outcome (Unit {0})
 encodeSays Encode.Encoded = answered tt
 encodeSays (Encode.Refused k) = refused k
-
-abbrev pub composeSays : ComposeAnswer → Composed
-composeSays (Compose.Layout l) = composed (layoutOf l)
-composeSays (Compose.Refused k place) = refusedAt k place

@@ -1,26 +1,20 @@
-// Records of layouts, scalars by code, and the composition of a list of member records.
+// Records of layouts, and scalars by code.
 ghost use mathlib.Core.Path.{_≡_};
-ghost use mathlib.Core.List.{[], _∷_};
 ghost use mathlib.Core.Bool.{cond, _&&_};
-ghost use Prim.Native.Nat.{_+_, _-_, _*_, _/_, _^_, _≤_, _<_};
+ghost use Prim.Native.Nat.{_+_, _≤_, _<_};
 ghost use lib.Dec.{eqb};
-ghost use lib.ListN.{length, getD, drop};
+ghost use lib.ListN.{length, getD};
 ghost use lib.Seq.{sets};
-ghost use Rattle.util.specs.Refusal.{unless, Meets};
-ghost use Rattle.util.specs.Helpers.{badAlign};
-ghost use Rattle.rounding.specs.Word.{wordZero};
-ghost use Rattle.layout.specs.Layout.{fixed, trailing};
-ghost use Rattle.padding.specs.Pad.{padFor};
-ghost use Rattle.layout.specs.View.{layoutOf, sizedOf, layoutSays};
+ghost use Rattle.util.specs.Refusal.{Meets};
+ghost use Rattle.layout.specs.View.{layoutOf, layoutSays};
 ghost use Rattle.record.specs.Bytes.{wordAt, wordBytes};
-ghost use Rattle.record.specs.Record.{wordsAt, recordBytes, wordsOf, laterWord, wordsCauses, recordCauses, wordsFor, decodeFor, Decodes, encodeFor, encodedInto, encodeWordsFor, encodedWordsInto};
+ghost use Rattle.record.specs.Record.{wordsAt, recordBytes, wordsOf, wordsCauses, recordCauses, wordsFor, decodeFor, Decodes};
+ghost use Rattle.record.specs.Record.{encodeFor, encodedInto, encodeWordsFor, encodedWordsInto};
 ghost use Rattle.record.specs.Scalar.{target64, scalarCauses, scalarLayout, scalarFor};
-ghost use Rattle.record.specs.Compose.{composed, andThen, memberStep, addMembers, membersOf, composeFor, structFor};
-ghost use Rattle.record.specs.View.{wordsIn, encodeSays, composeSays};
+ghost use Rattle.record.specs.View.{wordsIn, encodeSays};
 use layout::DstLayout;
 use layout::LayoutAnswer;
 use layout::SizeInfo;
-use layout::SizedLayout;
 use rounding::RoundingAlignAndPhase;
 use trailing::TrailingSliceLayout;
 use util::refusal;
@@ -41,12 +35,6 @@ pub struct Words {
 pub enum EncodeAnswer {
     Encoded,
     Refused(u64),
-}
-
-// A composed layout, or the number of the refusal and its place.
-pub enum ComposeAnswer {
-    Layout(DstLayout),
-    Refused { number: u64, place: u64 },
 }
 
 // The bytes of a record.
@@ -74,29 +62,25 @@ fn later_words_zero(offset: u64, elem_size: u64, word: u64) -> bool
     }
 }
 
-// The layout of the six words of a record. It compares the whole kind, since the compiler would read the bytes of the kind
-// apart to get at its lowest bit.
-pub fn layout_from_words(
-    align: u64,
-    kind: u64,
-    size: u64,
-    offset: u64,
-    elem_size: u64,
-    word: u64,
-) -> LayoutAnswer
-    ensures answer { λ r. ⌜ layoutSays r ≡ wordsFor 64 (record { align = align; kind = kind; size = size; offset = offset; elem = «elem_size»; word = word }) ⌝ }
-    ensures meaning { λ r. ⌜ Meets (wordsCauses 64 (record { align = align; kind = kind; size = size; offset = offset; elem = «elem_size»; word = word })) (Decodes (record { align = align; kind = kind; size = size; offset = offset; elem = «elem_size»; word = word })) (layoutSays r) ⌝ }
+// The layout of the six words of a record. The tests stand in one function, in the order of their numbers: the compiler then
+// knows of an accepted layout what was tested, wherever this is inlined.
+pub fn layout_from_words(words: Words) -> LayoutAnswer
+    ensures answer { λ r. ⌜ layoutSays r ≡ wordsFor 64 (wordsIn words) ⌝ }
+    ensures meaning { λ r. ⌜ Meets (wordsCauses 64 (wordsIn words)) (Decodes (wordsIn words)) (layoutSays r) ⌝ }
 {
+    let align = words.align;
+    let kind = words.kind;
+    let word = words.word;
     if kind > GREATEST_KIND {
         return LayoutAnswer::Refused(refusal::KIND);
     }
     if util::is_power_of_two(align) {
         let unpadded = kind % 2 == 1;
         if kind < KIND_TRAILING {
-            if later_words_zero(offset, elem_size, word) {
+            if later_words_zero(words.offset, words.elem_size, word) {
                 return LayoutAnswer::Layout(DstLayout {
                     align,
-                    size_info: SizeInfo::Sized { size },
+                    size_info: SizeInfo::Sized { size: words.size },
                     statically_shallow_unpadded: unpadded,
                 });
             }
@@ -108,9 +92,9 @@ pub fn layout_from_words(
         return LayoutAnswer::Layout(DstLayout {
             align,
             size_info: SizeInfo::SliceDst(TrailingSliceLayout {
-                offset,
-                elem_size,
-                size_base: size,
+                offset: words.offset,
+                elem_size: words.elem_size,
+                size_base: words.size,
                 size_rounding_align_and_phase: RoundingAlignAndPhase(word),
             }),
             statically_shallow_unpadded: unpadded,
@@ -183,29 +167,19 @@ fn read_word(s: &[u8], at: usize) -> u64
         + 0x100_0000_0000_0000 * h
 }
 
-// The six words of the record that begins at at.
-fn read_words(s: &[u8], at: usize) -> Words
-    requires { ⌜ at + 48 ≤ length (now s) ⌝ }
-    ensures { λ r. ⌜ wordsIn r ≡ wordsAt (now (s .entry)) at ⌝ }
+// The six words of a record.
+fn read_words(s: &[u8]) -> Words
+    requires { ⌜ 48 ≤ length (now s) ⌝ }
+    ensures { λ r. ⌜ wordsIn r ≡ wordsAt (now (s .entry)) 0 ⌝ }
 {
     Words {
-        align: read_word(s, at),
-        kind: read_word(s, at + 8),
-        size: read_word(s, at + 16),
-        offset: read_word(s, at + 24),
-        elem_size: read_word(s, at + 32),
-        word: read_word(s, at + 40),
+        align: read_word(s, 0),
+        kind: read_word(s, 8),
+        size: read_word(s, 16),
+        offset: read_word(s, 24),
+        elem_size: read_word(s, 32),
+        word: read_word(s, 40),
     }
-}
-
-// The record that begins at at.
-fn record_at(s: &[u8], at: usize) -> LayoutAnswer
-    requires { ⌜ at + 48 ≤ length (now s) ⌝ }
-    ensures answer { λ r. ⌜ layoutSays r ≡ wordsFor 64 (wordsAt (now (s .entry)) at) ⌝ }
-    ensures held { λ r. ⌜ wordAt (now (s .entry)) at < 2 ^ 64 ⌝ }
-{
-    let w = read_words(s, at);
-    layout_from_words(w.align, w.kind, w.size, w.offset, w.elem_size, w.word)
 }
 
 // The layout of a record.
@@ -214,7 +188,7 @@ pub fn decode(s: &[u8]) -> LayoutAnswer
     ensures meaning { λ r. ⌜ Meets (recordCauses 64 (now (s .entry))) (Decodes (wordsAt (now (s .entry)) 0)) (layoutSays r) ⌝ }
 {
     if s.len() == RECORD_BYTES {
-        record_at(s, 0)
+        layout_from_words(read_words(s))
     } else {
         LayoutAnswer::Refused(refusal::RECORD_LENGTH)
     }
@@ -260,7 +234,7 @@ pub fn encode_words(w: Words, out: &mut [u8]) -> EncodeAnswer
     ensures bytes { λ _. ⌜ now (out .exit) ≡ encodedWordsInto 64 (wordsIn w) (now (out .entry)) ⌝ }
 {
     if out.len() == RECORD_BYTES {
-        match layout_from_words(w.align, w.kind, w.size, w.offset, w.elem_size, w.word) {
+        match layout_from_words(w) {
             // The words of the layout are those given, but moved one by one: of those given the compiler would load two at once,
             // and wait for the caller's stores of them.
             LayoutAnswer::Layout(l) => {
@@ -308,143 +282,4 @@ pub fn scalar(code: u64) -> LayoutAnswer
         size_info: SizeInfo::Sized { size },
         statically_shallow_unpadded: true,
     })
-}
-
-// The layout with the member more whose record begins at at.
-fn member_step(l: DstLayout, repr_packed: u64, members: &[u8], at: usize) -> LayoutAnswer
-    requires { ⌜ at + 48 ≤ length (now members) ⌝ }
-    ensures { λ r. ⌜ layoutSays r ≡ memberStep 64 «repr_packed» (layoutOf l) (wordsFor 64 (wordsAt (now (members .entry)) at)) ⌝ }
-{
-    match record_at(members, at) {
-        LayoutAnswer::Layout(member) => l.extend(member, repr_packed),
-        LayoutAnswer::Refused(number) => LayoutAnswer::Refused(number),
-    }
-}
-
-// The same of a layout with a size.
-fn sized_step(own: SizedLayout, repr_packed: u64, members: &[u8], at: usize) -> LayoutAnswer
-    requires { ⌜ at + 48 ≤ length (now members) ⌝ }
-    ensures { λ r. ⌜ layoutSays r ≡ memberStep 64 «repr_packed» (sizedOf own) (wordsFor 64 (wordsAt (now (members .entry)) at)) ⌝ }
-{
-    match record_at(members, at) {
-        LayoutAnswer::Layout(member) => layout::extend_sized(own, member, repr_packed),
-        LayoutAnswer::Refused(number) => LayoutAnswer::Refused(number),
-    }
-}
-
-// Each member in turn from the one at from on, at the end of the layout. This goes on behind a trailing member, where the next
-// one is refused.
-fn add_members(start: DstLayout, repr_packed: u64, members: &[u8], from: usize) -> ComposeAnswer
-    ensures { λ r. ⌜ composeSays r ≡ addMembers 64 «repr_packed» from (layoutOf start) (membersOf 64 (length (now (members .entry)) / 48 - from) (drop (from * 48) (now (members .entry)))) ⌝ }
-{
-    let count = members.len() / RECORD_BYTES;
-    let mut l = start;
-    let mut place = from;
-    while place < count {
-        match member_step(l, repr_packed, members, place * RECORD_BYTES) {
-            LayoutAnswer::Layout(next) => {
-                l = next;
-            }
-            LayoutAnswer::Refused(number) => {
-                return ComposeAnswer::Refused {
-                    number,
-                    place: place as u64,
-                };
-            }
-        }
-        place += 1;
-    }
-    ComposeAnswer::Layout(l)
-}
-
-// Each member in turn at the end of a layout with a size. A trailing member leaves this loop, which so carries three words and
-// no whole layout.
-fn add_to_sized(start: SizedLayout, repr_packed: u64, members: &[u8]) -> ComposeAnswer
-    ensures { λ r. ⌜ composeSays r ≡ addMembers 64 «repr_packed» 0 (sizedOf start) (membersOf 64 (length (now (members .entry)) / 48) (now (members .entry))) ⌝ }
-{
-    let count = members.len() / RECORD_BYTES;
-    let mut own = start;
-    let mut i = 0;
-    while i < count {
-        match sized_step(own, repr_packed, members, i * RECORD_BYTES) {
-            LayoutAnswer::Layout(next) => {
-                let size_info = next.size_info;
-                match size_info {
-                    SizeInfo::Sized { size } => {
-                        own = SizedLayout {
-                            align: next.align,
-                            size,
-                            statically_shallow_unpadded: next.statically_shallow_unpadded,
-                        };
-                    }
-                    SizeInfo::SliceDst(_) => {
-                        return add_members(next, repr_packed, members, i + 1);
-                    }
-                }
-            }
-            LayoutAnswer::Refused(number) => {
-                return ComposeAnswer::Refused {
-                    number,
-                    place: i as u64,
-                };
-            }
-        }
-        i += 1;
-    }
-    ComposeAnswer::Layout(DstLayout {
-        align: own.align,
-        size_info: SizeInfo::Sized { size: own.size },
-        statically_shallow_unpadded: own.statically_shallow_unpadded,
-    })
-}
-
-// The members of a list one after the other, without padding after the last.
-pub fn compose(repr_align: u64, repr_packed: u64, members: &[u8]) -> ComposeAnswer
-    ensures { λ r. ⌜ composeSays r ≡ composeFor 64 «repr_align» «repr_packed» (now (members .entry)) ⌝ }
-{
-    if members.len() % RECORD_BYTES == 0 {
-        match make::new_zst(repr_align) {
-            LayoutAnswer::Layout(empty) => add_to_sized(
-                SizedLayout {
-                    align: empty.align,
-                    size: 0,
-                    statically_shallow_unpadded: true,
-                },
-                repr_packed,
-                members,
-            ),
-            LayoutAnswer::Refused(number) => ComposeAnswer::Refused { number, place: 0 },
-        }
-    } else {
-        ComposeAnswer::Refused {
-            number: refusal::RECORD_LENGTH,
-            place: 0,
-        }
-    }
-}
-
-// The padding after the last of count members; a refusal of it is placed at their count.
-fn pad_composed(l: DstLayout, count: u64) -> ComposeAnswer
-    ensures { λ r. ⌜ composeSays r ≡ andThen (padFor 64 (layoutOf l)) count composed ⌝ }
-{
-    match padding::pad_to_align(l) {
-        LayoutAnswer::Layout(padded) => ComposeAnswer::Layout(padded),
-        LayoutAnswer::Refused(number) => ComposeAnswer::Refused {
-            number,
-            place: count,
-        },
-    }
-}
-
-// The layout of a repr(C) struct with these members.
-pub fn for_repr_c_struct(repr_align: u64, repr_packed: u64, members: &[u8]) -> ComposeAnswer
-    ensures { λ r. ⌜ composeSays r ≡ structFor 64 «repr_align» «repr_packed» (now (members .entry)) ⌝ }
-{
-    match compose(repr_align, repr_packed, members) {
-        ComposeAnswer::Layout(l) => {
-            let count = members.len() / RECORD_BYTES;
-            pad_composed(l, count as u64)
-        }
-        ComposeAnswer::Refused { number, place } => ComposeAnswer::Refused { number, place },
-    }
 }

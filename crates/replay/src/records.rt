@@ -5,9 +5,9 @@ use crate::layouts::first;
 use crate::layouts::tell_layout;
 use crate::layouts::tell_refusal;
 use crate::lines::WIDTH;
+use compose::ComposeAnswer;
 use layout::DstLayout;
 use layout::LayoutAnswer;
-use record::ComposeAnswer;
 use record::EncodeAnswer;
 use util::refusal;
 
@@ -119,7 +119,7 @@ pub fn compose(line: &[u64; WIDTH]) -> Told {
     let bytes = bytes_from(line, 4);
     tell_composed(
         3 + (length + 7) / 8,
-        record::compose(line[1], line[2], &bytes[..length]),
+        compose::compose(line[1], line[2], &bytes[..length]),
     )
 }
 
@@ -129,6 +129,6 @@ pub fn for_repr_c_struct(line: &[u64; WIDTH]) -> Told {
         return tell_none();
     }
     let bytes = bytes_from(line, 4);
-    let answer = record::for_repr_c_struct(line[1], line[2], &bytes[..length]);
+    let answer = compose::for_repr_c_struct(line[1], line[2], &bytes[..length]);
     tell_composed(3 + (length + 7) / 8, answer)
 }

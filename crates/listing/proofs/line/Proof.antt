@@ -2,7 +2,7 @@
 use mathlib.Core.Path.{sym, ap, _∙_}
 use lib.ListN.{length}
 use lib.Seq.{sets}
-use Rattle.record.specs.View.{composeSays}
+use Rattle.compose.specs.View.{composeSays}
 use Rattle.listing.specs.Line.{wordsLine}
 use Rattle.listing.proofs.Lines.{no-room, written}
 use borrow.Author.Needs.{needs}

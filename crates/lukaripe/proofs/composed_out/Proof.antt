@@ -1,8 +1,8 @@
 -- `lukaripe::composed_out` meets its contract. Assumes nothing.
 use mathlib.Core.Path.{sym, ap, _∙_}
 use Rattle.record.specs.Record.{Words}
-use Rattle.record.specs.declared.ComposeAnswer.{ComposeAnswer}
-use Rattle.record.specs.View.{composeSays}
+use Rattle.compose.specs.declared.ComposeAnswer.{ComposeAnswer}
+use Rattle.compose.specs.View.{composeSays}
 use Rattle.lukaripe.specs.Export.{composedOut, composedWords}
 use borrow.Author.Needs.{needs}
 use Rattle.lukaripe.proofs.composed_out.Statement.{statement}

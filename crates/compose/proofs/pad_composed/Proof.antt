@@ -1,13 +1,13 @@
--- `record::pad_composed` meets its contract. Assumes nothing.
+-- `compose::pad_composed` meets its contract. Assumes nothing.
 use mathlib.Core.Path.{sym, ap}
 use Rattle.util.specs.Refusal.{Outcome}
 use Rattle.util.proofs.Tables.{told-by}
 use Rattle.layout.specs.Layout.{Layout}
 use Rattle.layout.specs.View.{layoutSays}
-use Rattle.record.specs.Compose.{composed, andThen}
+use Rattle.compose.specs.Compose.{composed, andThen}
 use borrow.Author.Needs.{needs}
-use Rattle.record.proofs.pad_composed.Statement.{statement}
-use Rattle.record.proofs.pad_composed.Tie as tie
+use Rattle.compose.proofs.pad_composed.Statement.{statement}
+use Rattle.compose.proofs.pad_composed.Tie as tie
 
 pad-to-align-requires : tie.Need-pad-to-align-requires
 pad-to-align-requires c κs = search needs

@@ -1,13 +1,13 @@
--- `record::for_repr_c_struct` meets its contract. Assumes nothing.
+-- `compose::for_repr_c_struct` meets its contract. Assumes nothing.
 use mathlib.Core.Path.{sym, ap, _∙_}
 use Prim.Native.Nat.{_/_}
 use lib.ListN.{length}
-use Rattle.record.specs.Compose.{Composed, bind}
-use Rattle.record.specs.View.{composeSays}
-use Rattle.record.proofs.Compositions.{closing, struct-closes}
+use Rattle.compose.specs.Compose.{Composed, bind}
+use Rattle.compose.specs.View.{composeSays}
+use Rattle.compose.proofs.Compositions.{closing, struct-closes}
 use borrow.Author.Needs.{needs}
-use Rattle.record.proofs.for_repr_c_struct.Statement.{statement}
-use Rattle.record.proofs.for_repr_c_struct.Tie as tie
+use Rattle.compose.proofs.for_repr_c_struct.Statement.{statement}
+use Rattle.compose.proofs.for_repr_c_struct.Tie as tie
 
 compose-requires : tie.Need-compose-requires
 compose-requires c κs = search needs

@@ -1,7 +1,7 @@
 -- The composition of a member list (document 01, `for_repr_c_struct`; the Reference's rule layout.repr.c.struct.size-field-offset). Assumes nothing.
 use mathlib.Core.Bool.{cond}
 use mathlib.Core.List.{List, [], _∷_}
-use Prim.Native.Nat.{ℕ, zero, suc, _/_, _%_}
+use Prim.Native.Nat.{ℕ, zero, suc, _-_, _*_, _/_, _%_}
 use lib.Dec.{eqb}
 use lib.ListN.{length, take, drop}
 use Rattle.util.specs.Refusal.{Outcome, answered, refused}
@@ -51,6 +51,10 @@ composeStruct w align packing ms = bind (composeMembers w align packing ms) (λ 
 unfoldable pub membersOf : ℕ → ℕ → List ℕ → List Member
 membersOf w zero s = []
 membersOf w (suc n) s = decodeFor w (take recordLength s) ∷ membersOf w n (drop recordLength s)
+
+-- those of a list from the one with the index i on
+abbrev pub membersFrom : ℕ → ℕ → List ℕ → List Member
+membersFrom w i s = membersOf w (length s / recordLength - i) (drop (i * recordLength) s)
 
 -- 20 at 0 for a list whose length is no multiple of a record's; else what its members compose to
 abbrev pub ofList : ℕ → (List Member → Composed) → List ℕ → Composed

@@ -1,4 +1,4 @@
--- `record::add_to_sized` meets its contract. Assumes nothing.
+-- `compose::add_to_sized` meets its contract. Assumes nothing.
 use mathlib.Core.Path.{_≡_, sym, ap, _∙_}
 use Prim.Native.Nat.{_-_, _*_, _/_, _≤_}
 use native.Mathlib.Omega.{arith}
@@ -7,11 +7,11 @@ use Rattle.util.specs.Refusal.{answered}
 use Rattle.util.proofs.Tables.{told-by}
 use Rattle.layout.specs.declared.SizeInfo.{SizeInfo}
 use Rattle.layout.specs.View.{infoOf, layoutOf, sizedOf, layoutSays}
-use Rattle.record.specs.Compose.{addMembers, membersOf}
-use Rattle.record.proofs.Compositions.{turn-on, turn-off, begun, ended}
+use Rattle.compose.specs.Compose.{addMembers, membersOf}
+use Rattle.compose.proofs.Compositions.{turn-on, turn-off, begun, ended}
 use borrow.Author.Needs.{needs}
-use Rattle.record.proofs.add_to_sized.Statement.{statement}
-use Rattle.record.proofs.add_to_sized.Tie as tie
+use Rattle.compose.proofs.add_to_sized.Statement.{statement}
+use Rattle.compose.proofs.add_to_sized.Tie as tie
 
 abbrev Inv-loop : tie.InvT-loop
 Inv-loop repr-packed members count own₀ i₀ own i =
@@ -23,8 +23,20 @@ abbrev μ-loop : tie.MeasureT-loop
 loop-holds : tie.Need-loop-holds Inv-loop μ-loop
 loop-holds c = let x = c .before .args in begun 64 (x .repr-packed) (length (x .members .now) / 48) (x .members .now) (sizedOf (x .start))
 
-mul-sized-step : tie.Need-mul-sized-step Inv-loop μ-loop
-mul-sized-step c = search needs
+mul-at : tie.Need-mul-at Inv-loop μ-loop
+mul-at c = search needs
+
+add-sized-step : tie.Need-add-sized-step Inv-loop μ-loop
+add-sized-step c = search needs
+
+sub-sized-step : tie.Need-sub-sized-step Inv-loop μ-loop
+sub-sized-step c = search needs
+
+part-sized-step-start : tie.Need-part-sized-step-start Inv-loop μ-loop
+part-sized-step-start c = search needs
+
+part-sized-step-end : tie.Need-part-sized-step-end Inv-loop μ-loop
+part-sized-step-end c = search needs
 
 sized-step-requires : tie.Need-sized-step-requires Inv-loop μ-loop
 sized-step-requires c κs = search needs
@@ -45,19 +57,17 @@ add-members-requires : tie.Need-add-members-requires Inv-loop μ-loop
 add-members-requires c κs = search needs
 
 returns : tie.Need-returns Inv-loop μ-loop
-returns c = let x = c .before .before .before .before .before .before .before .before .before .before .args in
+returns c = let x = c .before .before .before .before .before .before .before .before .before .before .before .args in
     let s = x .members .now in
-    let b : length s / 48 * 48 ≤ length s = omega arith in
-    c .add-members .ensures ∙ sym (turn-on 64 (x .repr-packed) (length s / 48) (c .before .before .before .before .before .before .before .before .loop .i) s (sizedOf (c .before .before .before .before .before .before .before .before .loop .own)) (c .before .before .before .before .before .before .before .loop-test .taken) b (told-by layoutSays (c .before .before .before .before .before .before .sized-step .ensures) (c .before .before .before .before .next .given .1))) ∙ c .before .before .before .before .before .before .before .before .loop .inv
+    c .add-members .ensures ∙ sym (turn-on 64 (x .repr-packed) (length s / 48) (c .before .before .before .before .before .before .before .before .before .loop .i) s (sizedOf (c .before .before .before .before .before .before .before .before .before .loop .own)) (c .before .before .before .before .before .before .before .before .loop-test .taken) (told-by layoutSays (c .before .before .before .before .before .before .sized-step .ensures) (c .before .before .before .before .next .given .1))) ∙ c .before .before .before .before .before .before .before .before .before .loop .inv
 
 enum-known-number : tie.Need-enum-known-number Inv-loop μ-loop
 enum-known-number c = search needs
 
 returns-2 : tie.Need-returns-2 Inv-loop μ-loop
-returns-2 c = let x = c .before .before .before .before .before .before .before .args in
+returns-2 c = let x = c .before .before .before .before .before .before .before .before .args in
     let s = x .members .now in
-    let b : length s / 48 * 48 ≤ length s = omega arith in
-    sym (turn-off 64 (x .repr-packed) (length s / 48) (c .before .before .before .before .before .loop .i) s (sizedOf (c .before .before .before .before .before .loop .own)) (c .before .before .before .before .loop-test .taken) b (told-by layoutSays (c .before .before .before .sized-step .ensures) (c .before .number .given .1))) ∙ c .before .before .before .before .before .loop .inv
+    sym (turn-off 64 (x .repr-packed) (length s / 48) (c .before .before .before .before .before .before .loop .i) s (sizedOf (c .before .before .before .before .before .before .loop .own)) (c .before .before .before .before .before .loop-test .taken) (told-by layoutSays (c .before .before .before .sized-step .ensures) (c .before .number .given .1))) ∙ c .before .before .before .before .before .before .loop .inv
 
 add-i : tie.Need-add-i Inv-loop μ-loop
 add-i c = search needs
@@ -66,12 +76,11 @@ loop-less : tie.Need-loop-less Inv-loop μ-loop
 loop-less c = search needs
 
 loop-again : tie.Need-loop-again Inv-loop μ-loop
-loop-again c = let x = c .before .before .before .before .before .before .before .before .before .before .args in
+loop-again c = let x = c .before .before .before .before .before .before .before .before .before .before .before .args in
     let s = x .members .now in
-    let b : length s / 48 * 48 ≤ length s = omega arith in
     let next = c .before .before .before .before .next .given .0 .0 in
     let e = told-by layoutSays (c .before .before .before .before .before .before .sized-step .ensures) (c .before .before .before .before .next .given .1) ∙ ap (λ (z : SizeInfo). answered (record { align = next .align; info = infoOf z; mark = next .«statically_shallow_unpadded» })) (c .before .size-info .given .1) in
-    sym (turn-on 64 (x .repr-packed) (length s / 48) (c .before .before .before .before .before .before .before .before .loop .i) s (sizedOf (c .before .before .before .before .before .before .before .before .loop .own)) (c .before .before .before .before .before .before .before .loop-test .taken) b e) ∙ c .before .before .before .before .before .before .before .before .loop .inv
+    sym (turn-on 64 (x .repr-packed) (length s / 48) (c .before .before .before .before .before .before .before .before .before .loop .i) s (sizedOf (c .before .before .before .before .before .before .before .before .before .loop .own)) (c .before .before .before .before .before .before .before .before .loop-test .taken) e) ∙ c .before .before .before .before .before .before .before .before .before .loop .inv
 
 returns-3 : tie.Need-returns-3 Inv-loop μ-loop
 returns-3 c = let x = c .before .before .before .args in
@@ -86,7 +95,11 @@ add-to-sized-spec =
     Inv-loop
     μ-loop
     loop-holds
-    mul-sized-step
+    mul-at
+    add-sized-step
+    sub-sized-step
+    part-sized-step-start
+    part-sized-step-end
     sized-step-requires
     enum-known-next
     enum-known-size-info

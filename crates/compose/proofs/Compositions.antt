@@ -6,37 +6,16 @@ use Prim.Native.Nat.{ℕ, zero, suc, _+_, _-_, _*_, _/_, _%_, _≤_, _<_}
 use native.Mathlib.Omega.{arith}
 use borrow.Author.Tests.{eq-eqb, ne-eqb}
 use lib.Dec.{eqb}
-use lib.ListN.{length, take, drop, length-drop}
-use lib.Seq.{take-take, drop-drop, length-take-le}
+use lib.ListN.{length, take, drop}
+use lib.Seq.{drop-drop}
 use Rattle.util.specs.Refusal.{answered, refused}
 use Rattle.util.specs.Helpers.{alignCauses}
 use Rattle.util.proofs.Tables.{answer-is}
 use Rattle.layout.specs.Layout.{fixed, Layout}
 use Rattle.make.specs.Make.{asked, emptyLayout, newZstFor}
 use Rattle.padding.specs.Pad.{padFor}
-use Rattle.record.specs.Bytes.{valueOf, wordAt}
-use Rattle.record.specs.Record.{wordsAt, wordsFor, decodeFor}
-use Rattle.record.specs.Compose.{Composed, composed, refusedAt, andThen, bind, memberStep, addMembers, composeMembers, composeStruct, membersOf, composeFor, structFor}
-use Rattle.record.proofs.Records.{decode-words}
-
--- a part of the front is a part of the whole
-part : (j m n : ℕ) (s : List ℕ) → j + m ≤ n → take m (drop j (take n s)) ≡ take m (drop j s)
-part zero m n s h = take-take m n s (omega arith)
-part (suc j) m zero s h = absurd (omega arith)
-part (suc j) m (suc n) [] h = refl
-part (suc j) m (suc n) (x ∷ s) h = part j m n s (omega arith)
-
-word-part : (s : List ℕ) (k j i : ℕ) → j + 8 ≤ 48 → i ≡ k + j → wordAt (take 48 (drop k s)) j ≡ wordAt s i
-word-part s k j i h e = ap valueOf (part j 8 48 (drop k s) h ∙ ap (take 8) (drop-drop j k s ∙ ap (λ (x : ℕ). drop x s) (sym e)))
-
--- the record at k, cut out of a list, is the one that is read there
-pub member-at : (w : ℕ) (s : List ℕ) (k : ℕ) → k + 48 ≤ length s → decodeFor w (take 48 (drop k s)) ≡ wordsFor w (wordsAt s k)
-member-at w s k h =
-    decode-words w (take 48 (drop k s)) (length-take-le 48 (drop k s) (omega (arith, length-drop k s)))
-    ∙ ap (wordsFor w) same
-  where
-    same : wordsAt (take 48 (drop k s)) 0 ≡ wordsAt s k
-    same = rw (word-part s k 0 k (omega arith) (omega arith), word-part s k 8 (k + 8) (omega arith) refl, word-part s k 16 (k + 16) (omega arith) refl, word-part s k 24 (k + 24) (omega arith) refl, word-part s k 32 (k + 32) (omega arith) refl, word-part s k 40 (k + 40) (omega arith) refl)
+use Rattle.record.specs.Record.{decodeFor}
+use Rattle.compose.specs.Compose.{Composed, composed, refusedAt, andThen, bind, memberStep, addMembers, composeMembers, composeStruct, membersOf, composeFor, structFor}
 
 pub members-length : (w n : ℕ) (s : List ℕ) → length (membersOf w n s) ≡ n
 unfolding membersOf
@@ -44,25 +23,30 @@ members-length w zero s = refl
 members-length w (suc n) s = ap suc (members-length w n (drop 48 s))
 
 -- the members from the one at i on: that one, and those after it
-next : (w n i : ℕ) (s : List ℕ) → i < n → n * 48 ≤ length s
-    → membersOf w (n - i) (drop (i * 48) s) ≡ wordsFor w (wordsAt s (i * 48)) ∷ membersOf w (n - (i + 1)) (drop ((i + 1) * 48) s)
+next : (w n i : ℕ) (s : List ℕ) → i < n
+    → membersOf w (n - i) (drop (i * 48) s) ≡ decodeFor w (take 48 (drop (i * 48) s)) ∷ membersOf w (n - (i + 1)) (drop ((i + 1) * 48) s)
 unfolding membersOf
-next w n i s h b =
+next w n i s h =
     let e : n - i ≡ suc (n - (i + 1)) = omega arith in
     let f : i * 48 + 48 ≡ (i + 1) * 48 = omega arith in
-    rw (e, member-at w s (i * 48) (omega arith), drop-drop 48 (i * 48) s, f)
+    rw (e, drop-drop 48 (i * 48) s, f)
 
--- one turn: the member is taken, or it stops the composition
-module _ (w p n i : ℕ) (s : List ℕ) (l : Layout) (h : i < n) (b : n * 48 ≤ length s) where
-  pub turn-on : {m : Layout} → memberStep w p l (wordsFor w (wordsAt s (i * 48))) ≡ answered m
+-- one turn: the member, whose record is the part of the list from i·48 to 48 bytes behind that, is taken, or it stops the composition
+module _ (w p n i : ℕ) (s : List ℕ) (l : Layout) (h : i < n) where
+  pub turn-on : {m : Layout} → memberStep w p l (decodeFor w (take (i * 48 + 48 - i * 48) (drop (i * 48) s))) ≡ answered m
       → addMembers w p i l (membersOf w (n - i) (drop (i * 48) s)) ≡ addMembers w p (i + 1) m (membersOf w (n - (i + 1)) (drop ((i + 1) * 48) s))
   unfolding addMembers
-  turn-on e = let f : i + 1 ≡ suc i = omega arith in rw (next w n i s h b, e, f)
+  turn-on e =
+      let g : i * 48 + 48 - i * 48 ≡ 48 = omega arith in
+      let f : i + 1 ≡ suc i = omega arith in
+      rw (next w n i s h, ap (λ (k : ℕ). memberStep w p l (decodeFor w (take k (drop (i * 48) s)))) (sym g) ∙ e, f)
 
-  pub turn-off : {k : ℕ} → memberStep w p l (wordsFor w (wordsAt s (i * 48))) ≡ refused k
+  pub turn-off : {k : ℕ} → memberStep w p l (decodeFor w (take (i * 48 + 48 - i * 48) (drop (i * 48) s))) ≡ refused k
       → addMembers w p i l (membersOf w (n - i) (drop (i * 48) s)) ≡ refusedAt k i
   unfolding addMembers
-  turn-off e = rw (next w n i s h b, e)
+  turn-off e =
+      let g : i * 48 + 48 - i * 48 ≡ 48 = omega arith in
+      rw (next w n i s h, ap (λ (k : ℕ). memberStep w p l (decodeFor w (take k (drop (i * 48) s)))) (sym g) ∙ e)
 
 -- before the first member nothing is done, after the last all
 pub begun : (w p n : ℕ) (s : List ℕ) (l : Layout) → addMembers w p 0 l (membersOf w (n - 0) (drop (0 * 48) s)) ≡ addMembers w p 0 l (membersOf w n s)

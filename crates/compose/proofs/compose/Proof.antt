@@ -1,11 +1,11 @@
--- `record::compose` meets its contract. Assumes nothing.
+-- `compose::compose` meets its contract. Assumes nothing.
 use mathlib.Core.Path.{sym, _∙_}
 use Rattle.util.proofs.Tables.{told-by}
 use Rattle.layout.specs.View.{layoutSays}
-use Rattle.record.proofs.Compositions.{empty-sized, compose-on, compose-off, compose-length}
+use Rattle.compose.proofs.Compositions.{empty-sized, compose-on, compose-off, compose-length}
 use borrow.Author.Needs.{needs}
-use Rattle.record.proofs.compose.Statement.{statement}
-use Rattle.record.proofs.compose.Tie as tie
+use Rattle.compose.proofs.compose.Statement.{statement}
+use Rattle.compose.proofs.compose.Tie as tie
 
 new-zst-requires : tie.Need-new-zst-requires
 new-zst-requires c κs = search needs

@@ -1,15 +1,15 @@
--- `record::add_members` meets its contract. Assumes nothing.
+-- `compose::add_members` meets its contract. Assumes nothing.
 use mathlib.Core.Path.{_≡_, refl, sym, _∙_}
 use Prim.Native.Nat.{_-_, _*_, _/_, _≤_}
 use native.Mathlib.Omega.{arith}
 use lib.ListN.{length, drop}
 use Rattle.util.proofs.Tables.{told-by}
 use Rattle.layout.specs.View.{layoutOf, layoutSays}
-use Rattle.record.specs.Compose.{addMembers, membersOf}
-use Rattle.record.proofs.Compositions.{turn-on, turn-off, ended}
+use Rattle.compose.specs.Compose.{addMembers, membersOf}
+use Rattle.compose.proofs.Compositions.{turn-on, turn-off, ended}
 use borrow.Author.Needs.{needs}
-use Rattle.record.proofs.add_members.Statement.{statement}
-use Rattle.record.proofs.add_members.Tie as tie
+use Rattle.compose.proofs.add_members.Statement.{statement}
+use Rattle.compose.proofs.add_members.Tie as tie
 
 abbrev Inv-loop : tie.InvT-loop
 Inv-loop repr-packed members from count l₀ place₀ l place =
@@ -21,8 +21,20 @@ abbrev μ-loop : tie.MeasureT-loop
 loop-holds : tie.Need-loop-holds Inv-loop μ-loop
 loop-holds c = refl
 
-mul-member-step : tie.Need-mul-member-step Inv-loop μ-loop
-mul-member-step c = search needs
+mul-at : tie.Need-mul-at Inv-loop μ-loop
+mul-at c = search needs
+
+add-member-step : tie.Need-add-member-step Inv-loop μ-loop
+add-member-step c = search needs
+
+sub-member-step : tie.Need-sub-member-step Inv-loop μ-loop
+sub-member-step c = search needs
+
+part-member-step-start : tie.Need-part-member-step-start Inv-loop μ-loop
+part-member-step-start c = search needs
+
+part-member-step-end : tie.Need-part-member-step-end Inv-loop μ-loop
+part-member-step-end c = search needs
 
 member-step-requires : tie.Need-member-step-requires Inv-loop μ-loop
 member-step-requires c κs = search needs
@@ -35,10 +47,9 @@ enum-known-number c = search needs
 
 returns : tie.Need-returns Inv-loop μ-loop
 returns c =
-    let x = c .before .before .before .before .before .before .before .args in
+    let x = c .before .before .before .before .before .before .before .before .args in
     let s = x .members .now in
-    let b : length s / 48 * 48 ≤ length s = omega arith in
-    sym (turn-off 64 (x .repr-packed) (length s / 48) (c .before .before .before .before .before .loop .place) s (layoutOf (c .before .before .before .before .before .loop .l)) (c .before .before .before .before .loop-test .taken) b (told-by layoutSays (c .before .before .before .member-step .ensures) (c .before .number .given .1))) ∙ c .before .before .before .before .before .loop .inv
+    sym (turn-off 64 (x .repr-packed) (length s / 48) (c .before .before .before .before .before .before .loop .place) s (layoutOf (c .before .before .before .before .before .before .loop .l)) (c .before .before .before .before .before .loop-test .taken) (told-by layoutSays (c .before .before .before .member-step .ensures) (c .before .number .given .1))) ∙ c .before .before .before .before .before .before .loop .inv
 
 add-place : tie.Need-add-place Inv-loop μ-loop
 add-place c = search needs
@@ -48,10 +59,9 @@ loop-less c = search needs
 
 loop-again : tie.Need-loop-again Inv-loop μ-loop
 loop-again c =
-    let x = c .before .before .before .before .before .before .before .args in
+    let x = c .before .before .before .before .before .before .before .before .args in
     let s = x .members .now in
-    let b : length s / 48 * 48 ≤ length s = omega arith in
-    sym (turn-on 64 (x .repr-packed) (length s / 48) (c .before .before .before .before .before .loop .place) s (layoutOf (c .before .before .before .before .before .loop .l)) (c .before .before .before .before .loop-test .taken) b (told-by layoutSays (c .before .before .before .member-step .ensures) (c .before .next .given .1))) ∙ c .before .before .before .before .before .loop .inv
+    sym (turn-on 64 (x .repr-packed) (length s / 48) (c .before .before .before .before .before .before .loop .place) s (layoutOf (c .before .before .before .before .before .before .loop .l)) (c .before .before .before .before .before .loop-test .taken) (told-by layoutSays (c .before .before .before .member-step .ensures) (c .before .next .given .1))) ∙ c .before .before .before .before .before .before .loop .inv
 
 returns-2 : tie.Need-returns-2 Inv-loop μ-loop
 returns-2 c =
@@ -67,7 +77,11 @@ add-members-spec =
     Inv-loop
     μ-loop
     loop-holds
-    mul-member-step
+    mul-at
+    add-member-step
+    sub-member-step
+    part-member-step-start
+    part-member-step-end
     member-step-requires
     enum-known-next
     enum-known-number

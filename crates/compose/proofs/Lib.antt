@@ -1,0 +1,3 @@
+-- Laws of compositions, over any width.
+pub mod Compositions
+pub mod At32

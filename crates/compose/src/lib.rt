@@ -1,0 +1,165 @@
+// The composition of a list of member records, after zerocopy's for_repr_c_struct.
+ghost use mathlib.Core.Path.{_≡_};
+ghost use Prim.Native.Nat.{_/_};
+ghost use lib.ListN.{length};
+ghost use Rattle.layout.specs.View.{layoutOf, sizedOf, layoutSays};
+ghost use Rattle.padding.specs.Pad.{padFor};
+ghost use Rattle.record.specs.Record.{decodeFor};
+ghost use Rattle.compose.specs.Compose.{composed, andThen, memberStep, addMembers, membersOf, membersFrom, composeFor, structFor};
+ghost use Rattle.compose.specs.View.{composeSays};
+use layout::DstLayout;
+use layout::LayoutAnswer;
+use layout::SizeInfo;
+use layout::SizedLayout;
+use record::RECORD_BYTES;
+use util::refusal;
+
+// A composed layout, or the number of the refusal and its place.
+pub enum ComposeAnswer {
+    Layout(DstLayout),
+    Refused { number: u64, place: u64 },
+}
+
+// The layout with one member more, whose record is given.
+fn member_step(l: DstLayout, repr_packed: u64, member: &[u8]) -> LayoutAnswer
+    ensures { λ r. ⌜ layoutSays r ≡ memberStep 64 «repr_packed» (layoutOf l) (decodeFor 64 (now (member .entry))) ⌝ }
+{
+    match record::decode(member) {
+        LayoutAnswer::Layout(field) => l.extend(field, repr_packed),
+        LayoutAnswer::Refused(number) => LayoutAnswer::Refused(number),
+    }
+}
+
+// The same of a layout with a size.
+fn sized_step(own: SizedLayout, repr_packed: u64, member: &[u8]) -> LayoutAnswer
+    ensures { λ r. ⌜ layoutSays r ≡ memberStep 64 «repr_packed» (sizedOf own) (decodeFor 64 (now (member .entry))) ⌝ }
+{
+    match record::decode(member) {
+        LayoutAnswer::Layout(field) => layout::extend_sized(own, field, repr_packed),
+        LayoutAnswer::Refused(number) => LayoutAnswer::Refused(number),
+    }
+}
+
+// Each member in turn from the one at from on, at the end of the layout. This goes on behind a trailing member, where the next
+// one is refused.
+fn add_members(start: DstLayout, repr_packed: u64, members: &[u8], from: usize) -> ComposeAnswer
+    ensures { λ r. ⌜
+        composeSays r ≡ addMembers 64 «repr_packed» from (layoutOf start) (membersFrom 64 from (now (members .entry)))
+        ⌝ }
+{
+    let count = members.len() / RECORD_BYTES;
+    let mut l = start;
+    let mut place = from;
+    while place < count {
+        let at = place * RECORD_BYTES;
+        match member_step(l, repr_packed, &members[at..at + RECORD_BYTES]) {
+            LayoutAnswer::Layout(next) => {
+                l = next;
+            }
+            LayoutAnswer::Refused(number) => {
+                return ComposeAnswer::Refused {
+                    number,
+                    place: place as u64,
+                };
+            }
+        }
+        place += 1;
+    }
+    ComposeAnswer::Layout(l)
+}
+
+// Each member in turn at the end of a layout with a size. A trailing member leaves this loop, which so carries three words and
+// no whole layout.
+fn add_to_sized(start: SizedLayout, repr_packed: u64, members: &[u8]) -> ComposeAnswer
+    ensures { λ r. ⌜
+        composeSays r ≡ addMembers 64 «repr_packed» 0 (sizedOf start)
+        (membersOf 64 (length (now (members .entry)) / 48) (now (members .entry)))
+        ⌝ }
+{
+    let count = members.len() / RECORD_BYTES;
+    let mut own = start;
+    let mut i = 0;
+    while i < count {
+        let at = i * RECORD_BYTES;
+        match sized_step(own, repr_packed, &members[at..at + RECORD_BYTES]) {
+            LayoutAnswer::Layout(next) => {
+                let size_info = next.size_info;
+                match size_info {
+                    SizeInfo::Sized { size } => {
+                        own = SizedLayout {
+                            align: next.align,
+                            size,
+                            statically_shallow_unpadded: next.statically_shallow_unpadded,
+                        };
+                    }
+                    SizeInfo::SliceDst(_) => {
+                        return add_members(next, repr_packed, members, i + 1);
+                    }
+                }
+            }
+            LayoutAnswer::Refused(number) => {
+                return ComposeAnswer::Refused {
+                    number,
+                    place: i as u64,
+                };
+            }
+        }
+        i += 1;
+    }
+    ComposeAnswer::Layout(DstLayout {
+        align: own.align,
+        size_info: SizeInfo::Sized { size: own.size },
+        statically_shallow_unpadded: own.statically_shallow_unpadded,
+    })
+}
+
+// The members of a list one after the other, without padding after the last.
+pub fn compose(repr_align: u64, repr_packed: u64, members: &[u8]) -> ComposeAnswer
+    ensures { λ r. ⌜ composeSays r ≡ composeFor 64 «repr_align» «repr_packed» (now (members .entry)) ⌝ }
+{
+    if members.len() % RECORD_BYTES == 0 {
+        match make::new_zst(repr_align) {
+            LayoutAnswer::Layout(empty) => add_to_sized(
+                SizedLayout {
+                    align: empty.align,
+                    size: 0,
+                    statically_shallow_unpadded: true,
+                },
+                repr_packed,
+                members,
+            ),
+            LayoutAnswer::Refused(number) => ComposeAnswer::Refused { number, place: 0 },
+        }
+    } else {
+        ComposeAnswer::Refused {
+            number: refusal::RECORD_LENGTH,
+            place: 0,
+        }
+    }
+}
+
+// The padding after the last of count members; a refusal of it is placed at their count.
+fn pad_composed(l: DstLayout, count: u64) -> ComposeAnswer
+    ensures { λ r. ⌜ composeSays r ≡ andThen (padFor 64 (layoutOf l)) count composed ⌝ }
+{
+    match padding::pad_to_align(l) {
+        LayoutAnswer::Layout(padded) => ComposeAnswer::Layout(padded),
+        LayoutAnswer::Refused(number) => ComposeAnswer::Refused {
+            number,
+            place: count,
+        },
+    }
+}
+
+// The layout of a repr(C) struct with these members.
+pub fn for_repr_c_struct(repr_align: u64, repr_packed: u64, members: &[u8]) -> ComposeAnswer
+    ensures { λ r. ⌜ composeSays r ≡ structFor 64 «repr_align» «repr_packed» (now (members .entry)) ⌝ }
+{
+    match compose(repr_align, repr_packed, members) {
+        ComposeAnswer::Layout(l) => {
+            let count = members.len() / RECORD_BYTES;
+            pad_composed(l, count as u64)
+        }
+        ComposeAnswer::Refused { number, place } => ComposeAnswer::Refused { number, place },
+    }
+}
