@@ -8,7 +8,7 @@ use Rattle.trailing.specs.Size.{Trailing, A, p, sizeAt}
 use Rattle.trailing.specs.Count.{GreatestBytes, bytesWithin, GreatestCount, countWithin}
 use Rattle.layout.specs.Layout.{Info, Layout, sizeIn, noWord, layoutCauses}
 use Rattle.padding.specs.Pad.{Padded}
-use Rattle.cast.specs.Cast.{Side, suffix, Greatest, countIn, elemZero, tooSmall, bytesCauses, castCauses, Grant, castFor, Granted, prefix, grantOf}
+use Rattle.cast.specs.Cast.{Side, suffix, Greatest, countIn, elemZero, tooSmall, bytesCauses, castCauses, Grant, castFor, GrantMeans, prefix, greatestGrant}
 use Rattle.cast.specs.Exact.{hasExact, ExactCount, ExactIn, noExact, exactCauses, exactFor}
 use mathlib.Core.Bool.{false}
 use mathlib.Core.List.{[], _∷_}
@@ -47,10 +47,10 @@ bytes-decided = Grants.bytes-decided 32
 pub cast-decided : (l : Layout) (side : Side) (addr len : ℕ) → l .align < 2 ^ 32 → 0 < 32 → Decided (castCauses 32 l side addr len)
 cast-decided = Grants.cast-decided 32
 
-pub cast-meets : (l : Layout) (side : Side) (addr len : ℕ) → l .align < 2 ^ 32 → 0 < 32 → Meets (castCauses 32 l side addr len) (Granted 32 (l .info) side len) (castFor 32 l side addr len)
+pub cast-meets : (l : Layout) (side : Side) (addr len : ℕ) → l .align < 2 ^ 32 → 0 < 32 → Meets (castCauses 32 l side addr len) (GrantMeans 32 (l .info) side len) (castFor 32 l side addr len)
 cast-meets = Grants.cast-meets 32
 
-pub cast-accepted : (l : Layout) (side : Side) (addr len : ℕ) → l .align < 2 ^ 32 → None (layoutCauses 32 l) → castFor 32 l side addr len ≡ unless (bytesCauses 32 l side addr len) (grantOf 32 (l .info) side len)
+pub cast-accepted : (l : Layout) (side : Side) (addr len : ℕ) → l .align < 2 ^ 32 → None (layoutCauses 32 l) → castFor 32 l side addr len ≡ unless (bytesCauses 32 l side addr len) (greatestGrant 32 (l .info) side len)
 cast-accepted = Grants.cast-accepted 32
 
 pub grant-fits : {a q : ℕ} (t : Trailing) (L m : ℕ) → IsWord (t .word) a q → t .word < 2 ^ 32 → GreatestBytes (t .base) (A 32 t) (p 32 t) L m → (t .base ≤ L) × ((down (m % t .elem) a ≤ down (L - t .base) a) × (t .base + (down (L - t .base) a - down (m % t .elem) a) ≤ L))
@@ -86,10 +86,10 @@ exact-sound = Exact.exact-sound 32
 pub exact-complete : (l : Layout) (s n : ℕ) → l .align < 2 ^ 32 → 0 < 32 → None (layoutCauses 32 l) → ExactIn 32 (l .info) s n → exactFor 32 l s ≡ answered n
 exact-complete = Exact.exact-complete 32
 
-pub fit-told : {n s : ℕ} (i : Info) (L : ℕ) (r : CastAnswer) → castSays r ≡ unless (tooSmall 32 i L ∷ []) (grantOf 32 i prefix L) → r ≡ Answer.Granted n s → (n ≡ countIn 32 i L) × (s ≡ sizeIn 32 i (countIn 32 i L))
+pub fit-told : {n s : ℕ} (i : Info) (L : ℕ) (r : CastAnswer) → castSays r ≡ unless (tooSmall 32 i L ∷ []) (greatestGrant 32 i prefix L) → r ≡ Answer.Granted n s → (n ≡ countIn 32 i L) × (s ≡ sizeIn 32 i (countIn 32 i L))
 fit-told {n} {s} = Told.fit-told {n = n} {s = s} 32
 
-pub fit-within : {n s : ℕ} (i : Info) (L : ℕ) (r : CastAnswer) → castSays r ≡ unless (tooSmall 32 i L ∷ []) (grantOf 32 i prefix L) → r ≡ Answer.Granted n s → 0 < 32 → (noWord i .means → ⊥) → (elemZero i .means → ⊥) → s ≤ L
+pub fit-within : {n s : ℕ} (i : Info) (L : ℕ) (r : CastAnswer) → castSays r ≡ unless (tooSmall 32 i L ∷ []) (greatestGrant 32 i prefix L) → r ≡ Answer.Granted n s → 0 < 32 → (noWord i .means → ⊥) → (elemZero i .means → ⊥) → s ≤ L
 fit-within {n} {s} = Told.fit-within {n = n} {s = s} 32
 
 pub exact-answered : {n z : ℕ} (l : Layout) (s : ℕ) (r : CastAnswer) → IsTrailing (l .info) → castSays r ≡ castFor 32 l prefix 0 s → r ≡ Answer.Granted n z → z ≡ s → answered n ≡ unless (noExact 32 l s ∷ []) (countIn 32 (l .info) s)

@@ -7,15 +7,15 @@ use Prim.Native.Nat.{ℕ, _+_, _-_, _*_, _%_, _^_, _≤_, _<_}
 use native.Mathlib.Nat.{zero-mod, mul-le-mul-right}
 use native.Mathlib.Omega.{arith}
 use Rattle.util.specs.Width.{M}
-use Rattle.util.specs.Refusal.{Outcome, answered, refused, Tells, holds, fails, None, First, Meets, grants, refuses, Decided}
-use Rattle.util.proofs.Refusals.{known, granted, tells-eq, tells-le, tells-not, tells-as, meets, clear}
+use Rattle.util.specs.Refusal.{Outcome, answered, refused, Tells, holds, fails, None, First, Meets, answers, refuses, Decided}
+use Rattle.util.proofs.Refusals.{known, answered-means, tells-eq, tells-le, tells-not, tells-as, meets, clear}
 use Rattle.util.proofs.Tables.{none-both, both-none, decided-both}
 use Rattle.trailing.specs.Size.{Trailing, A, p, sizeWith, sizeAt}
 use Rattle.trailing.specs.Count.{GreatestCount, countWithin}
 use Rattle.trailing.proofs.Sizes.{size-mono, greatest-count, one-count}
 use Rattle.layout.specs.Layout.{Info, fixed, trailing, Layout, noWord, layoutCauses}
 use Rattle.layout.proofs.Layouts.{layout-decided}
-use Rattle.cast.specs.Cast.{prefix, castCauses, Grant, castFor, Granted, countIn}
+use Rattle.cast.specs.Cast.{prefix, castCauses, Grant, castFor, GrantMeans, countIn}
 use Rattle.cast.specs.Exact.{splitIs, hasExact, ExactCount, ExactIn, noExact, exactCauses, exactFor}
 use Rattle.cast.proofs.Grants.{align-pos, cast-meets}
 
@@ -39,9 +39,9 @@ exact-count {w} {t} {s} {n} h x =
 -- a prefix cast at address 0 over s has the split s exactly where there is an exact count of s
 split-exact : {o : Outcome Grant} (w a : ℕ) (k : Bool) (t : Trailing) (s : ℕ) → 0 < A w t
     → let l : Layout = record { align = a; info = trailing t; mark = k } in
-    None (layoutCauses w l) → Meets (castCauses w l prefix 0 s) (Granted w (trailing t) prefix s) o
+    None (layoutCauses w l) → Meets (castCauses w l prefix 0 s) (GrantMeans w (trailing t) prefix s) o
     → Tells ((n : ℕ) × ExactCount w t s n) (splitIs s o)
-split-exact w a k t s h ok (grants {x = g} n q) =
+split-exact w a k t s h ok (answers {x = g} n q) =
     tells-as
     (λ e. (
       g .count,
@@ -99,7 +99,7 @@ exact-meets w l s h f =
 
 -- an answer is an exact count, and each exact count is answered
 pub exact-sound : (w : ℕ) (l : Layout) (s n : ℕ) → l .align < 2 ^ w → 0 < w → exactFor w l s ≡ answered n → ExactIn w (l .info) s n
-exact-sound w l s n h f e = granted (subst (λ (o : Outcome ℕ). Meets (exactCauses w l s) (ExactIn w (l .info) s) o) e (exact-meets w l s h f)) .1
+exact-sound w l s n h f e = answered-means (subst (λ (o : Outcome ℕ). Meets (exactCauses w l s) (ExactIn w (l .info) s) o) e (exact-meets w l s h f)) .1
 
 pub exact-complete : (w : ℕ) (l : Layout) (s n : ℕ) → l .align < 2 ^ w → 0 < w → None (layoutCauses w l) → ExactIn w (l .info) s n → exactFor w l s ≡ answered n
 unfolding exactFor

@@ -9,7 +9,7 @@ use native.Mathlib.Omega.{arith}
 use Rattle.util.specs.Power.{PowerOfTwo}
 use Rattle.util.specs.Round.{up, down}
 use Rattle.util.specs.Refusal.{unless, Outcome, answered, Tells, fails, None, Meets, Decided}
-use Rattle.util.proofs.Refusals.{known, granted, yes, told-true, tells-eq, tells-le, tells-lt, tells-not, tells-as, meets, clear}
+use Rattle.util.proofs.Refusals.{known, answered-means, yes, told-true, tells-eq, tells-le, tells-lt, tells-not, tells-as, meets, clear}
 use Rattle.util.proofs.Tables.{none-both, decided-both, accepted-first}
 use Rattle.util.proofs.Rounding.{down-multiple, down-le, difference-multiple, up-less, up-multiple}
 use Rattle.util.proofs.Powers.{positive}
@@ -20,9 +20,9 @@ use Rattle.trailing.specs.Size.{Trailing, A, p, sizeWith, sizeAt}
 use Rattle.trailing.specs.Count.{GreatestBytes, bytesWithin, GreatestCount, countWithin}
 use Rattle.trailing.proofs.Sizes.{size-within, size-mono, size-ge, greatest-bytes, greatest-count}
 use Rattle.layout.specs.Layout.{Info, fixed, trailing, Layout, IsCount, sizeIn, noWord, layoutCauses}
-use Rattle.padding.specs.Pad.{SameShape, Padded}
+use Rattle.padding.specs.Pad.{PaddedInfo, Padded}
 use Rattle.layout.proofs.Layouts.{layout-decided}
-use Rattle.cast.specs.Cast.{Side, prefix, suffix, testedAddress, splitAt, Greatest, countIn, elemZero, addressPasses, notAligned, tooSmall, bytesCauses, castCauses, Grant, grantOf, castFor, Granted}
+use Rattle.cast.specs.Cast.{Side, prefix, suffix, testedAddress, splitAt, Greatest, countIn, elemZero, addressPasses, notAligned, tooSmall, bytesCauses, castCauses, Grant, greatestGrant, castFor, GrantMeans}
 
 -- the alignment of a rounding word that is not 0
 pub align-pos : (w : ℕ) (t : Trailing) → 0 < w → (t .word ≡ 0 → ⊥) → 0 < A w t
@@ -100,10 +100,10 @@ cast-decided w l side addr len h f =
 
 -- what a cast means: granted exactly when nothing in the table refuses it, and then the greatest count
 pub cast-meets : (w : ℕ) (l : Layout) (side : Side) (addr len : ℕ) → l .align < 2 ^ w → 0 < w
-    → Meets (castCauses w l side addr len) (Granted w (l .info) side len) (castFor w l side addr len)
+    → Meets (castCauses w l side addr len) (GrantMeans w (l .info) side len) (castFor w l side addr len)
 unfolding castFor
 cast-meets w l side addr len h f =
-    meets (castCauses w l side addr len) (grantOf w (l .info) side len) (cast-decided w l side addr len h f)
+    meets (castCauses w l side addr len) (greatestGrant w (l .info) side len) (cast-decided w l side addr len h f)
     (λ n.
     let m = none-both (layoutCauses w l) (bytesCauses w l side addr len) n in
     let s : sizeIn w (l .info) 0 ≤ len = known (tells-le (sizeIn w (l .info) 0) len) (λ g. m .1 .1 .1 .1 .0 (least w (l .info) len f (m .0 .1 .0) g)) in
@@ -114,10 +114,10 @@ cast-meets w l side addr len h f =
 
 -- of a layout that is accepted only the bytes are left to refuse
 pub cast-accepted : (w : ℕ) (l : Layout) (side : Side) (addr len : ℕ) → l .align < 2 ^ w → None (layoutCauses w l)
-    → castFor w l side addr len ≡ unless (bytesCauses w l side addr len) (grantOf w (l .info) side len)
+    → castFor w l side addr len ≡ unless (bytesCauses w l side addr len) (greatestGrant w (l .info) side len)
 unfolding castFor
 cast-accepted w l side addr len h n =
-    accepted-first {S = ℕ} (layoutCauses w l) (bytesCauses w l side addr len) 0 (grantOf w (l .info) side len) (clear (layoutCauses w l) (layout-decided w l h) n)
+    accepted-first {S = ℕ} (layoutCauses w l) (bytesCauses w l side addr len) 0 (greatestGrant w (l .info) side len) (clear (layoutCauses w l) (layout-decided w l h) n)
 
 -- the differences and the sum that the code makes of it do not wrap
 pub grant-fits : {a q : ℕ} (w : ℕ) (t : Trailing) (L m : ℕ) → IsWord (t .word) a q → t .word < 2 ^ w → GreatestBytes (t .base) (A w t) (p w t) L m
@@ -131,9 +131,9 @@ grant-fits {a} {q} w t L m x h g =
 
 -- the sizes of a padded layout are multiples of its alignment
 padded-multiple : (w : ℕ) (l m : Layout) (n : ℕ) → Padded w l m → IsCount (m .info) n → sizeIn w (m .info) n % l .align ≡ 0
-padded-multiple w l m n x c = ap (λ (z : ℕ). z % l .align) (x .sizes n (shape-count (l .info) (m .info) n (x .shape) c)) ∙ up-multiple (sizeIn w (l .info) n) (l .align)
+padded-multiple w l m n x c = ap (λ (z : ℕ). z % l .align) (x .sizes n (shape-count (l .info) (m .info) n (x .info) c)) ∙ up-multiple (sizeIn w (l .info) n) (l .align)
   where
-    shape-count : (i j : Info) (n : ℕ) → SameShape i j → IsCount j n → IsCount i n
+    shape-count : (i j : Info) (n : ℕ) → PaddedInfo w (l .align) i j → IsCount j n → IsCount i n
     shape-count (fixed s) (fixed r) n h c = c
     shape-count (fixed s) (trailing t) n h c = absurd h
     shape-count (trailing t) (fixed r) n h c = absurd h
@@ -142,7 +142,7 @@ padded-multiple w l m n x c = ap (λ (z : ℕ). z % l .align) (x .sizes n (shape
 -- so a suffix that is granted of one starts aligned
 pub suffix-aligned : (w : ℕ) (l m : Layout) (addr len : ℕ) (g : Grant) → m .align < 2 ^ w → 0 < w → Padded w l m → castFor w m suffix addr len ≡ answered g → (addr + g .split) % m .align ≡ 0
 suffix-aligned w l m addr len g h pos x e =
-    let q = granted (subst (λ (o : Outcome Grant). Meets (castCauses w m suffix addr len) (Granted w (m .info) suffix len) o) e (cast-meets w m suffix addr len h pos)) in
+    let q = answered-means (subst (λ (o : Outcome Grant). Meets (castCauses w m suffix addr len) (GrantMeans w (m .info) suffix len) o) e (cast-meets w m suffix addr len h pos)) in
     let a = m .align in
     let ok = none-both (layoutCauses w m) (bytesCauses w m suffix addr len) (q .0) in
     let t : (addr + len) % a ≡ 0 = known (tells-eq ((addr + len) % a) 0) (ok .1 .1 .1 .0) in

@@ -2,4 +2,5 @@
 pub mod Grants
 pub mod Exact
 pub mod Told
+pub mod Only
 pub mod At32

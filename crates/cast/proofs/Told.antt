@@ -10,7 +10,7 @@ use Rattle.util.proofs.Refusals.{known, tells-le, yes, told-true, tells-lt}
 use Rattle.util.proofs.Tables.{told-by, answer-is, accepted-none}
 use Rattle.layout.specs.Layout.{Info, fixed, trailing, Layout, sizeIn, noWord}
 use Rattle.layout.specs.Extend.{IsTrailing, isTrailing}
-use Rattle.cast.specs.Cast.{prefix, countIn, elemZero, tooSmall, castCauses, Grant, grantOf, castFor}
+use Rattle.cast.specs.Cast.{prefix, countIn, elemZero, tooSmall, castCauses, Grant, greatestGrant, castFor}
 use Rattle.cast.specs.Exact.{splitIs, noExact}
 use Rattle.cast.specs.View.{castSays}
 use Rattle.cast.specs.declared.CastAnswer.{CastAnswer}
@@ -18,18 +18,18 @@ use Rattle.cast.specs.declared.CastAnswer.the-variants as Answer
 use Rattle.cast.proofs.Grants.{tells-small, greatest-in}
 
 -- a fit in front: the count and its size
-pub fit-told : {n s : ℕ} (w : ℕ) (i : Info) (L : ℕ) (r : CastAnswer) → castSays r ≡ unless (tooSmall w i L ∷ []) (grantOf w i prefix L) → r ≡ Answer.Granted n s
+pub fit-told : {n s : ℕ} (w : ℕ) (i : Info) (L : ℕ) (r : CastAnswer) → castSays r ≡ unless (tooSmall w i L ∷ []) (greatestGrant w i prefix L) → r ≡ Answer.Granted n s
     → (n ≡ countIn w i L) × (s ≡ sizeIn w i (countIn w i L))
 fit-told {n} {s} w i L r e g =
-    let z = answer-is (tooSmall w i L ∷ []) (grantOf w i prefix L) (told-by castSays e g) in
+    let z = answer-is (tooSmall w i L ∷ []) (greatestGrant w i prefix L) (told-by castSays e g) in
     (ap (λ (x : Grant). x .count) z, ap (λ (x : Grant). x .split) z)
 
 -- which is at most the length
-pub fit-within : {n s : ℕ} (w : ℕ) (i : Info) (L : ℕ) (r : CastAnswer) → castSays r ≡ unless (tooSmall w i L ∷ []) (grantOf w i prefix L) → r ≡ Answer.Granted n s
+pub fit-within : {n s : ℕ} (w : ℕ) (i : Info) (L : ℕ) (r : CastAnswer) → castSays r ≡ unless (tooSmall w i L ∷ []) (greatestGrant w i prefix L) → r ≡ Answer.Granted n s
     → 0 < w → (noWord i .means → ⊥) → (elemZero i .means → ⊥) → s ≤ L
 fit-within {n} {s} w i L r e g h nw ne =
     let d = tells-small w i L h nw in
-    let m = accepted-none (tooSmall w i L ∷ []) (grantOf w i prefix L) (d, λ _. tt) (told-by castSays e g) in
+    let m = accepted-none (tooSmall w i L ∷ []) (greatestGrant w i prefix L) (d, λ _. tt) (told-by castSays e g) in
     let l : sizeIn w i 0 ≤ L = known (tells-le (sizeIn w i 0) L) (λ f. m .0 (yes d (told-true (tells-lt L (sizeIn w i 0)) (omega (arith, f))))) in
     omega (arith, fit-told w i L r e g .1, greatest-in w i L h nw ne l .fits)
 
@@ -51,7 +51,7 @@ pub exact-answered : {n z : ℕ} (w : ℕ) (l : Layout) (s : ℕ) (r : CastAnswe
 unfolding unless castFor
 exact-answered {n} {z} w l s r x e g q =
     let o = told-by castSays e g in
-    let c = answer-is (castCauses w l prefix 0 s) (grantOf w (l .info) prefix s) o in
+    let c = answer-is (castCauses w l prefix 0 s) (greatestGrant w (l .info) prefix s) o in
     simp (is-trailing (l .info) x, ap (splitIs s) o, eq-eqb z s q) (ap (λ (y : Grant). answered (y .count)) c)
 
 pub exact-other : {n z : ℕ} (w : ℕ) (l : Layout) (s : ℕ) (r : CastAnswer) → castSays r ≡ castFor w l prefix 0 s → r ≡ Answer.Granted n z → (z ≡ s → ⊥)

@@ -76,14 +76,14 @@ pub record Grant : Type 0 where
   pub count : ℕ
   pub split : ℕ
 
-abbrev pub grantOf : ℕ → Info → Side → ℕ → Grant
-grantOf w i side len = record { count = countIn w i len; split = splitAt side len (sizeIn w i (countIn w i len)) }
+abbrev pub greatestGrant : ℕ → Info → Side → ℕ → Grant
+greatestGrant w i side len = record { count = countIn w i len; split = splitAt side len (sizeIn w i (countIn w i len)) }
 
 -- `validate_cast_and_convert_metadata`: granted exactly when nothing in the table refuses it
 unfoldable pub castFor : ℕ → Layout → Side → ℕ → ℕ → Outcome Grant
-castFor w l side addr len = unless (castCauses w l side addr len) (grantOf w (l .info) side len)
+castFor w l side addr len = unless (castCauses w l side addr len) (greatestGrant w (l .info) side len)
 
 -- what a grant means
-pub record Granted (w : ℕ) (i : Info) (side : Side) (len : ℕ) (g : Grant) : Type 0 where
+pub record GrantMeans (w : ℕ) (i : Info) (side : Side) (len : ℕ) (g : Grant) : Type 0 where
   pub greatest : Greatest w i len (g .count)
   pub split : g .split ≡ splitAt side len (sizeIn w i (g .count))

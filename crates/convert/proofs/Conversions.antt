@@ -18,8 +18,8 @@ use Rattle.layout.specs.Layout.{Info, fixed, trailing, Layout, layoutCauses}
 use Rattle.layout.proofs.Layouts.{layout-decided}
 use Rattle.cast.specs.Exact.{ExactCount, exactFor}
 use Rattle.cast.proofs.Exact.{exact-sound, exact-complete}
-use Rattle.convert.specs.Match.{Comparison, Matches, matches}
-use Rattle.convert.specs.Convert.{Params, sizedToSized, sizedToUnsized, unsizedToUnsized, NoConversion, sourceAlignLower, fixedSizesDiffer, targetElemZero, sourceElemSmaller, noWholeMultiple, noExactCount, noShift, Conversion, accepted, none, Shift, by, missing, byOffset, answeredBy, bySize, matching, orElse, shiftOf, withShift, withCount, trailingRules, kindRules, conversionOf, FirstWay, SecondWay, IsShift, IsMultiple, KindsConvert, fixedToFixed, fixedToTrailing, trailingToTrailing, Converts, isNone, noConversion, computeCauses, paramsOf, computeFor, converted, metadataCauses, metadataFor}
+use Rattle.convert.specs.Match.{Comparison, Matches, matchTest}
+use Rattle.convert.specs.Convert.{Params, sizedToSized, sizedToUnsized, unsizedToUnsized, NoConversion, sourceAlignLower, fixedSizesDiffer, targetElemZero, sourceElemSmaller, noWholeMultiple, noExactCount, noShift, Conversion, accepted, none, Shift, by, missing, byOffset, answeredBy, bySize, matchedShift, orElse, shiftOf, withShift, withCount, trailingRules, kindRules, conversionOf, FirstWay, SecondWay, IsShift, IsMultiple, KindsConvert, fixedToFixed, fixedToTrailing, trailingToTrailing, Converts, isNone, noConversion, computeCauses, paramsOf, computeFor, converted, metadataCauses, metadataFor}
 use Rattle.convert.proofs.Matching.{tells-matches}
 
 -- a shift is one number, and not missing
@@ -52,7 +52,7 @@ offset-complete w s t d h e =
     simp (told-true (offsets-tell w s t) (omega arith, m)) (ap by (same-multiple (t .elem) (D / t .elem) d (omega arith) (omega arith)))
 
 -- a shift that matches
-matching-sound : (w : ℕ) (same : Comparison) (s t : Trailing) (sh : Shift) (d : ℕ) → matching w same s t sh ≡ by d → (sh ≡ by d) × Matches w same s t d
+matching-sound : (w : ℕ) (same : Comparison) (s t : Trailing) (sh : Shift) (d : ℕ) → matchedShift w same s t sh ≡ by d → (sh ≡ by d) × Matches w same s t d
 matching-sound w same s t missing d e = absurd (by-not e)
 matching-sound w same s t (by c) d e = go (tells-matches w same s t c) e
   where
@@ -60,8 +60,8 @@ matching-sound w same s t (by c) d e = go (tells-matches w same s t c) e
     go (holds m) e = (e, subst (Matches w same s t) (by-is e) m)
     go (fails n) e = absurd (by-not e)
 
-matching-complete : (w : ℕ) (same : Comparison) (s t : Trailing) (sh : Shift) (d : ℕ) → sh ≡ by d → Matches w same s t d → matching w same s t sh ≡ by d
-matching-complete w same s t sh d e m = ap (matching w same s t) e ∙ simp (told-true (tells-matches w same s t d) m)
+matching-complete : (w : ℕ) (same : Comparison) (s t : Trailing) (sh : Shift) (d : ℕ) → sh ≡ by d → Matches w same s t d → matchedShift w same s t sh ≡ by d
+matching-complete w same s t sh d e m = ap (matchedShift w same s t) e ∙ simp (told-true (tells-matches w same s t d) m)
 
 -- a trailing target
 abbrev slice : ℕ → Bool → Trailing → Layout
@@ -88,9 +88,9 @@ size-complete w a k s t d h pos ok l x =
 shift-sound : (w a : ℕ) (k : Bool) (same : Comparison) (s t : Trailing) (d : ℕ) → a < 2 ^ w → 0 < w → 0 < t .elem
     → shiftOf w same s (slice a k t) t ≡ by d → IsShift w same s t d
 unfolding shiftOf
-shift-sound w a k same s t d h pos pe e = go (matching w same s t (byOffset w s t)) refl e
+shift-sound w a k same s t d h pos pe e = go (matchedShift w same s t (byOffset w s t)) refl e
   where
-    go : (x : Shift) → matching w same s t (byOffset w s t) ≡ x → orElse x (matching w same s t (bySize w s (slice a k t))) ≡ by d → IsShift w same s t d
+    go : (x : Shift) → matchedShift w same s t (byOffset w s t) ≡ x → orElse x (matchedShift w same s t (bySize w s (slice a k t))) ≡ by d → IsShift w same s t d
     go (by c) i e =
         let m = matching-sound w same s t (byOffset w s t) d (i ∙ e) in
         inl (record { offsets = offset-sound w s t d (m .0); match = m .1 })
@@ -108,13 +108,13 @@ shift-complete : (w a : ℕ) (k : Bool) (same : Comparison) (s t : Trailing) (d 
     → IsShift w same s t d → shiftOf w same s (slice a k t) t ≡ by d
 unfolding shiftOf
 shift-complete w a k same s t d h pos ok pe (inl f) =
-    ap (λ (x : Shift). orElse x (matching w same s t (bySize w s (slice a k t)))) (matching-complete w same s t (byOffset w s t) d (offset-complete w s t d pe (f .offsets)) (f .match))
-shift-complete w a k same s t d h pos ok pe (inr f) = go (matching w same s t (byOffset w s t)) refl
+    ap (λ (x : Shift). orElse x (matchedShift w same s t (bySize w s (slice a k t)))) (matching-complete w same s t (byOffset w s t) d (offset-complete w s t d pe (f .offsets)) (f .match))
+shift-complete w a k same s t d h pos ok pe (inr f) = go (matchedShift w same s t (byOffset w s t)) refl
   where
-    go : (x : Shift) → matching w same s t (byOffset w s t) ≡ x → orElse (matching w same s t (byOffset w s t)) (matching w same s t (bySize w s (slice a k t))) ≡ by d
+    go : (x : Shift) → matchedShift w same s t (byOffset w s t) ≡ x → orElse (matchedShift w same s t (byOffset w s t)) (matchedShift w same s t (bySize w s (slice a k t))) ≡ by d
     go (by c) i = let m = matching-sound w same s t (byOffset w s t) c i in absurd (f .notFirst c (record { offsets = offset-sound w s t c (m .0); match = m .1 }))
     go missing i =
-        ap (λ (x : Shift). orElse x (matching w same s t (bySize w s (slice a k t)))) i
+        ap (λ (x : Shift). orElse x (matchedShift w same s t (bySize w s (slice a k t)))) i
         ∙ matching-complete w same s t (bySize w s (slice a k t)) d (size-complete w a k s t d h pos ok (f .start) (f .exact)) (f .match)
 
 -- an accepted conversion is one

@@ -7,26 +7,22 @@ use lib.Dec.{leb}
 use native.Mathlib.Omega.{arith}
 use Rattle.util.specs.Width.{M}
 use Rattle.util.specs.Refusal.{Tells, holds, fails, Meets}
-use Rattle.util.proofs.Refusals.{yes, tells-eq, tells-le, tells-and, tells-as, meets}
+use Rattle.util.proofs.Refusals.{yes, tells-true, tells-eq, tells-le, tells-and, tells-as, meets}
 use Rattle.rounding.proofs.Words.{not-zero}
 use Rattle.trailing.specs.Size.{Trailing, A, p, sizeWith, sizeAt, HasSize, sizeOffset}
 use Rattle.trailing.specs.Sequence.{EqualSizes, SameSequence, sameSequence}
 use Rattle.trailing.specs.Calls.{advanced, sameCauses}
 use Rattle.trailing.proofs.Sequences.{tells-same, same-sizes}
 use Rattle.trailing.proofs.Calls.{advanced-word, advanced-word-lt, advanced-sizes}
-use Rattle.convert.specs.Match.{Comparison, Sound, shifted, Matches, matches, matchFor, MatchAnswer}
+use Rattle.convert.specs.Match.{Comparison, Sound, shifted, Matches, matchTest, matchFor, FoundMatch}
 use Rattle.convert.specs.Convert.{IsMultiple}
 
 -- the ported comparison is sound
 pub same-sound : (w : ℕ) → Sound w (sameSequence w)
 same-sound w s t ps hs pt ht e = same-sizes w s t ps hs pt ht (yes (tells-same w s t) e)
 
-pub tells-true : (b : Bool) → Tells (b ≡ true) b
-tells-true true = holds refl
-tells-true false = fails (λ e. let z : _≡_ {A = ℕ} 0 1 = cc in omega arith)
-
-pub tells-matches : (w : ℕ) (same : Comparison) (s t : Trailing) (d : ℕ) → Tells (Matches w same s t d) (matches w same s t d)
-unfolding matches
+pub tells-matches : (w : ℕ) (same : Comparison) (s t : Trailing) (d : ℕ) → Tells (Matches w same s t d) (matchTest w same s t d)
+unfolding matchTest
 tells-matches w same s t d =
     tells-as (λ x. record { start = x .0; advance = x .1 .0; equal = x .1 .1 }) (λ m. (m .start, (m .advance, m .equal)))
     (tells-and (tells-le (sizeAt w s 0) (M w)) (tells-and (tells-le (sizeOffset w t + d * t .elem) (M w)) (tells-true (same s (shifted w s t d)))))
@@ -45,11 +41,11 @@ match-sizes {w} {same} {s} {t} {d} {k} sound ps hs pt ht m x n =
     ap (sizeWith (t .base) (A w t) (p w t)) y ∙ sym (advanced-sizes w t (d * t .elem) (s .elem) n pt ht) ∙ sym (match-equal sound ps hs pt ht m n)
 
 pub match-meets : (w : ℕ) (same : Comparison) (s t : Trailing) (d : ℕ) → Sound w same → s .word < 2 ^ w → t .word < 2 ^ w
-    → Meets (sameCauses s t) (MatchAnswer w same s t d) (matchFor w same s t d)
+    → Meets (sameCauses s t) (FoundMatch w same s t d) (matchFor w same s t d)
 unfolding matchFor
 match-meets w same s t d sound hs ht =
-    meets (sameCauses s t) (matches w same s t d) (tells-eq (s .word) 0, λ _. (tells-eq (t .word) 0, λ _. tt))
+    meets (sameCauses s t) (matchTest w same s t d) (tells-eq (s .word) 0, λ _. (tells-eq (t .word) 0, λ _. tt))
     (λ n. record {
       exactly = tells-matches w same s t d;
-      equal = λ e. match-equal sound (omega (arith, n .0)) hs (omega (arith, n .1 .0)) ht (yes (tells-matches w same s t d) e);
+      means = λ e. match-equal sound (omega (arith, n .0)) hs (omega (arith, n .1 .0)) ht (yes (tells-matches w same s t d) e);
     })

@@ -1,5 +1,5 @@
 -- The starred cases hold: each row but one is computed from the definitions, and that one is shown at every count. Assumes nothing.
-use mathlib.Core.Path.{_≡_, refl, ap}
+use mathlib.Core.Path.{_≡_, ap}
 use mathlib.Core.List.{List, [], _∷_}
 use Prim.Native.Nat.{ℕ, _+_, _*_, _/_, _%_}
 use native.Mathlib.Omega.{arith}
@@ -14,108 +14,14 @@ use Rattle.trailing.specs.Sequence.{sameSequence}
 use Rattle.trailing.specs.Calls.{paddingForElems, sizeFor, advanced, sameFor}
 use Rattle.cast.specs.Cast.{castFor}
 use Rattle.cast.specs.Exact.{exactFor}
-use Rattle.convert.specs.Match.{matches}
+use Rattle.convert.specs.Match.{matchTest}
 use Rattle.convert.specs.Convert.{shiftOf, conversionOf, computeFor, metadataFor}
-use Rattle.convert.specs.Stars.{tail, Every, stars}
+use Rattle.convert.specs.Stars.{tail, said, Claim, computed, stars}
 
--- phases 1 and 2 of the alignment 8 with elements of 4 bytes
-alike : (n : ℕ) → _≡_ {A = List ℕ} (sizeAt 64 (tail 0 9 4 0) n ∷ []) (sizeAt 64 (tail 0 10 4 0) n ∷ [])
+sizes-alike : (n : ℕ) → _≡_ {A = List ℕ} (sizeAt 64 (tail 0 9 4 0) n ∷ []) (sizeAt 64 (tail 0 10 4 0) n ∷ [])
 unfolding sizeWith up highestBit
-alike n = ap (λ (x : ℕ). x ∷ []) (omega arith)
+sizes-alike n = ap (λ (x : ℕ). x ∷ []) (omega arith)
 
-pub stars-hold : Every 64 stars
-unfolding powerOfTwo up down padding unless paddingFor highestBit componentsFor sizeWith bytesWithin countWithin sameSequence paddingForElems sizeFor advanced sameFor castFor exactFor matches shiftOf conversionOf computeFor metadataFor
-stars-hold = (
-  λ _. refl,
-  (
-    λ _. refl,
-    (
-      λ _. refl,
-      (
-        λ _. refl,
-        (
-          λ _. refl,
-          (
-            λ _. refl,
-            (
-              λ _. refl,
-              (
-                λ _. refl,
-                (
-                  λ _. refl,
-                  (
-                    λ _. refl,
-                    (
-                      λ _. refl,
-                      (
-                        λ _. refl,
-                        (
-                          λ _. refl,
-                          (
-                            λ _. refl,
-                            (
-                              λ _. refl,
-                              (
-                                λ _. refl,
-                                (
-                                  λ _. refl,
-                                  (
-                                    λ _. refl,
-                                    (
-                                      λ _. refl,
-                                      (
-                                        λ n. alike n,
-                                        (
-                                          λ _. refl,
-                                          (
-                                            λ _. refl,
-                                            (
-                                              λ _. refl,
-                                              (
-                                                λ _. refl,
-                                                (
-                                                  λ _. refl,
-                                                  (
-                                                    λ _. refl,
-                                                    (
-                                                      λ _. refl,
-                                                      (
-                                                        λ _. refl,
-                                                        (
-                                                          λ _. refl,
-                                                          (
-                                                            λ _. refl,
-                                                            (
-                                                              λ _. refl,
-                                                              (λ _. refl, tt),
-                                                            ),
-                                                          ),
-                                                        ),
-                                                      ),
-                                                    ),
-                                                  ),
-                                                ),
-                                              ),
-                                            ),
-                                          ),
-                                        ),
-                                      ),
-                                    ),
-                                  ),
-                                ),
-                              ),
-                            ),
-                          ),
-                        ),
-                      ),
-                    ),
-                  ),
-                ),
-              ),
-            ),
-          ),
-        ),
-      ),
-    ),
-  ),
-)
+pub stars-hold : Claim 64 stars
+unfolding powerOfTwo up down padding unless paddingFor highestBit componentsFor sizeWith bytesWithin countWithin sameSequence paddingForElems sizeFor advanced sameFor castFor exactFor matchTest shiftOf conversionOf computeFor metadataFor
+stars-hold n = ap (λ (x : List ℕ). x ∷ said n computed) (sizes-alike n)

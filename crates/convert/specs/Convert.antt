@@ -10,7 +10,7 @@ use Rattle.util.specs.Refusal.{Outcome, answered, refused, Cause, unless}
 use Rattle.trailing.specs.Size.{Trailing, sizeAt, HasSize, sizeOffset}
 use Rattle.layout.specs.Layout.{Info, fixed, trailing, Layout, layoutCauses}
 use Rattle.cast.specs.Exact.{ExactCount, exactFor}
-use Rattle.convert.specs.Match.{Comparison, Matches, matches}
+use Rattle.convert.specs.Match.{Comparison, Matches, matchTest}
 
 -- what an accepted conversion is: fixed to fixed; fixed to trailing, with the exact count; trailing to trailing, with the shift d and the multiple k
 pub data Params : Type 0 where
@@ -58,9 +58,9 @@ abbrev pub bySize : ℕ → Trailing → Layout → Shift
 bySize w s l = cond (leb (sizeAt w s 0) (M w)) (answeredBy (exactFor w l (sizeAt w s 0))) missing
 
 -- a shift at which the two match
-abbrev pub matching : ℕ → Comparison → Trailing → Trailing → Shift → Shift
-matching w same s t (by d) = cond (matches w same s t d) (by d) missing
-matching w same s t missing = missing
+abbrev pub matchedShift : ℕ → Comparison → Trailing → Trailing → Shift → Shift
+matchedShift w same s t (by d) = cond (matchTest w same s t d) (by d) missing
+matchedShift w same s t missing = missing
 
 abbrev pub orElse : Shift → Shift → Shift
 orElse (by d) other = by d
@@ -68,7 +68,7 @@ orElse missing other = other
 
 -- the shift from s to the trailing part t of the layout l: by the first way, else by the second
 unfoldable pub shiftOf : ℕ → Comparison → Trailing → Layout → Trailing → Shift
-shiftOf w same s l t = orElse (matching w same s t (byOffset w s t)) (matching w same s t (bySize w s l))
+shiftOf w same s l t = orElse (matchedShift w same s t (byOffset w s t)) (matchedShift w same s t (bySize w s l))
 
 abbrev pub withShift : ℕ → Shift → Conversion
 withShift k (by d) = accepted (unsizedToUnsized d k)

@@ -5,7 +5,7 @@ use mathlib.Core.List.{List, [], _∷_}
 use Prim.Native.Nat.{ℕ, _+_, _*_, _^_, _≤_, _<_}
 use lib.Dec.{leb}
 use Rattle.util.specs.Width.{M}
-use Rattle.util.specs.Refusal.{Outcome, Cause, unless, Tells}
+use Rattle.util.specs.Refusal.{Outcome, Cause, unless, YesMeans}
 use Rattle.rounding.specs.Word.{wordZero}
 use Rattle.trailing.specs.Size.{Trailing, sizeAt, HasSize, sizeOffset}
 use Rattle.trailing.specs.Sequence.{EqualSizes}
@@ -30,14 +30,13 @@ pub record Matches (w : ℕ) (same : Comparison) (s t : Trailing) (d : ℕ) : Ty
   pub advance : sizeOffset w t + d * t .elem ≤ M w
   pub equal : same s (shifted w s t d) ≡ true
 
-unfoldable pub matches : ℕ → Comparison → Trailing → Trailing → ℕ → Bool
-matches w same s t d = leb (sizeAt w s 0) (M w) && (leb (sizeOffset w t + d * t .elem) (M w) && same s (shifted w s t d))
+unfoldable pub matchTest : ℕ → Comparison → Trailing → Trailing → ℕ → Bool
+matchTest w same s t d = leb (sizeAt w s 0) (M w) && (leb (sizeOffset w t + d * t .elem) (M w) && same s (shifted w s t d))
 
 -- `size_sequences_match`: the first layout's 2, then the second's
 unfoldable pub matchFor : ℕ → Comparison → Trailing → Trailing → ℕ → Outcome Bool
-matchFor w same s t d = unless (sameCauses s t) (matches w same s t d)
+matchFor w same s t d = unless (sameCauses s t) (matchTest w same s t d)
 
 -- a yes means that the source's sizes are the target's, from d on, with the source's elements
-pub record MatchAnswer (w : ℕ) (same : Comparison) (s t : Trailing) (d : ℕ) (r : Bool) : Type 0 where
-  pub exactly : Tells (Matches w same s t d) r
-  pub equal : r ≡ true → EqualSizes w s (shifted w s t d)
+abbrev pub FoundMatch : ℕ → Comparison → Trailing → Trailing → ℕ → Bool → Type 0
+FoundMatch w same s t d = YesMeans (Matches w same s t d) (EqualSizes w s (shifted w s t d))

@@ -13,7 +13,7 @@ use Rattle.trailing.specs.Sequence.{sameSequence}
 use Rattle.trailing.specs.Calls.{paddingForElems, sizeFor, sameFor}
 use Rattle.layout.specs.Layout.{Layout, fixed, trailing}
 use Rattle.cast.specs.Cast.{Side, prefix, suffix, Grant, castFor}
-use Rattle.convert.specs.Convert.{Params, sizedToSized, sizedToUnsized, unsizedToUnsized, Shift, by, missing, byOffset, matching, computeFor, metadataFor}
+use Rattle.convert.specs.Convert.{Params, sizedToSized, sizedToUnsized, unsizedToUnsized, Shift, by, missing, byOffset, matchedShift, computeFor, metadataFor}
 
 -- the calls of the table
 pub data Call : Type 0 where
@@ -56,7 +56,7 @@ eval w (wholeSize t n) = sizeAt w t n ∷ []
 eval w (paddingForElemsOf t n) = numbers one (paddingForElems w t n)
 eval w (cast l side addr len) = numbers (λ (g : Grant). g .count ∷ g .split ∷ []) (castFor w l side addr len)
 eval w (hasSameSizeSequence s t) = numbers yesNo (sameFor w s t)
-eval w (firstWay s t) = shiftNumbers (matching w (sameSequence w) s t (byOffset w s t))
+eval w (firstWay s t) = shiftNumbers (matchedShift w (sameSequence w) s t (byOffset w s t))
 eval w (tryCompute s t) = numbers paramNumbers (computeFor w (sameSequence w) s t)
 eval w (castMetadata q n) = numbers one (metadataFor w q n)
 
@@ -68,12 +68,18 @@ pub record Row : Type 0 where
 abbrev pub gives : Call → List ℕ → Row
 gives c xs = record { call = λ _. c; expected = λ _. xs }
 
-abbrev pub Claim : ℕ → Row → Type 0
-Claim w r = (n : ℕ) → eval w (r .call n) ≡ r .expected n
+-- what the calls of a table give at n, and what it says of them
+abbrev pub given : ℕ → ℕ → List Row → List (List ℕ)
+given w n [] = []
+given w n (r ∷ rs) = eval w (r .call n) ∷ given w n rs
 
-abbrev pub Every : ℕ → List Row → Type 0
-Every w [] = Unit {0}
-Every w (r ∷ rs) = Claim w r × Every w rs
+abbrev pub said : ℕ → List Row → List (List ℕ)
+said n [] = []
+said n (r ∷ rs) = r .expected n ∷ said n rs
+
+-- the one claim
+abbrev pub Claim : ℕ → List Row → Type 0
+Claim w rs = (n : ℕ) → given w n rs ≡ said n rs
 
 -- layouts by their numbers
 abbrev pub tail : (base word elem offset : ℕ) → Trailing
@@ -96,9 +102,13 @@ source2 = tail 8 12 8 0
 abbrev pub target2 : Trailing
 target2 = tail 8 4 8 0
 
--- the table, at 64 bits
-abbrev pub stars : List Row
-stars =
+-- phases 1 and 2 of the alignment 8 with elements of 4 bytes: equal sizes at every count
+abbrev pub alike : Row
+alike = record { call = λ n. wholeSize (tail 0 9 4 0) n; expected = λ n. eval 64 (wholeSize (tail 0 10 4 0) n) }
+
+-- the other rows, at 64 bits
+abbrev pub computed : List Row
+computed =
     gives (paddingNeededFor 0 8) (0 ∷ 0 ∷ [])
     ∷ gives (paddingNeededFor 1 8) (0 ∷ 7 ∷ [])
     ∷ gives (paddingNeededFor (M 64) 8) (0 ∷ 1 ∷ [])
@@ -118,7 +128,6 @@ stars =
     ∷ gives (cast (sliceOf 4 R) suffix 1 15) (0 ∷ 3 ∷ 3 ∷ [])
     ∷ gives (cast (sliceOf 4 R) prefix 2 3) (12 ∷ [])
     ∷ gives (cast (sliceOf 4 (tail 8 5 9 9)) prefix 0 24) (0 ∷ 1 ∷ 20 ∷ [])
-    ∷ record { call = λ n. wholeSize (tail 0 9 4 0) n; expected = λ n. eval 64 (wholeSize (tail 0 10 4 0) n) }
     ∷ gives (hasSameSizeSequence (tail 0 9 4 0) (tail 0 10 4 0)) (0 ∷ 0 ∷ [])
     ∷ gives (tryCompute (sliceOf 4 (tail 8 4 4 0)) (sliceOf 2 (tail 4 2 2 0))) (0 ∷ 2 ∷ 2 ∷ [])
     ∷ gives (castMetadata (unsizedToUnsized 2 2) 3) (0 ∷ 8 ∷ [])
@@ -132,3 +141,7 @@ stars =
     ∷ gives (sizeForElems (tail (2 ^ 64 - 8) 8 1 0) 1) (15 ∷ [])
     ∷ gives (sizeForElems (tail (2 ^ 64 - 8) 9 1 0) 0) (15 ∷ [])
     ∷ []
+
+-- the table
+abbrev pub stars : List Row
+stars = alike ∷ computed

@@ -1,21 +1,17 @@
 -- What the types of this crate are, over numbers: document 01's number and values for each case of an answer. Assumes nothing.
 use Rattle.util.specs.Refusal.{Outcome, answered, refused}
-use Rattle.util.specs.View.{numberSays}
-use Rattle.cast.specs.View.{castSays}
 use Rattle.convert.specs.Convert as Convert
 use Rattle.convert.specs.Convert.{Params, NoConversion, Conversion}
 use Rattle.convert.specs.declared.CastParamsInner.{CastParamsInner}
 use Rattle.convert.specs.declared.CastParamsInner.the-variants as Inner
 use Rattle.convert.specs.declared.Reason.{Reason}
-use Rattle.convert.specs.declared.Reason.the-variants as Reason
+use Rattle.convert.specs.declared.Reason.the-variants as Why
 use Rattle.convert.specs.declared.Shift as Code
 use Rattle.convert.specs.declared.Shift.the-variants as Shift
 use Rattle.convert.specs.declared.Computed.{Computed}
 use Rattle.convert.specs.declared.Computed.the-variants as Computed
 use Rattle.convert.specs.declared.ComputeAnswer.{ComputeAnswer}
 use Rattle.convert.specs.declared.ComputeAnswer.the-variants as Answer
-use Rattle.convert.specs.declared.Carried.{Carried}
-use Rattle.convert.specs.Demand.{Answers}
 
 abbrev pub paramsIn : CastParamsInner → Params
 paramsIn (Inner.UnsizedToUnsized d k) = Convert.unsizedToUnsized d k
@@ -23,14 +19,14 @@ paramsIn (Inner.SizedToUnsized n) = Convert.sizedToUnsized n
 paramsIn Inner.SizedToSized = Convert.sizedToSized
 
 abbrev pub reasonIn : Reason → NoConversion
-reasonIn Reason.SourceAlignLower = Convert.sourceAlignLower
-reasonIn Reason.FixedSizesDiffer = Convert.fixedSizesDiffer
-reasonIn Reason.TrailingToFixed = Convert.trailingToFixed
-reasonIn Reason.NoExactCount = Convert.noExactCount
-reasonIn Reason.TargetElemZero = Convert.targetElemZero
-reasonIn Reason.SourceElemSmaller = Convert.sourceElemSmaller
-reasonIn Reason.NoWholeMultiple = Convert.noWholeMultiple
-reasonIn Reason.NoShift = Convert.noShift
+reasonIn Why.SourceAlignLower = Convert.sourceAlignLower
+reasonIn Why.FixedSizesDiffer = Convert.fixedSizesDiffer
+reasonIn Why.TrailingToFixed = Convert.trailingToFixed
+reasonIn Why.NoExactCount = Convert.noExactCount
+reasonIn Why.TargetElemZero = Convert.targetElemZero
+reasonIn Why.SourceElemSmaller = Convert.sourceElemSmaller
+reasonIn Why.NoWholeMultiple = Convert.noWholeMultiple
+reasonIn Why.NoShift = Convert.noShift
 
 abbrev pub shiftIn : Code.Shift → Convert.Shift
 shiftIn (Shift.By d) = Convert.by d
@@ -43,6 +39,3 @@ computedIn (Computed.None r) = Convert.none (reasonIn r)
 abbrev pub computeSays : ComputeAnswer → Outcome Params
 computeSays (Answer.Params q) = answered (paramsIn q)
 computeSays (Answer.Refused k) = refused k
-
-abbrev pub answersIn : Carried → Answers
-answersIn r = record { computed = computeSays (r .computed); count = numberSays (r .count); first = castSays (r .first); second = castSays (r .second) }

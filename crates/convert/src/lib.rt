@@ -7,14 +7,11 @@ ghost use Rattle.trailing.specs.Sequence.{sameSequence};
 ghost use Rattle.trailing.specs.Calls.{sameCauses};
 ghost use Rattle.trailing.specs.View.{trailingOf};
 ghost use mathlib.Core.List.{[], _∷_};
-ghost use Rattle.layout.specs.Layout.{fixed, trailing, noWord, layoutCauses, HeldIn};
+ghost use Rattle.layout.specs.Layout.{fixed, trailing, noWord, layoutCauses, FitsWidth};
 ghost use Rattle.layout.specs.View.{infoOf, layoutOf};
-ghost use Rattle.convert.specs.Match.{matches, matchFor, MatchAnswer};
-ghost use Rattle.convert.specs.Convert.{Params, byOffset, bySize, matching, shiftOf, trailingRules, kindRules, conversionOf, reasonNumber, noConversion, paramsOf, unsizedToUnsized, Converts, computeCauses, computeFor, converted, metadataCauses, metadataFor};
-ghost use Rattle.convert.specs.Demand.{countAfter, answersOf, Demand3Of};
-ghost use Rattle.convert.specs.View.{paramsIn, reasonIn, shiftIn, computedIn, computeSays, answersIn};
-use cast::CastAnswer;
-use cast::CastType;
+ghost use Rattle.convert.specs.Match.{matchTest, matchFor, FoundMatch};
+ghost use Rattle.convert.specs.Convert.{Params, byOffset, bySize, matchedShift, shiftOf, trailingRules, kindRules, conversionOf, reasonNumber, noConversion, paramsOf, unsizedToUnsized, Converts, computeCauses, computeFor, converted, metadataCauses, metadataFor};
+ghost use Rattle.convert.specs.View.{paramsIn, reasonIn, shiftIn, computedIn, computeSays};
 use layout::Check;
 use layout::DstLayout;
 use layout::SizeInfo;
@@ -73,7 +70,7 @@ pub enum Shift {
 // Whether the target, advanced by dst_base of its elements and given the source's, is found to have the source's sizes.
 fn sequences_match(src: TrailingSliceLayout, dst: TrailingSliceLayout, dst_base: u64) -> bool
     requires { ⌜ (0 < trailingOf src .word) × (0 < trailingOf dst .word) ⌝ }
-    ensures { λ r. ⌜ r ≡ matches 64 (sameSequence 64) (trailingOf src) (trailingOf dst) «dst_base» ⌝ }
+    ensures { λ r. ⌜ r ≡ matchTest 64 (sameSequence 64) (trailingOf src) (trailingOf dst) «dst_base» ⌝ }
 {
     let Product::Fits(base_bytes) = util::checked_mul(dst_base, dst.elem_size) else {
         return false;
@@ -94,7 +91,7 @@ pub fn size_sequences_match(
     dst_base: u64,
 ) -> Decision
     ensures answer { λ r. ⌜ decisionSays r ≡ matchFor 64 (sameSequence 64) (trailingOf src) (trailingOf dst) «dst_base» ⌝ }
-    ensures meaning { λ r. ⌜ Meets (sameCauses (trailingOf src) (trailingOf dst)) (MatchAnswer 64 (sameSequence 64) (trailingOf src) (trailingOf dst) «dst_base») (decisionSays r) ⌝ }
+    ensures meaning { λ r. ⌜ Meets (sameCauses (trailingOf src) (trailingOf dst)) (FoundMatch 64 (sameSequence 64) (trailingOf src) (trailingOf dst) «dst_base») (decisionSays r) ⌝ }
 {
     let src_word = src.size_rounding_align_and_phase;
     if src_word.0 == 0 {
@@ -147,7 +144,7 @@ fn offset_delta_by_size(src: TrailingSliceLayout, dst_layout: DstLayout) -> Shif
 // A shift at which the sequences match.
 fn matching_shift(src: TrailingSliceLayout, dst: TrailingSliceLayout, shift: Shift) -> Shift
     requires { ⌜ (0 < trailingOf src .word) × (0 < trailingOf dst .word) ⌝ }
-    ensures { λ r. ⌜ shiftIn r ≡ matching 64 (sameSequence 64) (trailingOf src) (trailingOf dst) (shiftIn shift) ⌝ }
+    ensures { λ r. ⌜ shiftIn r ≡ matchedShift 64 (sameSequence 64) (trailingOf src) (trailingOf dst) (shiftIn shift) ⌝ }
 {
     match shift {
         Shift::By(elems) => {
@@ -277,11 +274,12 @@ fn compute_answer(src_layout: DstLayout, dst_layout: DstLayout) -> ComputeAnswer
     }
 }
 
-// How counts of the first layout are converted to the second, where a value of the first may be read as the second.
+// How counts of the first layout are converted to the second, where a value of the first may be read as the second. What `fits`
+// says is known of every u64 inside a function; a caller's proof, which needs it for the conversion guarantee, has it from here.
 pub fn try_compute(src_layout: DstLayout, dst_layout: DstLayout) -> ComputeAnswer
     ensures answer { λ r. ⌜ computeSays r ≡ computeFor 64 (sameSequence 64) (layoutOf «src_layout») (layoutOf «dst_layout») ⌝ }
     ensures meaning { λ r. ⌜ Meets (computeCauses 64 (sameSequence 64) (layoutOf «src_layout») (layoutOf «dst_layout»)) (Converts 64 (sameSequence 64) (layoutOf «src_layout») (layoutOf «dst_layout»)) (computeSays r) ⌝ }
-    ensures held { λ r. ⌜ ((q : Params) → computeSays r ≡ answered q → HeldIn 64 (layoutOf «src_layout») × HeldIn 64 (layoutOf «dst_layout»)) ⌝ }
+    ensures fits { λ r. ⌜ ((q : Params) → computeSays r ≡ answered q → FitsWidth 64 (layoutOf «src_layout») × FitsWidth 64 (layoutOf «dst_layout»)) ⌝ }
 {
     match src_layout.check() {
         Check::Accepted => match dst_layout.check() {
@@ -318,57 +316,5 @@ pub fn cast_metadata(params: CastParamsInner, src_meta: u64) -> Answer
         } => add_scaled_metadata(offset_delta_elems, src_meta, elem_multiple),
         CastParamsInner::SizedToUnsized { dst_meta } => Answer::Number(dst_meta),
         CastParamsInner::SizedToSized => Answer::Number(0),
-    }
-}
-
-// The answers of a conversion of src_meta elements and of two prefix casts of its target.
-pub struct Carried {
-    pub computed: ComputeAnswer,
-    pub count: Answer,
-    pub first: CastAnswer,
-    pub second: CastAnswer,
-}
-
-fn converted_count(computed: ComputeAnswer, src_meta: u64) -> Answer
-    ensures { λ r. ⌜ numberSays r ≡ countAfter 64 (computeSays computed) «src_meta» ⌝ }
-{
-    match computed {
-        ComputeAnswer::Params(params) => cast_metadata(params, src_meta),
-        ComputeAnswer::Refused(number) => Answer::Refused(number),
-    }
-}
-
-// Converts src_meta elements of the first layout to the second, and casts bytes at addr to the second over two lengths.
-// What it promises of the four answers is the conversion guarantee.
-pub fn convert_and_cast(
-    src_layout: DstLayout,
-    dst_layout: DstLayout,
-    src_meta: u64,
-    addr: u64,
-    bytes_len: u64,
-    more_len: u64,
-) -> Carried
-    ensures answer { λ r. ⌜ answersIn r ≡ answersOf 64 (sameSequence 64) (layoutOf «src_layout») (layoutOf «dst_layout») «src_meta» addr «bytes_len» «more_len» ⌝ }
-    ensures meaning { λ r. ⌜ Demand3Of 64 (sameSequence 64) (layoutOf «src_layout») (layoutOf «dst_layout») «src_meta» addr «bytes_len» «more_len» (answersIn r) ⌝ }
-{
-    let computed = try_compute(src_layout, dst_layout);
-    let count = converted_count(computed, src_meta);
-    let first = cast::validate_cast_and_convert_metadata(
-        dst_layout,
-        addr,
-        bytes_len,
-        CastType::Prefix,
-    );
-    let second = cast::validate_cast_and_convert_metadata(
-        dst_layout,
-        addr,
-        more_len,
-        CastType::Prefix,
-    );
-    Carried {
-        computed,
-        count,
-        first,
-        second,
     }
 }

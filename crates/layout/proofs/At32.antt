@@ -7,11 +7,11 @@ use Rattle.util.specs.Refusal.{answered, refused, unless, Meets, Decided, Tells
 use Rattle.util.specs.View.{numberSays}
 use Rattle.util.specs.declared.Answer.{Answer}
 use Rattle.util.specs.declared.Answer.the-variants as Answer
-use Rattle.layout.specs.Extend.{passes8, LeastPlace, roundUpCauses, roundUpFor, memberAlign, extended, badPacking, memberPasses, placeCauses, stepCauses, extendCauses, extendFor, Extended}
+use Rattle.layout.specs.Extend.{roundingPasses, LeastPlace, roundUpCauses, roundUpFor, memberAlign, extended, badPacking, memberPasses, placeCauses, stepCauses, extendCauses, extendFor, Extended}
 use Rattle.layout.specs.declared.Check.{Check}
 use Rattle.layout.specs.declared.Check.the-variants as Check
 use Rattle.layout.specs.View.{checkSays}
-use Rattle.layout.specs.Layout.{Layout, layoutCauses, HeldIn, checkFor, fixed, Info, noWord}
+use Rattle.layout.specs.Layout.{Layout, layoutCauses, FitsWidth, checkFor, fixed, Info, noWord}
 use mathlib.Core.Bool.{Bool, _||_, true, false}
 use Rattle.util.specs.Helpers.{alignCauses}
 use mathlib.Core.Logic.{_⊎_}
@@ -24,31 +24,31 @@ use Rattle.layout.proofs.Passes as Passes
 use Rattle.layout.proofs.Layouts as Layouts
 use Rattle.layout.proofs.Steps as Steps
 
-pub within : {T : Type 0} (v : ℕ) (x : T) → v ≤ M 32 → answered x ≡ unless (passes8 32 v ∷ []) x
+pub within : {T : Type 0} (v : ℕ) (x : T) → v ≤ M 32 → answered x ≡ unless (roundingPasses 32 v ∷ []) x
 within {T} = Passes.within {T = T} 32
 
-pub past : {T : Type 0} (v : ℕ) (x : T) → M 32 < v → refused 8 ≡ unless (passes8 32 v ∷ []) x
+pub past : {T : Type 0} (v : ℕ) (x : T) → M 32 < v → refused 8 ≡ unless (roundingPasses 32 v ∷ []) x
 past {T} = Passes.past {T = T} 32
 
-pub up-told : {n : ℕ} (v : ℕ) (r : Answer) → numberSays r ≡ unless (passes8 32 v ∷ []) v → r ≡ Answer.Number n → (n ≡ v) × (v ≤ M 32)
+pub up-told : {n : ℕ} (v : ℕ) (r : Answer) → numberSays r ≡ unless (roundingPasses 32 v ∷ []) v → r ≡ Answer.Number n → (n ≡ v) × (v ≤ M 32)
 up-told {n} = Passes.up-told {n = n} 32
 
-pub up-refused : {k : ℕ} (v : ℕ) (r : Answer) → numberSays r ≡ unless (passes8 32 v ∷ []) v → r ≡ Answer.Refused k → (k ≡ 8) × (M 32 < v)
+pub up-refused : {k : ℕ} (v : ℕ) (r : Answer) → numberSays r ≡ unless (roundingPasses 32 v ∷ []) v → r ≡ Answer.Refused k → (k ≡ 8) × (M 32 < v)
 up-refused {k} = Passes.up-refused {k = k} 32
 
 pub round-meets : (v a : ℕ) → a < 2 ^ 32 → Meets (roundUpCauses 32 v a) (LeastPlace v a) (roundUpFor 32 v a)
 round-meets = Passes.round-meets 32
 
-pub round-power : {a : ℕ} (v : ℕ) → PowerOfTwo a → a < 2 ^ 32 → roundUpFor 32 v a ≡ unless (passes8 32 (up v a) ∷ []) (up v a)
+pub round-power : {a : ℕ} (v : ℕ) → PowerOfTwo a → a < 2 ^ 32 → roundUpFor 32 v a ≡ unless (roundingPasses 32 (up v a) ∷ []) (up v a)
 round-power {a} = Passes.round-power {a = a} 32
 
 pub layout-decided : (l : Layout) → l .align < 2 ^ 32 → Decided (layoutCauses 32 l)
 layout-decided = Layouts.layout-decided 32
 
-pub check-meets : (l : Layout) → HeldIn 32 l → Meets (layoutCauses 32 l) (λ _. HeldIn 32 l) (checkFor 32 l)
+pub check-meets : (l : Layout) → FitsWidth 32 l → Meets (layoutCauses 32 l) (λ _. FitsWidth 32 l) (checkFor 32 l)
 check-meets = Layouts.check-meets 32
 
-pub check-refused : {k : ℕ} (l : Layout) → l .align < 2 ^ 32 → refused k ≡ checkFor 32 l → (refused k ≡ checkFor 32 l) × Meets (layoutCauses 32 l) (λ (_ : Unit {0}). HeldIn 32 l) (refused k)
+pub check-refused : {k : ℕ} (l : Layout) → l .align < 2 ^ 32 → refused k ≡ checkFor 32 l → (refused k ≡ checkFor 32 l) × Meets (layoutCauses 32 l) (λ (_ : Unit {0}). FitsWidth 32 l) (refused k)
 check-refused {k} = Layouts.check-refused {k = k} 32
 
 pub fixed-accepted : (a s : ℕ) (mark : Bool) → powerOfTwo 32 a ≡ true → checkFor 32 (record { align = a; info = fixed s; mark = mark }) ≡ answered tt
@@ -57,7 +57,7 @@ fixed-accepted = Layouts.fixed-accepted 32
 pub fixed-refused : (a s : ℕ) (mark : Bool) → powerOfTwo 32 a ≡ false → checkFor 32 (record { align = a; info = fixed s; mark = mark }) ≡ refused 1
 fixed-refused = Layouts.fixed-refused 32
 
-pub held-accepted : {l : Layout} (r : Check) → Meets (layoutCauses 32 l) (λ _. HeldIn 32 l) (checkSays r) → r ≡ Check.Accepted → HeldIn 32 l
+pub held-accepted : {l : Layout} (r : Check) → Meets (layoutCauses 32 l) (λ _. FitsWidth 32 l) (checkSays r) → r ≡ Check.Accepted → FitsWidth 32 l
 held-accepted {l} = Layouts.held-accepted {w = 32} {l = l}
 
 pub tells-packing : (packing : ℕ) → packing < 2 ^ 32 → Tells ((packing ≡ 0) ⊎ PowerOfTwo packing) (eqb packing 0 || powerOfTwo 32 packing)

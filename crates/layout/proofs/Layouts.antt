@@ -4,12 +4,12 @@ use mathlib.Core.Bool.{Bool, true, false}
 use Prim.Native.Nat.{ℕ, _^_, _<_}
 use Rattle.util.specs.Power.{powerOfTwo}
 use Rattle.util.specs.Refusal.{Outcome, answered, refused, unless, Tells, fails, Meets, refuses, Decided}
-use Rattle.util.proofs.Refusals.{tells-eq, meets, granted, stopped}
+use Rattle.util.proofs.Refusals.{tells-eq, meets, answered-means, refused-means}
 use Rattle.util.proofs.Helpers.{align-decided}
 use Rattle.layout.specs.declared.Check.{Check}
 use Rattle.layout.specs.declared.Check.the-variants as Check
 use Rattle.layout.specs.View.{checkSays}
-use Rattle.layout.specs.Layout.{Info, fixed, trailing, Layout, noWord, layoutCauses, HeldIn, checkFor}
+use Rattle.layout.specs.Layout.{Info, fixed, trailing, Layout, noWord, layoutCauses, FitsWidth, checkFor}
 
 -- a fixed layout has no rounding word; that of a trailing one is tested
 pub word-decided : (i : Info) → Tells (noWord i .means) (noWord i .test)
@@ -20,20 +20,20 @@ pub layout-decided : (w : ℕ) (l : Layout) → l .align < 2 ^ w → Decided (la
 layout-decided w l h = (align-decided w (l .align) h, λ _. (word-decided (l .info), λ _. tt))
 
 -- what a check means: an accepted layout is one, and its numbers are held
-pub check-meets : (w : ℕ) (l : Layout) → HeldIn w l → Meets (layoutCauses w l) (λ _. HeldIn w l) (checkFor w l)
+pub check-meets : (w : ℕ) (l : Layout) → FitsWidth w l → Meets (layoutCauses w l) (λ _. FitsWidth w l) (checkFor w l)
 unfolding checkFor
 check-meets w l h = meets (layoutCauses w l) tt (layout-decided w l (h .align)) (λ _. h)
 
-pub check-refused : {k : ℕ} (w : ℕ) (l : Layout) → l .align < 2 ^ w → refused k ≡ checkFor w l → (refused k ≡ checkFor w l) × Meets (layoutCauses w l) (λ (_ : Unit {0}). HeldIn w l) (refused k)
+pub check-refused : {k : ℕ} (w : ℕ) (l : Layout) → l .align < 2 ^ w → refused k ≡ checkFor w l → (refused k ≡ checkFor w l) × Meets (layoutCauses w l) (λ (_ : Unit {0}). FitsWidth w l) (refused k)
 unfolding checkFor
-check-refused {k} w l h e = (e, refuses (stopped m))
+check-refused {k} w l h e = (e, refuses (refused-means m))
   where
     m : Meets (layoutCauses w l) (λ (_ : Unit {0}). Unit {0}) (refused k)
     m = subst (λ (o : Outcome (Unit {0})). Meets (layoutCauses w l) (λ (_ : Unit {0}). Unit {0}) o) (sym e) (meets (layoutCauses w l) tt (layout-decided w l h) (λ _. tt))
 
 -- the numbers of a layout that passed its check are held
-pub held-accepted : {w : ℕ} {l : Layout} (r : Check) → Meets (layoutCauses w l) (λ _. HeldIn w l) (checkSays r) → r ≡ Check.Accepted → HeldIn w l
-held-accepted {w} {l} r m e = granted (subst (λ (x : Check). Meets (layoutCauses w l) (λ _. HeldIn w l) (checkSays x)) e m) .1
+pub held-accepted : {w : ℕ} {l : Layout} (r : Check) → Meets (layoutCauses w l) (λ _. FitsWidth w l) (checkSays r) → r ≡ Check.Accepted → FitsWidth w l
+held-accepted {w} {l} r m e = answered-means (subst (λ (x : Check). Meets (layoutCauses w l) (λ _. FitsWidth w l) (checkSays x)) e m) .1
 
 -- a fixed layout is accepted exactly when its alignment is a power of two
 pub fixed-accepted : (w a s : ℕ) (mark : Bool) → powerOfTwo w a ≡ true → checkFor w (record { align = a; info = fixed s; mark = mark }) ≡ answered tt

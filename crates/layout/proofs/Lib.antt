@@ -2,4 +2,5 @@
 pub mod Passes
 pub mod Layouts
 pub mod Steps
+pub mod Only
 pub mod At32

@@ -13,24 +13,14 @@ use Rattle.util.specs.Power.{PowerOfTwo, powerOfTwo}
 use Rattle.util.specs.Round.{up}
 use Rattle.util.specs.Refusal.{Outcome, answered, refused, unless, Tells, holds, fails, None, Meets, Decided}
 use Rattle.util.specs.Helpers.{Larger, alignsCauses}
-use Rattle.util.proofs.Refusals.{tells-eq, tells-lt, tells-not, tells-and, tells-or, meets, granted}
+use Rattle.util.proofs.Refusals.{known, tells-true, tells-eq, tells-lt, tells-not, tells-and, tells-or, meets, answered-means}
 use Rattle.util.proofs.Powers.{positive, tells-power}
 use Rattle.util.proofs.Helpers.{power, max-meets, max-answered}
 use Rattle.layout.specs.Layout.{Info, fixed, trailing, Layout, layoutCauses, checkFor}
-use Rattle.layout.specs.Extend.{memberAlign, placeOf, extended, badPacking, greatestAlign, IsTrailing, isTrailing, Passes9, passes9, memberPasses, placeCauses, stepCauses, extendCauses, extendFor, Extended}
+use Rattle.layout.specs.Extend.{memberAlign, placeOf, extended, badPacking, greatestAlign, IsTrailing, isTrailing, MemberPastM, isMemberPastM, memberPasses, placeCauses, stepCauses, extendCauses, extendFor, Extended}
 use Rattle.util.proofs.Tables.{decided-both, none-both, refused-first, accepted-first}
 use Rattle.layout.proofs.Layouts.{layout-decided}
 use Rattle.layout.proofs.Passes.{least-place}
-
--- what is not refuted holds, where a test decides it
-pub stable : {P : Type 0} {b : Bool} → Tells P b → ((P → ⊥) → ⊥) → P
-stable (holds p) n = p
-stable (fails m) n = absurd (n m)
-
--- a Bool tells whether it is true
-tells-true : (b : Bool) → Tells (b ≡ true) b
-tells-true true = holds refl
-tells-true false = fails (λ e. let z : _≡_ {A = ℕ} 0 1 = cc in omega arith)
 
 -- the smaller of two powers is a power
 pub min-power : {a b : ℕ} → PowerOfTwo a → PowerOfTwo b → PowerOfTwo (min a b)
@@ -45,7 +35,7 @@ pub tells-packing : (w packing : ℕ) → packing < 2 ^ w → Tells ((packing �
 tells-packing w packing h = tells-or (tells-eq packing 0) (tells-power w packing h)
 
 pub packing-power : (w packing : ℕ) → packing < 2 ^ w → (badPacking w packing .means → ⊥) → (packing ≡ 0 → ⊥) → PowerOfTwo packing
-packing-power w packing h n z = go (stable (tells-packing w packing h) n)
+packing-power w packing h n z = go (known (tells-packing w packing h) n)
   where
     go : (packing ≡ 0) ⊎ PowerOfTwo packing → PowerOfTwo packing
     go (inl e) = absurd (z e)
@@ -70,7 +60,7 @@ pub tells-trailing : (i : Info) → Tells (IsTrailing i) (isTrailing i)
 tells-trailing (fixed s) = fails (λ x. x)
 tells-trailing (trailing t) = holds tt
 
-tells-passes9 : (w q : ℕ) (i : Info) → Tells (Passes9 w q i) (passes9 w q i)
+tells-passes9 : (w q : ℕ) (i : Info) → Tells (MemberPastM w q i) (isMemberPastM w q i)
 tells-passes9 w q (fixed s) = tells-lt (M w) (q + s)
 tells-passes9 w q (trailing t) = tells-or (tells-lt (M w) (q + t .offset)) (tells-lt (M w) (q + t .base))
 
@@ -97,7 +87,7 @@ extend-decided w l m packing hl hm hp =
 
 -- the larger of two powers
 larger : {a b : ℕ} (w : ℕ) → PowerOfTwo a → PowerOfTwo b → a < 2 ^ w → b < 2 ^ w → Larger a b (max a b)
-larger {a} {b} w p q ha hb = granted (subst (λ (o : Outcome ℕ). Meets (alignsCauses w a b) (Larger a b) o) (max-answered w p q ha hb) (max-meets w a b ha hb)) .1
+larger {a} {b} w p q ha hb = answered-means (subst (λ (o : Outcome ℕ). Meets (alignsCauses w a b) (Larger a b) o) (max-answered w p q ha hb) (max-meets w a b ha hb)) .1
 
 -- the step means what it should, where nothing refuses it
 fixed-extended : (w a s : ℕ) (mark : Bool) (m : Layout) (packing : ℕ) → PowerOfTwo a → PowerOfTwo (memberAlign (m .align) packing)

@@ -78,8 +78,8 @@ abbrev pub afterTrailing : Info → Cause
 afterTrailing i = record { number = 7; test = isTrailing i; means = IsTrailing i }
 
 -- 8: rounding up passes M
-abbrev pub passes8 : ℕ → ℕ → Cause
-passes8 w v = record { number = 8; test = ltb (M w) v; means = M w < v }
+abbrev pub roundingPasses : ℕ → ℕ → Cause
+roundingPasses w v = record { number = 8; test = ltb (M w) v; means = M w < v }
 
 -- q is the least place that is no lower than s and a multiple of a
 pub record LeastPlace (s a q : ℕ) : Type 0 where
@@ -89,29 +89,29 @@ pub record LeastPlace (s a q : ℕ) : Type 0 where
 
 -- `round_up`: a number rounded up, as places and sizes are
 abbrev pub roundUpCauses : ℕ → ℕ → ℕ → List Cause
-roundUpCauses w v a = badAlign w a ∷ passes8 w (up v a) ∷ []
+roundUpCauses w v a = badAlign w a ∷ roundingPasses w (up v a) ∷ []
 
 unfoldable pub roundUpFor : ℕ → ℕ → ℕ → Outcome ℕ
 roundUpFor w v a = unless (roundUpCauses w v a) (up v a)
 
 -- 9: the member's size, o or b, placed at q, passes M
-abbrev pub Passes9 : ℕ → ℕ → Info → Type 0
-Passes9 w q (fixed s) = M w < q + s
-Passes9 w q (trailing t) = (M w < q + t .offset) ⊎ (M w < q + t .base)
+abbrev pub MemberPastM : ℕ → ℕ → Info → Type 0
+MemberPastM w q (fixed s) = M w < q + s
+MemberPastM w q (trailing t) = (M w < q + t .offset) ⊎ (M w < q + t .base)
 
-abbrev pub passes9 : ℕ → ℕ → Info → Bool
-passes9 w q (fixed s) = ltb (M w) (q + s)
-passes9 w q (trailing t) = ltb (M w) (q + t .offset) || ltb (M w) (q + t .base)
+abbrev pub isMemberPastM : ℕ → ℕ → Info → Bool
+isMemberPastM w q (fixed s) = ltb (M w) (q + s)
+isMemberPastM w q (trailing t) = ltb (M w) (q + t .offset) || ltb (M w) (q + t .base)
 
 abbrev pub memberPasses : ℕ → ℕ → Info → Cause
-memberPasses w q i = record { number = 9; test = passes9 w q i; means = Passes9 w q i }
+memberPasses w q i = record { number = 9; test = isMemberPastM w q i; means = MemberPastM w q i }
 
 -- what refuses to place the member; what refuses the step once both layouts are accepted; all that refuses it, the layout's
 -- own causes first
 abbrev pub placeCauses : ℕ → Layout → Layout → ℕ → List Cause
 placeCauses w l m packing =
     afterTrailing (l .info)
-    ∷ passes8 w (placeOf l m packing)
+    ∷ roundingPasses w (placeOf l m packing)
     ∷ memberPasses w (placeOf l m packing) (m .info)
     ∷ []
 

@@ -38,13 +38,13 @@ abbrev pub layoutCauses : ℕ → Layout → List Cause
 layoutCauses w l = badAlign w (l .align) ∷ noWord (l .info) ∷ []
 
 -- the alignment and the rounding word of a layout are numbers that w bits hold
-abbrev pub WordHeld : ℕ → Info → Type 0
-WordHeld w (fixed s) = Unit {0}
-WordHeld w (trailing t) = t .word < 2 ^ w
+abbrev pub WordFits : ℕ → Info → Type 0
+WordFits w (fixed s) = Unit {0}
+WordFits w (trailing t) = t .word < 2 ^ w
 
-pub record HeldIn (w : ℕ) (l : Layout) : Type 0 where
+pub record FitsWidth (w : ℕ) (l : Layout) : Type 0 where
   pub align : l .align < 2 ^ w
-  pub word : WordHeld w (l .info)
+  pub word : WordFits w (l .info)
 
 -- `check`: whether a layout is refused
 unfoldable pub checkFor : ℕ → Layout → Outcome (Unit {0})

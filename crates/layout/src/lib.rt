@@ -8,7 +8,7 @@ ghost use Rattle.util.specs.Power.{PowerOfTwo};
 ghost use Rattle.util.specs.Refusal.{answered, refused, unless, Meets};
 ghost use Rattle.util.specs.View.{numberSays};
 ghost use Rattle.trailing.specs.View.{trailingOf};
-ghost use Rattle.layout.specs.Layout.{trailing, layoutCauses, checkFor, HeldIn};
+ghost use Rattle.layout.specs.Layout.{trailing, layoutCauses, checkFor, FitsWidth};
 ghost use Rattle.layout.specs.Extend.{memberAlign, placedAt, extended, badPacking, aboveGreatest, roundUpCauses, roundUpFor, LeastPlace, memberPasses, placeCauses, stepCauses, extendCauses, extendFor, Extended, IsTrailing};
 ghost use Rattle.layout.specs.View.{infoOf, layoutOf, sizedOf, layoutSays, infoSays, checkSays};
 use trailing::TrailingSliceLayout;
@@ -229,7 +229,7 @@ impl DstLayout {
     // Whether the layout is one: its alignment is a power of two and its rounding word, if it has one, is not 0.
     pub fn check(self) -> Check
         ensures answer { λ r. ⌜ checkSays r ≡ checkFor 64 (layoutOf self) ⌝ }
-        ensures meaning { λ r. ⌜ Meets (layoutCauses 64 (layoutOf self)) (λ _. HeldIn 64 (layoutOf self)) (checkSays r) ⌝ }
+        ensures meaning { λ r. ⌜ Meets (layoutCauses 64 (layoutOf self)) (λ _. FitsWidth 64 (layoutOf self)) (checkSays r) ⌝ }
     {
         if util::is_power_of_two(self.align) {
             let size_info = self.size_info;

@@ -7,11 +7,11 @@ use Rattle.util.specs.Refusal.{answered, refused, unless, Meets, Decided, Tells
 use Rattle.util.specs.View.{numberSays}
 use Rattle.util.specs.declared.Answer.{Answer}
 use Rattle.util.specs.declared.Answer.the-variants as Answer
-use Rattle.layout.specs.Extend.{passes8, LeastPlace, roundUpCauses, roundUpFor, memberAlign, extended, badPacking, memberPasses, placeCauses, stepCauses, extendCauses, extendFor, Extended}
+use Rattle.layout.specs.Extend.{roundingPasses, LeastPlace, roundUpCauses, roundUpFor, memberAlign, extended, badPacking, memberPasses, placeCauses, stepCauses, extendCauses, extendFor, Extended}
 use Rattle.layout.specs.declared.Check.{Check}
 use Rattle.layout.specs.declared.Check.the-variants as Check
 use Rattle.layout.specs.View.{checkSays}
-use Rattle.layout.specs.Layout.{Layout, layoutCauses, HeldIn, checkFor, fixed, Info, noWord}
+use Rattle.layout.specs.Layout.{Layout, layoutCauses, FitsWidth, checkFor, fixed, Info, noWord}
 use mathlib.Core.Bool.{Bool, _||_, true, false}
 use Rattle.util.specs.Helpers.{alignCauses}
 use mathlib.Core.Logic.{_⊎_}

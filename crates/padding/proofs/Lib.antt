@@ -2,4 +2,5 @@
 pub mod Padding
 pub mod Settled
 pub mod Marks
+pub mod Only
 pub mod At32

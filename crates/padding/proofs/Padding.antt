@@ -11,20 +11,21 @@ use borrow.Author.Tests.{leb-false, ltb-true, ltb-false}
 use Rattle.util.specs.Width.{M}
 use Rattle.util.specs.Power.{PowerOfTwo}
 use Rattle.util.specs.Round.{up, down}
-use Rattle.util.specs.Refusal.{None, Meets, Decided}
-use Rattle.util.proofs.Refusals.{tells-eq, tells-lt, tells-as, agree, meets}
+use Rattle.util.specs.Refusal.{Tells, None, Meets, Decided}
+use Rattle.util.proofs.Refusals.{tells-true, tells-eq, tells-lt, tells-and, tells-as, agree, meets}
 use Rattle.util.proofs.Powers.{positive, double, power-divides, through}
-use Rattle.util.proofs.Rounding.{down-mod, up-multiple, up-ge, up-near, up-is, up-least, up-shift, up-whole, down-multiple}
+use Rattle.util.proofs.Rounding.{down-is, down-mod, up-multiple, up-ge, up-near, up-is, up-least, up-shift, up-whole, down-multiple}
 use Rattle.util.proofs.Masks.{mask-mod}
 use Rattle.util.proofs.Helpers.{power}
 use Rattle.rounding.specs.Word.{IsWord, highestBit}
 use Rattle.rounding.proofs.Words.{align-is, phase-is, align-power}
 use Rattle.trailing.specs.Size.{Trailing, A, p, sizeWith, sizeAt}
 use Rattle.layout.specs.Layout.{Info, fixed, trailing, Layout, sizeIn, noWord, layoutCauses}
-use Rattle.layout.specs.Extend.{passes8}
-use Rattle.padding.specs.Pad.{fixedPart, coarser, finer, paddedTail, paddedInfo, padded, paddingNeeds, padCauses, padFor, SameShape, Padded}
+use Rattle.layout.specs.Extend.{roundingPasses}
+use Rattle.padding.specs.Pad.{fixedPart, coarser, finer, paddedTail, paddedInfo, padded, paddingNeeds, paddedMark, padCauses, padFor, PaddedTo, PaddedInfo, KeepsMark, Padded}
 use Rattle.util.proofs.Tables.{decided-both, none-both}
 use Rattle.layout.proofs.Layouts.{layout-decided}
+use Rattle.layout.proofs.Passes.{least-place}
 
 -- rounding up to A first changes nothing where A divides a
 pub up-up : (v A a : ℕ) → 0 < A → 0 < a → a % A ≡ 0 → up (up v A) a ≡ up v a
@@ -92,17 +93,33 @@ tail-sizes w {a} t n q h z = go (ltb (A w t) a) refl
         ∙ coarser-with (t .base) (A w t) (p w t) (n * t .elem) a (positive pw) (positive q) (power-divides pw q (omega (arith, ltb-true (A w t) a e)))
     go false e = finer-with (t .base) (A w t) (p w t) (n * t .elem) a (positive q) (power-divides q pw (ltb-false (A w t) a e))
 
-tail-shape : (w a : ℕ) (t : Trailing) → SameShape (trailing t) (trailing (paddedTail w a t))
+-- and the padded tail is what it should be
+tail-padded : (w : ℕ) {a : ℕ} (t : Trailing) → PowerOfTwo a → PaddedTo w a t (paddedTail w a t)
 unfolding paddedTail
-tail-shape w a t = go (ltb (A w t) a)
+tail-padded w {a} t q = go (ltb (A w t) a) refl
   where
-    go : (b : Bool) → SameShape (trailing t) (trailing (cond b (coarser w a t) (finer a t)))
-    go true = (refl, refl)
-    go false = (refl, refl)
+    go : (b : Bool) → ltb (A w t) a ≡ b → PaddedTo w a t (cond b (coarser w a t) (finer a t))
+    go true e = record {
+      offset = refl;
+      elem = refl;
+      below = λ _. (down-is (fixedPart w t) a (positive q), coarser-word w t q);
+      other = λ h. absurd (omega (arith, ltb-true (A w t) a e));
+    }
+    go false e = record {
+      offset = refl;
+      elem = refl;
+      below = λ h. absurd (omega (arith, ltb-false (A w t) a e));
+      other = λ _. (least-place (t .base) a (positive q), refl);
+    }
 
-info-shape : (w a : ℕ) (i : Info) → SameShape i (paddedInfo w a i)
-info-shape w a (fixed s) = tt
-info-shape w a (trailing t) = tail-shape w a t
+info-padded : (w : ℕ) {a : ℕ} (i : Info) → PowerOfTwo a → PaddedInfo w a i (paddedInfo w a i)
+info-padded w {a} (fixed s) q = least-place s a (positive q)
+info-padded w (trailing t) q = tail-padded w t q
+
+mark-told : (w a : ℕ) (i : Info) (mark : Bool) → Tells ((mark ≡ true) × KeepsMark i (paddedInfo w a i)) (paddedMark a i mark)
+mark-told w a (fixed s) mark =
+    tells-and (tells-true mark) (tells-as (ap fixed) (λ (e : fixed (up s a) ≡ fixed s). cc) (tells-eq (up s a) s))
+mark-told w a (trailing t) mark = tells-as (λ e. (e, tt)) (λ x. x .0) (tells-true mark)
 
 info-sizes : (w : ℕ) {a : ℕ} (i : Info) (n : ℕ) → PowerOfTwo a → a < 2 ^ w → (noWord i .means → ⊥) → sizeIn w (paddedInfo w a i) n ≡ up (sizeIn w i n) a
 info-sizes w (fixed s) n q h z = refl
@@ -111,7 +128,7 @@ info-sizes w (trailing t) n q h z = tail-sizes w t n q h z
 -- what padding gives means what it should
 pub pad-decided : (w : ℕ) (l : Layout) → l .align < 2 ^ w → Decided (padCauses w l)
 pad-decided w l h =
-    decided-both (layoutCauses w l) (passes8 w (paddingNeeds w (l .align) (l .info)) ∷ []) (layout-decided w l h)
+    decided-both (layoutCauses w l) (roundingPasses w (paddingNeeds w (l .align) (l .info)) ∷ []) (layout-decided w l h)
     (λ _. (tells-lt (M w) (paddingNeeds w (l .align) (l .info)), λ _. tt))
 
 pub padded-is : (w : ℕ) (l : Layout) → l .align < 2 ^ w → None (layoutCauses w l) → Padded w l (padded w l)
@@ -120,16 +137,16 @@ padded-is w l h z =
     let q : PowerOfTwo (l .align) = power w (l .align) h (z .0) in
     record {
       align = refl;
-      shape = info-shape w (l .align) (l .info);
+      info = info-padded w (l .info) q;
+      mark = mark-told w (l .align) (l .info) (l .mark);
       sizes = λ n _. info-sizes w (l .info) n q h (z .1 .0);
-      mark = refl;
     }
 
 pub pad-meets : (w : ℕ) (l : Layout) → l .align < 2 ^ w → Meets (padCauses w l) (Padded w l) (padFor w l)
 unfolding padFor
 pad-meets w l h =
     meets (padCauses w l) (padded w l) (pad-decided w l h)
-    (λ n. padded-is w l h (none-both (layoutCauses w l) (passes8 w (paddingNeeds w (l .align) (l .info)) ∷ []) n .0))
+    (λ n. padded-is w l h (none-both (layoutCauses w l) (roundingPasses w (paddingNeeds w (l .align) (l .info)) ∷ []) n .0))
 
 -- rounding up adds nothing exactly where the number has no remainder, as a mask tests it
 pub up-same : {a : ℕ} (s : ℕ) → PowerOfTwo a → eqb (bitAnd s (a - 1)) 0 ≡ eqb (up s a) s

@@ -1,17 +1,18 @@
--- Final padding, and what padding a layout needs (document 01, module 4; the Reference's rule layout.repr.c.struct.align and
--- the last step of layout.repr.c.struct.size-field-offset). Assumes nothing.
+-- Final padding, and what padding a layout needs (document 01, module 4; the last step of the Reference's rule
+-- layout.repr.c.struct.size-field-offset). Assumes nothing.
 use mathlib.Core.Path.{_≡_}
-use mathlib.Core.Bool.{Bool, false, cond, not, _&&_, _||_}
+use mathlib.Core.Bool.{Bool, true, false, cond, not, _&&_, _||_}
 use mathlib.Core.List.{List, [], _∷_, _++_}
 use mathlib.Core.Logic.{_⊎_}
-use Prim.Native.Nat.{ℕ, _+_, _%_}
+use Prim.Native.Nat.{ℕ, _+_, _%_, _≤_, _<_}
 use lib.Dec.{eqb, ltb}
 use Rattle.util.specs.Width.{M}
-use Rattle.util.specs.Round.{up, down}
-use Rattle.util.specs.Refusal.{Outcome, Cause, unless}
+use Rattle.util.specs.Round.{up, down, GreatestMultiple}
+use Rattle.util.specs.Refusal.{Outcome, Cause, unless, Tells}
+use Rattle.rounding.specs.Word.{IsWord}
 use Rattle.trailing.specs.Size.{Trailing, A, p, sizeAt, HasSize}
 use Rattle.layout.specs.Layout.{Info, fixed, trailing, Layout, IsCount, sizeIn, layoutCauses}
-use Rattle.layout.specs.Extend.{passes8}
+use Rattle.layout.specs.Extend.{roundingPasses, LeastPlace}
 
 -- a trailing layout under an alignment a above A: f = up(b, A) + p, new base down(f, a), new word a + (f mod a)
 abbrev pub fixedPart : ℕ → Trailing → ℕ
@@ -46,25 +47,38 @@ paddingNeeds w a (fixed s) = up s a
 paddingNeeds w a (trailing t) = cond (ltb (A w t) a) (fixedPart w t) (up (t .base) a)
 
 abbrev pub padCauses : ℕ → Layout → List Cause
-padCauses w l = layoutCauses w l ++ (passes8 w (paddingNeeds w (l .align) (l .info)) ∷ [])
+padCauses w l = layoutCauses w l ++ (roundingPasses w (paddingNeeds w (l .align) (l .info)) ∷ [])
 
 -- `pad_to_align`
 unfoldable pub padFor : ℕ → Layout → Outcome Layout
 padFor w l = unless (padCauses w l) (padded w l)
 
--- two layouts are both fixed, or both trailing with the same o and e
-abbrev pub SameShape : Info → Info → Type 0
-SameShape (fixed s) (fixed r) = Unit {0}
-SameShape (trailing t) (trailing u) = (t .offset ≡ u .offset) × (t .elem ≡ u .elem)
-SameShape (fixed s) (trailing u) = ⊥
-SameShape (trailing t) (fixed r) = ⊥
+-- u is the trailing layout t padded to a: where A is below a, the new base is the greatest multiple of a in the fixed part f, and the
+-- new phase the rest of it; otherwise the base is rounded up to a. The offset and the element size stay.
+pub record PaddedTo (w a : ℕ) (t u : Trailing) : Type 0 where
+  pub offset : u .offset ≡ t .offset
+  pub elem : u .elem ≡ t .elem
+  pub below : A w t < a → GreatestMultiple (fixedPart w t) a (u .base) × IsWord (u .word) a (fixedPart w t % a)
+  pub other : a ≤ A w t → LeastPlace (t .base) a (u .base) × (u .word ≡ t .word)
 
--- what padding means: the sizes are the old ones rounded up to the alignment, at every count, as whole numbers
+-- a fixed size is rounded up
+abbrev pub PaddedInfo : ℕ → ℕ → Info → Info → Type 0
+PaddedInfo w a (fixed s) (fixed r) = LeastPlace s a r
+PaddedInfo w a (trailing t) (trailing u) = PaddedTo w a t u
+PaddedInfo w a (fixed s) (trailing u) = ⊥
+PaddedInfo w a (trailing t) (fixed r) = ⊥
+
+-- the mark does not fall: a fixed layout has no bytes added; a trailing one's mark stays
+abbrev pub KeepsMark : Info → Info → Type 0
+KeepsMark (fixed s) i = i ≡ fixed s
+KeepsMark (trailing t) i = Unit {0}
+
+-- what padding means; and the sizes are then the old ones rounded up to the alignment, at every count, as whole numbers
 pub record Padded (w : ℕ) (l r : Layout) : Type 0 where
   pub align : r .align ≡ l .align
-  pub shape : SameShape (l .info) (r .info)
+  pub info : PaddedInfo w (l .align) (l .info) (r .info)
+  pub mark : Tells ((l .mark ≡ true) × KeepsMark (l .info) (r .info)) (r .mark)
   pub sizes : (n : ℕ) → IsCount (l .info) n → sizeIn w (r .info) n ≡ up (sizeIn w (l .info) n) (l .align)
-  pub mark : r .mark ≡ paddedMark (l .align) (l .info) (l .mark)
 
 -- `requires_static_padding`: the mark is unset
 unfoldable pub staticFor : ℕ → Layout → Outcome Bool

@@ -11,7 +11,7 @@ ghost use Rattle.util.specs.View.{decisionSays};
 ghost use Rattle.rounding.specs.Word.{IsWord, alignOf};
 ghost use Rattle.trailing.specs.View.{trailingOf};
 ghost use Rattle.layout.specs.Layout.{trailing, noWord, layoutCauses};
-ghost use Rattle.layout.specs.Extend.{passes8};
+ghost use Rattle.layout.specs.Extend.{roundingPasses};
 ghost use Rattle.layout.specs.View.{infoOf, layoutOf, layoutSays, infoSays};
 ghost use Rattle.padding.specs.Pad.{fixedPart, coarser, finer, paddedTail, paddedInfo, paddedMark, padded, paddingNeeds, padCauses, padFor, Padded, staticFor, DynamicPadding, dynamicPadding, dynamicFor};
 use layout::Check;
@@ -35,7 +35,7 @@ fn pad_coarser(
     align: u64,
 ) -> SizeInfoAnswer
     requires { ⌜ PowerOfTwo align × IsWord (tail .«size_rounding_align_and_phase» .0) «size_align» «size_phase» ⌝ }
-    ensures { λ r. ⌜ infoSays r ≡ unless (passes8 64 (fixedPart 64 (trailingOf tail)) ∷ []) (trailing (coarser 64 align (trailingOf tail))) ⌝ }
+    ensures { λ r. ⌜ infoSays r ≡ unless (roundingPasses 64 (fixedPart 64 (trailingOf tail)) ∷ []) (trailing (coarser 64 align (trailingOf tail))) ⌝ }
 {
     match layout::round_up(tail.size_base, size_align) {
         Answer::Number(rounded_base) => {
@@ -59,7 +59,7 @@ fn pad_coarser(
 // Padding to an alignment that divides that of the rounding word: what the word rounds is a multiple of it already.
 fn pad_finer(tail: TrailingSliceLayout, align: u64) -> SizeInfoAnswer
     requires { ⌜ PowerOfTwo align ⌝ }
-    ensures { λ r. ⌜ infoSays r ≡ unless (passes8 64 (up (tail .«size_base») align) ∷ []) (trailing (finer align (trailingOf tail))) ⌝ }
+    ensures { λ r. ⌜ infoSays r ≡ unless (roundingPasses 64 (up (tail .«size_base») align) ∷ []) (trailing (finer align (trailingOf tail))) ⌝ }
 {
     let word = tail.size_rounding_align_and_phase;
     match layout::round_up(tail.size_base, align) {
@@ -75,7 +75,7 @@ fn pad_finer(tail: TrailingSliceLayout, align: u64) -> SizeInfoAnswer
 
 fn pad_trailing(tail: TrailingSliceLayout, align: u64) -> SizeInfoAnswer
     requires { ⌜ PowerOfTwo align × (0 < tail .«size_rounding_align_and_phase» .0) ⌝ }
-    ensures { λ r. ⌜ infoSays r ≡ unless (passes8 64 (paddingNeeds 64 align (trailing (trailingOf tail))) ∷ []) (trailing (paddedTail 64 align (trailingOf tail))) ⌝ }
+    ensures { λ r. ⌜ infoSays r ≡ unless (roundingPasses 64 (paddingNeeds 64 align (trailing (trailingOf tail))) ∷ []) (trailing (paddedTail 64 align (trailingOf tail))) ⌝ }
 {
     let word = tail.size_rounding_align_and_phase;
     match word.components() {
@@ -143,7 +143,7 @@ fn dynamic_padding(size_info: SizeInfo) -> Decision
 
 fn pad_checked(layout: DstLayout) -> LayoutAnswer
     requires { ⌜ None (layoutCauses 64 (layoutOf layout)) ⌝ }
-    ensures { λ r. ⌜ layoutSays r ≡ unless (passes8 64 (paddingNeeds 64 (layout .align) (infoOf (layout .«size_info»))) ∷ []) (padded 64 (layoutOf layout)) ⌝ }
+    ensures { λ r. ⌜ layoutSays r ≡ unless (roundingPasses 64 (paddingNeeds 64 (layout .align) (infoOf (layout .«size_info»))) ∷ []) (padded 64 (layoutOf layout)) ⌝ }
 {
     let align = layout.align;
     let size_info = layout.size_info;

@@ -3,4 +3,5 @@ pub mod LittleEndian
 pub mod Records
 pub mod Scalars
 pub mod RoundTrips
+pub mod Only
 pub mod At32

@@ -6,7 +6,7 @@ use Rattle.util.specs.Power.{PowerOfTwo}
 use Rattle.util.specs.Round.{down, padding, up}
 use Rattle.trailing.specs.Size.{Trailing, A, p, sizeAt, HasSize, sizeWith, sizeOffset}
 use Rattle.trailing.specs.Count.{GreatestCount, countWithin}
-use Rattle.trailing.specs.Calls.{PaddingAt, paddingAt, sizeOffsetFor, SizeOffset, maxTrailingCauses, maxTrailingFor, GreatestIn, paddingForElems, sizeCauses, sizeFor, advanceCauses, advanced, advanceFor, Advanced, sameCauses, sameFor, SameAnswer}
+use Rattle.trailing.specs.Calls.{PaddingAt, paddingAt, sizeOffsetFor, SizeOffset, maxTrailingCauses, maxTrailingFor, GreatestIn, paddingForElems, sizeCauses, sizeFor, advanceCauses, advanced, advanceFor, Advanced, sameCauses, sameFor, FoundSame}
 use Rattle.util.specs.Refusal.{Tells, answered, refused, Meets}
 use Rattle.trailing.specs.Sequence.{EqualSizes, SameStart, sameStart, SameSequence, sameSequence}
 use Rattle.util.specs.Width.{M}
@@ -121,7 +121,7 @@ advance-refused {a} {q} = Calls.advance-refused {a = a} {q = q} 32
 pub advance-answered : {a q : ℕ} (t : Trailing) (y e : ℕ) → IsWord (t .word) a q → t .word < 2 ^ 32 → down (t .base) a + q + y ≤ M 32 → advanceFor 32 t y e ≡ answered (record { offset = t .offset; elem = e; base = t .base + down (q + y) a; word = a + (q + y) % a })
 advance-answered {a} {q} = Calls.advance-answered {a = a} {q = q} 32
 
-pub same-meets : (s t : Trailing) → s .word < 2 ^ 32 → t .word < 2 ^ 32 → Meets (sameCauses s t) (SameAnswer 32 s t) (sameFor 32 s t)
+pub same-meets : (s t : Trailing) → s .word < 2 ^ 32 → t .word < 2 ^ 32 → Meets (sameCauses s t) (FoundSame 32 s t) (sameFor 32 s t)
 same-meets = Calls.same-meets 32
 
 pub same-answered : (s t : Trailing) → 0 < s .word → 0 < t .word → sameFor 32 s t ≡ answered (sameSequence 32 s t)

@@ -19,7 +19,7 @@ use Rattle.rounding.proofs.Words.{parts-of, at-parts, align-is, phase-is, not-z
 use Rattle.trailing.specs.Size.{Trailing, A, p, sizeWith, sizeAt, HasSize, sizeOffset}
 use Rattle.trailing.specs.Count.{GreatestBytes, bytesWithin}
 use Rattle.trailing.specs.Sequence.{sameSequence}
-use Rattle.trailing.specs.Calls.{sizeOffsetFor, SizeOffset, noRoom, maxTrailingCauses, maxTrailingFor, GreatestIn, paddingAt, paddingForElems, PaddingAt, noSize, sizeCauses, sizeFor, advancePasses, advanceCauses, advanced, advanceFor, Advanced, sameCauses, sameFor, SameAnswer}
+use Rattle.trailing.specs.Calls.{sizeOffsetFor, SizeOffset, noRoom, maxTrailingCauses, maxTrailingFor, GreatestIn, paddingAt, paddingForElems, PaddingAt, noSize, sizeCauses, sizeFor, advancePasses, advanceCauses, advanced, advanceFor, Advanced, sameCauses, sameFor, FoundSame}
 use Rattle.trailing.proofs.Sizes.{size-zero, size-mono, greatest-bytes, tells-room, bytes-by-blocks, padding-congruent, one-padding, advanced-size}
 use Rattle.trailing.proofs.Sequences.{tells-same, same-sizes}
 
@@ -150,13 +150,13 @@ advance-answered w t y e x h l =
     simp (ne-eqb (t .word) 0 (λ z. omega (arith, not-zero x)), le-ltb (M w) (sizeOffset w t + y) (omega arith))
     (at-parts w (λ a q. answered (record { offset = t .offset; elem = e; base = t .base + down (q + y) a; word = a + (q + y) % a })) x h)
 
-pub same-meets : (w : ℕ) (s t : Trailing) → s .word < 2 ^ w → t .word < 2 ^ w → Meets (sameCauses s t) (SameAnswer w s t) (sameFor w s t)
+pub same-meets : (w : ℕ) (s t : Trailing) → s .word < 2 ^ w → t .word < 2 ^ w → Meets (sameCauses s t) (FoundSame w s t) (sameFor w s t)
 unfolding sameFor
 same-meets w s t hs ht =
     meets (sameCauses s t) (sameSequence w s t) (tells-eq (s .word) 0, λ _. (tells-eq (t .word) 0, λ _. tt))
     (λ n. record {
       exactly = tells-same w s t;
-      equal = λ e. same-sizes w s t (omega (arith, n .0)) hs (omega (arith, n .1 .0)) ht (yes (tells-same w s t) e);
+      means = λ e. same-sizes w s t (omega (arith, n .0)) hs (omega (arith, n .1 .0)) ht (yes (tells-same w s t) e);
     })
 
 pub same-answered : (w : ℕ) (s t : Trailing) → 0 < s .word → 0 < t .word → sameFor w s t ≡ answered (sameSequence w s t)

@@ -2,4 +2,5 @@ pub mod Sizes
 pub mod Sequences
 pub mod Calls
 pub mod Told
+pub mod Only
 pub mod At32

@@ -9,7 +9,7 @@ use Rattle.util.specs.Refusal.{Outcome, answered, refused, Tells, holds, fails,
 use Rattle.util.specs.View.{numberSays}
 use Rattle.util.specs.declared.Answer.{Answer}
 use Rattle.util.specs.declared.Answer.the-variants as Answer
-use Rattle.util.proofs.Refusals.{granted, stopped, known, clear, tells-eq, tells-le, tells-lt}
+use Rattle.util.proofs.Refusals.{answered-means, refused-means, known, clear, tells-eq, tells-le, tells-lt}
 use Rattle.util.proofs.Tables.{told-by, apart, answer-is, accepted-none}
 use Rattle.trailing.specs.Size.{Trailing, A, p, sizeWith, sizeAt, HasSize, sizeOffset}
 use Rattle.trailing.specs.Count.{GreatestBytes}
@@ -25,12 +25,12 @@ use Rattle.trailing.proofs.Calls.{max-trailing-meets, size-meets}
 -- of `max_trailing_bytes`: the number is the greatest; refused, a layout whose word is not 0 has no size within the room
 pub room-told : {m : ℕ} (w : ℕ) (t : Trailing) (L : ℕ) (r : Answer) → t .word < 2 ^ w → numberSays r ≡ maxTrailingFor w t L → r ≡ Answer.Number m → GreatestIn w t L m
 room-told w t L r h e g =
-    granted (subst (λ (o : Outcome ℕ). Meets (maxTrailingCauses w t L) (GreatestIn w t L) o) (sym e ∙ ap numberSays g) (max-trailing-meets w t L h)) .1
+    answered-means (subst (λ (o : Outcome ℕ). Meets (maxTrailingCauses w t L) (GreatestIn w t L) o) (sym e ∙ ap numberSays g) (max-trailing-meets w t L h)) .1
 
 pub room-refused : {k : ℕ} (w : ℕ) (t : Trailing) (L : ℕ) (r : Answer) → 0 < t .word → t .word < 2 ^ w → numberSays r ≡ maxTrailingFor w t L → r ≡ Answer.Refused k
     → (x : ℕ) → sizeWith (t .base) (A w t) (p w t) x ≤ L → ⊥
 room-refused {k} w t L r n h e g =
-    go (stopped (subst (λ (o : Outcome ℕ). Meets (maxTrailingCauses w t L) (GreatestIn w t L) o) (sym e ∙ ap numberSays g) (max-trailing-meets w t L h)))
+    go (refused-means (subst (λ (o : Outcome ℕ). Meets (maxTrailingCauses w t L) (GreatestIn w t L) o) (sym e ∙ ap numberSays g) (max-trailing-meets w t L h)))
   where
     go : First (maxTrailingCauses w t L) k → (x : ℕ) → sizeWith (t .base) (A w t) (p w t) x ≤ L → ⊥
     go (inl z) = absurd (omega (arith, z .0))
@@ -40,12 +40,12 @@ room-refused {k} w t L r n h e g =
 -- of `size_for_elems`: the size, which exists; refused, a layout whose word is not 0 has none
 pub size-told : {s : ℕ} (w : ℕ) (t : Trailing) (n : ℕ) (r : SizeAnswer) → t .word < 2 ^ w → sizeSays r ≡ sizeFor w t n → r ≡ Size.Size s → HasSize w t n × (s ≡ sizeAt w t n)
 size-told w t n r h e g =
-    let m = granted (subst (λ (o : Outcome ℕ). Meets (sizeCauses w t n) (λ s. s ≡ sizeAt w t n) o) (sym e ∙ ap sizeSays g) (size-meets w t n h)) in
+    let m = answered-means (subst (λ (o : Outcome ℕ). Meets (sizeCauses w t n) (λ s. s ≡ sizeAt w t n) o) (sym e ∙ ap sizeSays g) (size-meets w t n h)) in
     (known (tells-le (sizeAt w t n) (M w)) (m .0 .1 .0), m .1)
 
 pub size-missing : {k : ℕ} (w : ℕ) (t : Trailing) (n : ℕ) (r : SizeAnswer) → 0 < t .word → t .word < 2 ^ w → sizeSays r ≡ sizeFor w t n → r ≡ Size.Refused k → M w < sizeAt w t n
 size-missing {k} w t n r p h e g =
-    go (stopped (subst (λ (o : Outcome ℕ). Meets (sizeCauses w t n) (λ s. s ≡ sizeAt w t n) o) (sym e ∙ ap sizeSays g) (size-meets w t n h)))
+    go (refused-means (subst (λ (o : Outcome ℕ). Meets (sizeCauses w t n) (λ s. s ≡ sizeAt w t n) o) (sym e ∙ ap sizeSays g) (size-meets w t n h)))
   where
     go : First (sizeCauses w t n) k → M w < sizeAt w t n
     go (inl z) = absurd (omega (arith, z .0))

@@ -1,12 +1,12 @@
 -- The functions of trailing layouts (document 01, module 3): their refusals, what each gives at w bits, and what that means. Assumes nothing.
 use mathlib.Core.Path.{_≡_}
-use mathlib.Core.Bool.{Bool, true}
+use mathlib.Core.Bool.{Bool}
 use mathlib.Core.List.{List, [], _∷_}
 use Prim.Native.Nat.{ℕ, _+_, _-_, _*_, _%_, _^_, _≤_, _<_}
 use lib.Dec.{ltb}
 use Rattle.util.specs.Width.{M}
 use Rattle.util.specs.Round.{down, GreatestMultiple}
-use Rattle.util.specs.Refusal.{Outcome, Cause, unless, Tells}
+use Rattle.util.specs.Refusal.{Outcome, Cause, unless, YesMeans}
 use Rattle.rounding.specs.Word.{IsWord, wordZero, wordCauses}
 use Rattle.trailing.specs.Size.{Trailing, A, p, sizeWith, sizeAt, HasSize, sizeOffset}
 use Rattle.trailing.specs.Count.{GreatestBytes, bytesWithin}
@@ -100,6 +100,5 @@ unfoldable pub sameFor : ℕ → Trailing → Trailing → Outcome Bool
 sameFor w s t = unless (sameCauses s t) (sameSequence w s t)
 
 -- the answer is yes exactly when the condition holds, and a yes means equal sizes at every count
-pub record SameAnswer (w : ℕ) (s t : Trailing) (r : Bool) : Type 0 where
-  pub exactly : Tells (SameSequence w s t) r
-  pub equal : r ≡ true → EqualSizes w s t
+abbrev pub FoundSame : ℕ → Trailing → Trailing → Bool → Type 0
+FoundSame w s t = YesMeans (SameSequence w s t) (EqualSizes w s t)

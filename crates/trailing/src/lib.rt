@@ -8,7 +8,7 @@ ghost use Rattle.util.specs.Refusal.{answered, Meets};
 ghost use Rattle.util.specs.View.{numberSays, decisionSays};
 ghost use Rattle.rounding.specs.Word.{IsWord, wordCauses};
 ghost use Rattle.trailing.specs.Sequence.{sameStart, sameStride, sameSequence};
-ghost use Rattle.trailing.specs.Calls.{sizeOffsetFor, GreatestIn, SizeOffset, maxTrailingCauses, maxTrailingFor, paddingForElems, PaddingAt, sizeCauses, sizeFor, advanceCauses, advanceFor, Advanced, sameCauses, sameFor, SameAnswer};
+ghost use Rattle.trailing.specs.Calls.{sizeOffsetFor, GreatestIn, SizeOffset, maxTrailingCauses, maxTrailingFor, paddingForElems, PaddingAt, sizeCauses, sizeFor, advanceCauses, advanceFor, Advanced, sameCauses, sameFor, FoundSame};
 ghost use Rattle.trailing.specs.Size.{sizeAt, HasSize};
 ghost use Rattle.trailing.specs.View.{trailingOf, sizeSays, advanceSays};
 use rounding::ComponentsAnswer;
@@ -288,7 +288,7 @@ impl TrailingSliceLayout {
     // Whether the two layouts are found to have the same size at every count. A no does not mean that they have not.
     pub fn has_same_size_sequence(self, other: TrailingSliceLayout) -> Decision
         ensures answer { λ r. ⌜ decisionSays r ≡ sameFor 64 (trailingOf self) (trailingOf other) ⌝ }
-        ensures meaning { λ r. ⌜ Meets (sameCauses (trailingOf self) (trailingOf other)) (SameAnswer 64 (trailingOf self) (trailingOf other)) (decisionSays r) ⌝ }
+        ensures meaning { λ r. ⌜ Meets (sameCauses (trailingOf self) (trailingOf other)) (FoundSame 64 (trailingOf self) (trailingOf other)) (decisionSays r) ⌝ }
     {
         let word = self.size_rounding_align_and_phase;
         let other_word = other.size_rounding_align_and_phase;

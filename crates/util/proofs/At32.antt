@@ -7,7 +7,7 @@ use Rattle.util.specs.Power.{PowerOfTwo, powerOfTwo}
 use Rattle.util.specs.Refusal.{Tells, answered, Meets}
 use Rattle.util.specs.Round.{down, padding, GreatestMultiple, LeastPadding}
 use Rattle.util.specs.Helpers.{badAlign, alignCauses, alignsCauses, paddingFor, roundDownFor, maxFor, minFor, Larger, Smaller}
-use Rattle.util.specs.Width.{M, held, passes, heldIn}
+use Rattle.util.specs.Width.{M, fitting, passes, checked}
 use Rattle.util.specs.View.{numberSays, productSays}
 use Rattle.util.specs.declared.Answer.{Answer}
 use Rattle.util.specs.declared.Answer.the-variants as Answer
@@ -73,14 +73,14 @@ max-answered {a} {b} = Helpers.max-answered {a = a} {b = b} 32
 pub min-answered : {a b : ℕ} → PowerOfTwo a → PowerOfTwo b → a < 2 ^ 32 → b < 2 ^ 32 → minFor 32 a b ≡ answered (min a b)
 min-answered {a} {b} = Helpers.min-answered {a = a} {b = b} 32
 
-pub held-within : (x : ℕ) → x ≤ M 32 → heldIn 32 x ≡ held x
-held-within = Products.held-within 32
+pub checked-within : (x : ℕ) → x ≤ M 32 → checked 32 x ≡ fitting x
+checked-within = Products.checked-within 32
 
-pub held-past : (x : ℕ) → M 32 < x → heldIn 32 x ≡ passes
-held-past = Products.held-past 32
+pub checked-past : (x : ℕ) → M 32 < x → checked 32 x ≡ passes
+checked-past = Products.checked-past 32
 
-pub held-wrapped : (x y : ℕ) → y ≡ x % 2 ^ 32 → x < 2 ^ 32 → held y ≡ heldIn 32 x
-held-wrapped = Products.held-wrapped 32
+pub checked-wrapped : (x y : ℕ) → y ≡ x % 2 ^ 32 → x < 2 ^ 32 → fitting y ≡ checked 32 x
+checked-wrapped = Products.checked-wrapped 32
 
 pub down-told : {a x : ℕ} (v : ℕ) (r : Answer) → numberSays r ≡ roundDownFor 32 v a → PowerOfTwo a → a < 2 ^ 32 → r ≡ Answer.Number x → x ≡ down v a
 down-told {a} {x} = Told.down-told {a = a} {x = x} 32
@@ -94,8 +94,8 @@ padding-told {a} {x} = Told.padding-told {a = a} {x = x} 32
 pub padding-kept : {a k : ℕ} (v : ℕ) (r : Answer) → numberSays r ≡ paddingFor 32 v a → PowerOfTwo a → a < 2 ^ 32 → r ≡ Answer.Refused k → ⊥
 padding-kept {a} {k} = Told.padding-kept {a = a} {k = k} 32
 
-pub product-told : {x : ℕ} (y : ℕ) (r : Product) → productSays r ≡ heldIn 32 y → r ≡ Product.Fits x → (x ≡ y) × (y ≤ M 32)
+pub product-told : {x : ℕ} (y : ℕ) (r : Product) → productSays r ≡ checked 32 y → r ≡ Product.Fits x → (x ≡ y) × (y ≤ M 32)
 product-told {x} = Told.product-told {x = x} 32
 
-pub product-past : (y : ℕ) (r : Product) → productSays r ≡ heldIn 32 y → r ≡ Product.Passes → M 32 < y
+pub product-past : (y : ℕ) (r : Product) → productSays r ≡ checked 32 y → r ≡ Product.Passes → M 32 < y
 product-past = Told.product-past 32

@@ -7,4 +7,5 @@ pub mod Helpers
 pub mod Products
 pub mod Told
 pub mod Tables
+pub mod Only
 pub mod At32

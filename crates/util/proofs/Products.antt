@@ -6,7 +6,7 @@ use lib.Pow.{pow-add, shl-lt, split}
 use borrow.Author.Tests.{le-leb, lt-leb}
 use native.Mathlib.Nat.{le-of-lt, lt-of-le-of-lt, mul-le-mul-left, mul-add-mod-self-right, div-add-mod', add-mod-mod, mod-lt, mod-eq-of-lt, div-mul-le-self, mul-div-cancel}
 use native.Mathlib.Omega.{arith}
-use Rattle.util.specs.Width.{M, held, passes, heldIn}
+use Rattle.util.specs.Width.{M, fitting, passes, checked}
 use Rattle.util.proofs.Refusals.{known, tells-le}
 
 -- a number of s bits times one of t bits has at most s + t bits
@@ -14,15 +14,15 @@ pub mul-lt-pow : {a b : ℕ} (s t : ℕ) → a < 2 ^ s → b < 2 ^ t → a * b <
 mul-lt-pow {a} s t ha hb = lt-of-le-of-lt (mul-le-mul-left a (le-of-lt hb)) (shl-lt s t ha)
 
 -- w bits hold a number; they do not
-pub held-within : (w x : ℕ) → x ≤ M w → heldIn w x ≡ held x
-held-within w x h = simp (le-leb x (M w) h)
+pub checked-within : (w x : ℕ) → x ≤ M w → checked w x ≡ fitting x
+checked-within w x h = simp (le-leb x (M w) h)
 
-pub held-past : (w x : ℕ) → M w < x → heldIn w x ≡ passes
-held-past w x h = simp (lt-leb x (M w) h)
+pub checked-past : (w x : ℕ) → M w < x → checked w x ≡ passes
+checked-past w x h = simp (lt-leb x (M w) h)
 
 -- a number of w bits is what is left of it when it wraps
-pub held-wrapped : (w x y : ℕ) → y ≡ x % 2 ^ w → x < 2 ^ w → held y ≡ heldIn w x
-held-wrapped w x y e h = ap held (e ∙ mod-eq-of-lt h) ∙ sym (held-within w x (omega arith))
+pub checked-wrapped : (w x y : ℕ) → y ≡ x % 2 ^ w → x < 2 ^ w → fitting y ≡ checked w x
+checked-wrapped w x y e h = ap fitting (e ∙ mod-eq-of-lt h) ∙ sym (checked-within w x (omega arith))
 
 -- a product that wraps at n, divided by one factor: it gives the other exactly where a * b is below n
 pub product-within : (n a b : ℕ) → 0 < n → a * b % n / b ≡ a → a * b < n

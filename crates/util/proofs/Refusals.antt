@@ -1,5 +1,5 @@
 -- Laws of refusal tables. Assumes nothing.
-use mathlib.Core.Path.{_≡_, refl, sym, subst, ap}
+use mathlib.Core.Path.{_≡_, refl, sym, subst, ap, _∙_}
 use mathlib.Core.Bool.{Bool, true, false, cond, not, _&&_, _||_}
 use mathlib.Core.List.{List, [], _∷_}
 use mathlib.Core.Logic.{_⊎_, inl, inr, ⊎-elim}
@@ -7,7 +7,7 @@ use Prim.Native.Nat.{ℕ, suc, _≤_, _<_}
 use lib.Dec.{eqb, leb, ltb}
 use borrow.Author.Tests.{eqb-true, eqb-false, leb-true, leb-false}
 use native.Mathlib.Omega.{arith}
-use Rattle.util.specs.Refusal.{Outcome, answered, refused, Cause, unless, Tells, holds, fails, None, First, Meets, grants, refuses, Decided}
+use Rattle.util.specs.Refusal.{Outcome, answered, refused, Cause, unless, Tells, holds, fails, None, First, Meets, answers, refuses, Decided}
 
 -- a decided test that came out true, or false
 pub yes : {P : Type 0} {b : Bool} → Tells P b → b ≡ true → P
@@ -59,6 +59,11 @@ pub tells-not : {P : Type 0} {b : Bool} → Tells P b → Tells (P → ⊥) (not
 tells-not (holds p) = fails (λ n. n p)
 tells-not (fails n) = holds n
 
+-- a Bool tells whether it is true
+pub tells-true : (b : Bool) → Tells (b ≡ true) b
+tells-true true = holds refl
+tells-true false = fails (λ e. let z : _≡_ {A = ℕ} 0 1 = cc in omega arith)
+
 -- a test decides whatever its statement is the same as
 pub tells-as : {P Q : Type 0} {b : Bool} → (P → Q) → (Q → P) → Tells P b → Tells Q b
 tells-as f g (holds p) = holds (f p)
@@ -76,7 +81,7 @@ tells-or (fails n) (holds q) = holds (inr q)
 tells-or (fails n) (fails m) = fails (⊎-elim n m)
 
 later : {T : Type 0} {c : Cause} {cs : List Cause} {P : T → Type 0} {r : Outcome T} → (c .means → ⊥) → Meets cs P r → Meets (c ∷ cs) P r
-later n (grants m p) = grants (n, m) p
+later n (answers m p) = answers (n, m) p
 later n (refuses f) = refuses (inr (n, f))
 
 one : {T : Type 0} (c : Cause) {cs : List Cause} {P : T → Type 0} {r : Outcome T} {b : Bool} → Tells (c .means) b
@@ -87,7 +92,7 @@ one c (fails n) f = later n (f n)
 -- where the tests decide their statements and x has the property whenever no cause holds, the outcome means what it should
 pub meets : {T : Type 0} (cs : List Cause) {P : T → Type 0} (x : T) → Decided cs → (None cs → P x) → Meets cs P (unless cs x)
 unfolding unless
-meets [] x d f = grants tt (f tt)
+meets [] x d f = answers tt (f tt)
 meets (c ∷ cs) x d f = one c (d .0) (λ n. meets cs x (d .1 n) (λ m. f (n, m)))
 
 -- where no cause holds, x is the answer
@@ -105,8 +110,27 @@ pub told-also : {T H : Type 0} {cs : List Cause} {P : T → Type 0} {r o : Outco
 told-also {T} {H} {cs} {P} m e h = (e, (subst (λ (x : Outcome T). Meets cs P x) (sym e) m, h))
 
 -- what an answer, and what a refusal, that means what it should says
-pub granted : {T : Type 0} {cs : List Cause} {P : T → Type 0} {x : T} → Meets cs P (answered x) → None cs × P x
-granted (grants n p) = (n, p)
+pub answered-means : {T : Type 0} {cs : List Cause} {P : T → Type 0} {x : T} → Meets cs P (answered x) → None cs × P x
+answered-means (answers n p) = (n, p)
 
-pub stopped : {T : Type 0} {cs : List Cause} {P : T → Type 0} {k : ℕ} → Meets cs P (refused k) → First cs k
-stopped (refuses f) = f
+pub refused-means : {T : Type 0} {cs : List Cause} {P : T → Type 0} {k : ℕ} → Meets cs P (refused k) → First cs k
+refused-means (refuses f) = f
+
+-- a table gives one number at most, and none where no cause holds
+pub one-number : (cs : List Cause) (j k : ℕ) → First cs j → First cs k → j ≡ k
+one-number (c ∷ cs) j k (inl (p, e)) (inl (q, f)) = e ∙ sym f
+one-number (c ∷ cs) j k (inl (p, e)) (inr (n, f)) = absurd (n p)
+one-number (c ∷ cs) j k (inr (n, e)) (inl (q, f)) = absurd (n q)
+one-number (c ∷ cs) j k (inr (n, e)) (inr (m, f)) = one-number cs j k e f
+
+no-number : (cs : List Cause) (k : ℕ) → None cs → First cs k → ⊥
+no-number (c ∷ cs) k n (inl (p, e)) = n .0 p
+no-number (c ∷ cs) k n (inr (m, f)) = no-number cs k (n .1) f
+
+-- a meaning that one answer at most has leaves one outcome
+pub one-outcome : {T : Type 0} (cs : List Cause) (P : T → Type 0) → ((x y : T) → P x → P y → x ≡ y)
+    → {r s : Outcome T} → Meets cs P r → Meets cs P s → r ≡ s
+one-outcome cs P u (answers {x = x} n p) (answers {x = y} m q) = ap answered (u x y p q)
+one-outcome cs P u (answers n p) (refuses {k = k} f) = absurd (no-number cs k n f)
+one-outcome cs P u (refuses {k = k} e) (answers n p) = absurd (no-number cs k n e)
+one-outcome cs P u (refuses {k = j} e) (refuses {k = k} f) = ap refused (one-number cs j k e f)

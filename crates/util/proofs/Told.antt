@@ -3,7 +3,7 @@ use mathlib.Core.Path.{_≡_, sym, ap, _∙_}
 use mathlib.Core.Bool.{Bool, cond}
 use Prim.Native.Nat.{ℕ, _-_, _^_, _≤_, _<_}
 use native.Mathlib.Omega.{arith}
-use Rattle.util.specs.Width.{M, Held, held, passes, heldIn}
+use Rattle.util.specs.Width.{M, Checked, fitting, passes, checked}
 use Rattle.util.specs.Power.{PowerOfTwo}
 use Rattle.util.specs.Round.{down, padding}
 use Rattle.util.specs.Refusal.{Outcome, answered, refused, Tells, holds, fails}
@@ -40,16 +40,16 @@ pub padding-kept : {a k : ℕ} (w v : ℕ) (r : Answer) → numberSays r ≡ pad
 padding-kept w v r e p h g = number-kept r e (padding-answered w v p h) g
 
 -- a product that fits is the product, and one that does not is past the greatest number
-pub product-told : {x : ℕ} (w y : ℕ) (r : Product) → productSays r ≡ heldIn w y → r ≡ Product.Fits x → (x ≡ y) × (y ≤ M w)
+pub product-told : {x : ℕ} (w y : ℕ) (r : Product) → productSays r ≡ checked w y → r ≡ Product.Fits x → (x ≡ y) × (y ≤ M w)
 product-told {x} w y r e g = go (tells-le y (M w)) (sym (ap productSays g) ∙ e)
   where
-    go : {b : Bool} → Tells (y ≤ M w) b → held x ≡ cond b (held y) passes → (x ≡ y) × (y ≤ M w)
+    go : {b : Bool} → Tells (y ≤ M w) b → fitting x ≡ cond b (fitting y) passes → (x ≡ y) × (y ≤ M w)
     go (holds l) s = (cc, l)
     go (fails n) s = let z : _≡_ {A = ℕ} 0 1 = cc in absurd (omega arith)
 
-pub product-past : (w y : ℕ) (r : Product) → productSays r ≡ heldIn w y → r ≡ Product.Passes → M w < y
+pub product-past : (w y : ℕ) (r : Product) → productSays r ≡ checked w y → r ≡ Product.Passes → M w < y
 product-past w y r e g = go (tells-le y (M w)) (sym (ap productSays g) ∙ e)
   where
-    go : {b : Bool} → Tells (y ≤ M w) b → passes ≡ cond b (held y) passes → M w < y
+    go : {b : Bool} → Tells (y ≤ M w) b → passes ≡ cond b (fitting y) passes → M w < y
     go (holds l) s = let z : _≡_ {A = ℕ} 0 1 = cc in absurd (omega arith)
     go (fails n) s = omega (arith, n)

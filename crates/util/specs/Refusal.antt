@@ -26,6 +26,11 @@ pub data Tells (P : Type 0) : Bool → Type 0 where
   holds : P → Tells P true
   fails : (P → ⊥) → Tells P false
 
+-- the answer of a test tells whether P holds, and a yes means Q besides
+pub record YesMeans (P Q : Type 0) (r : Bool) : Type 0 where
+  pub exactly : Tells P r
+  pub means : r ≡ true → Q
+
 -- no cause of the table holds
 abbrev pub None : List Cause → Type 0
 None [] = Unit {0}
@@ -38,7 +43,7 @@ First (c ∷ cs) k = (c .means × (k ≡ c .number)) ⊎ ((c .means → ⊥) × 
 
 -- what an outcome means: answered, no cause holds and P does of what was answered; refused, by the first cause that holds
 pub data Meets {T : Type 0} (cs : List Cause) (P : T → Type 0) : Outcome T → Type 0 where
-  grants : {x : T} → None cs → P x → Meets cs P (answered x)
+  answers : {x : T} → None cs → P x → Meets cs P (answered x)
   refuses : {k : ℕ} → First cs k → Meets cs P (refused k)
 
 -- each test of a table decides its statement, where no cause before it holds

@@ -1,7 +1,7 @@
 -- What the answers of this crate say: document 01's number and values for each case. Assumes nothing.
 use mathlib.Core.Bool.{Bool}
 use Prim.Native.Nat.{ℕ}
-use Rattle.util.specs.Width.{Held, held, passes}
+use Rattle.util.specs.Width.{Checked, fitting, passes}
 use Rattle.util.specs.Refusal.{Outcome, answered, refused}
 use Rattle.util.specs.declared.Answer.{Answer}
 use Rattle.util.specs.declared.Answer.the-variants as Answer
@@ -18,6 +18,6 @@ abbrev pub decisionSays : Decision → Outcome Bool
 decisionSays (Decision.Is b) = answered b
 decisionSays (Decision.Refused k) = refused k
 
-abbrev pub productSays : Product → Held
-productSays (Product.Fits n) = held n
+abbrev pub productSays : Product → Checked
+productSays (Product.Fits n) = fitting n
 productSays Product.Passes = passes

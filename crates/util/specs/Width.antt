@@ -8,9 +8,9 @@ abbrev pub M : ℕ → ℕ
 M w = 2 ^ w - 1
 
 -- a number that w bits hold, or the word that they do not
-pub data Held : Type 0 where
-  held : ℕ → Held
-  passes : Held
+pub data Checked : Type 0 where
+  fitting : ℕ → Checked
+  passes : Checked
 
-abbrev pub heldIn : ℕ → ℕ → Held
-heldIn w x = cond (leb x (M w)) (held x) passes
+abbrev pub checked : ℕ → ℕ → Checked
+checked w x = cond (leb x (M w)) (fitting x) passes

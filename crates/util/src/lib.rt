@@ -1,7 +1,7 @@
 // Rounding helpers, after four functions of zerocopy's src/util/mod.rs, and the refusal numbers that every crate uses.
 ghost use mathlib.Core.Path.{_≡_};
 ghost use Prim.Native.Nat.{_*_, _%_, _^_};
-ghost use Rattle.util.specs.Width.{heldIn};
+ghost use Rattle.util.specs.Width.{checked};
 ghost use Rattle.util.specs.Power.{PowerOfTwo, powerOfTwo};
 ghost use Rattle.util.specs.Round.{GreatestMultiple, LeastPadding};
 ghost use Rattle.util.specs.Refusal.{Tells, Meets};
@@ -108,7 +108,7 @@ pub fn min(a: u64, b: u64) -> Answer
 // The product, where 64 bits hold it: what it wraps to, divided by one factor, is then the other. The compiler makes one
 // multiplication and a test of its overflow of this: no division.
 pub fn checked_mul(a: u64, b: u64) -> Product
-    ensures { λ r. ⌜ productSays r ≡ heldIn 64 (a * b) ⌝ }
+    ensures { λ r. ⌜ productSays r ≡ checked 64 (a * b) ⌝ }
 {
     let product = wrapping_mul(a, b);
     if b == 0 {

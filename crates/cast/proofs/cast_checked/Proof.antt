@@ -18,7 +18,7 @@ use Rattle.trailing.specs.View.{trailingOf}
 use Rattle.layout.specs.Layout.{fixed, trailing, noWord}
 use Rattle.layout.specs.declared.SizeInfo.{SizeInfo}
 use Rattle.layout.specs.View.{infoOf, layoutOf}
-use Rattle.cast.specs.Cast.{Grant, elemZero, prefix, testedAddress, splitAt, isElemZero, tooSmall, bytesCauses, grantOf}
+use Rattle.cast.specs.Cast.{Grant, elemZero, prefix, testedAddress, splitAt, isElemZero, tooSmall, bytesCauses, greatestGrant}
 use Rattle.cast.specs.View.{sideOf, castSays}
 use Rattle.cast.proofs.Grants.{elem-decided}
 use Rattle.cast.proofs.Told.{fit-told, fit-within}
@@ -41,14 +41,14 @@ passed : (k : tie.Start) {b : Bool} → b ≡ false → b ≡ isElemZero (infoOf
     → tested k % k .args .layout .align ≡ 0
     → let i = infoOf (k .args .layout .«size_info») in
     let side = sideOf (k .args .cast-type) in
-    unless (bytesCauses 64 (layoutOf (k .args .layout)) side (k .args .addr) (k .args .len)) (grantOf 64 i side (k .args .len))
-    ≡ unless (tooSmall 64 i (k .args .len) ∷ []) (grantOf 64 i side (k .args .len))
+    unless (bytesCauses 64 (layoutOf (k .args .layout)) side (k .args .addr) (k .args .len)) (greatestGrant 64 i side (k .args .len))
+    ≡ unless (tooSmall 64 i (k .args .len) ∷ []) (greatestGrant 64 i side (k .args .len))
 unfolding unless
 passed k f e l z = simp (sym e ∙ f, le-ltb (2 ^ 64 - 1) (k .args .addr + k .args .len) l, eq-eqb (tested k % k .args .layout .align) 0 z)
 
 -- what is left to say of a size
 abbrev says : tie.Start → SizeInfo → Outcome Grant
-says k i = unless (tooSmall 64 (infoOf i) (k .args .len) ∷ []) (grantOf 64 (infoOf i) (sideOf (k .args .cast-type)) (k .args .len))
+says k i = unless (tooSmall 64 (infoOf i) (k .args .len) ∷ []) (greatestGrant 64 (infoOf i) (sideOf (k .args .cast-type)) (k .args .len))
 
 elem-size-zero-requires : tie.Need-elem-size-zero-requires
 elem-size-zero-requires c κs = search needs
@@ -115,7 +115,7 @@ unfolding unless
 returns-4 c =
     let k = c .before .before .before .before .before .before .before .before .before .before in
     let s = c .before .before .size-info .given .0 .0 in
-    let u : refused 13 ≡ unless (tooSmall 64 (fixed s) (k .args .len) ∷ []) (grantOf 64 (fixed s) (sideOf (k .args .cast-type)) (k .args .len)) = simp (lt-ltb (k .args .len) s (c .if4 .taken)) (refl) in
+    let u : refused 13 ≡ unless (tooSmall 64 (fixed s) (k .args .len) ∷ []) (greatestGrant 64 (fixed s) (sideOf (k .args .cast-type)) (k .args .len)) = simp (lt-ltb (k .args .len) s (c .if4 .taken)) (refl) in
     u ∙ ap (says k) (sym (c .before .before .size-info .given .1)) ∙ sym (passed k (c .before .before .before .before .before .before .before .before .if1 .left) (c .before .before .before .before .before .before .before .before .before .elem-size-zero .ensures) (omega arith) (straight k (c .before .before .before .before .before .before .tested-address .result) (c .before .before .before .before .before .before .tested-address .ensures) (c .before .before .before .before .if3 .left)))
 
 returns-5 : tie.Need-returns-5
@@ -123,7 +123,7 @@ unfolding unless
 returns-5 c =
     let k = c .before .before .before .before .before .before .before .before .before .before .before in
     let s = c .before .before .before .size-info .given .0 .0 in
-    let u : answered (record { count = 0; split = splitAt (sideOf (k .args .cast-type)) (k .args .len) s }) ≡ unless (tooSmall 64 (fixed s) (k .args .len) ∷ []) (grantOf 64 (fixed s) (sideOf (k .args .cast-type)) (k .args .len)) = simp (le-ltb (k .args .len) s (c .before .if4 .left)) (refl) in
+    let u : answered (record { count = 0; split = splitAt (sideOf (k .args .cast-type)) (k .args .len) s }) ≡ unless (tooSmall 64 (fixed s) (k .args .len) ∷ []) (greatestGrant 64 (fixed s) (sideOf (k .args .cast-type)) (k .args .len)) = simp (le-ltb (k .args .len) s (c .before .if4 .left)) (refl) in
     ap (λ (x : ℕ). answered (record { count = 0; split = x })) (c .split-around .ensures) ∙ u ∙ ap (says k) (sym (c .before .before .before .size-info .given .1)) ∙ sym (passed k (c .before .before .before .before .before .before .before .before .before .if1 .left) (c .before .before .before .before .before .before .before .before .before .before .elem-size-zero .ensures) (omega arith) (straight k (c .before .before .before .before .before .before .before .tested-address .result) (c .before .before .before .before .before .before .before .tested-address .ensures) (c .before .before .before .before .before .if3 .left)))
 
 returns-6 : tie.Need-returns-6
@@ -131,7 +131,7 @@ returns-6 c =
     let k = c .before .before .before .before .before .before .before .before .before .before .before .before .before .before in
     let i = trailing (trailingOf (c .before .before .before .before .before .before .size-info2 .given .0 .0)) in
     let f = fit-told 64 i (k .args .len) (c .before .before .before .before .fit-trailing .result) (c .before .before .before .before .fit-trailing .ensures) (c .before .before .elems .given .1) in
-    let ok = accepted-as (tooSmall 64 i (k .args .len) ∷ []) (grantOf 64 i prefix (k .args .len)) (grantOf 64 i (sideOf (k .args .cast-type)) (k .args .len)) (told-by castSays (c .before .before .before .before .fit-trailing .ensures) (c .before .before .elems .given .1)) in
+    let ok = accepted-as (tooSmall 64 i (k .args .len) ∷ []) (greatestGrant 64 i prefix (k .args .len)) (greatestGrant 64 i (sideOf (k .args .cast-type)) (k .args .len)) (told-by castSays (c .before .before .before .before .fit-trailing .ensures) (c .before .before .elems .given .1)) in
     ap₂ (λ (n s : ℕ). answered (record { count = n; split = s })) (f .0) (c .split-around2 .ensures ∙ ap (splitAt (sideOf (k .args .cast-type)) (k .args .len)) (f .1))
     ∙ sym ok ∙ ap (says k) (sym (c .before .before .before .before .before .before .size-info2 .given .1)) ∙ sym (passed k (c .before .before .before .before .before .before .before .before .before .before .before .before .if1 .left) (c .before .before .before .before .before .before .before .before .before .before .before .before .before .elem-size-zero .ensures) (omega arith) (straight k (c .before .before .before .before .before .before .before .before .before .before .tested-address .result) (c .before .before .before .before .before .before .before .before .before .before .tested-address .ensures) (c .before .before .before .before .before .before .before .before .if3 .left)))
 
@@ -139,7 +139,7 @@ returns-7 : tie.Need-returns-7
 returns-7 c =
     let k = c .before .before .before .before .before .before .before .before .before .before .before .before .before in
     let i = trailing (trailingOf (c .before .before .before .before .before .size-info2 .given .0 .0)) in
-    let ok = refused-as (tooSmall 64 i (k .args .len) ∷ []) (grantOf 64 i prefix (k .args .len)) (grantOf 64 i (sideOf (k .args .cast-type)) (k .args .len)) (told-by castSays (c .before .before .before .fit-trailing .ensures) (c .before .number .given .1)) in
+    let ok = refused-as (tooSmall 64 i (k .args .len) ∷ []) (greatestGrant 64 i prefix (k .args .len)) (greatestGrant 64 i (sideOf (k .args .cast-type)) (k .args .len)) (told-by castSays (c .before .before .before .fit-trailing .ensures) (c .before .number .given .1)) in
     sym ok ∙ ap (says k) (sym (c .before .before .before .before .before .size-info2 .given .1)) ∙ sym (passed k (c .before .before .before .before .before .before .before .before .before .before .before .if1 .left) (c .before .before .before .before .before .before .before .before .before .before .before .before .elem-size-zero .ensures) (omega arith) (straight k (c .before .before .before .before .before .before .before .before .before .tested-address .result) (c .before .before .before .before .before .before .before .before .before .tested-address .ensures) (c .before .before .before .before .before .before .before .if3 .left)))
 
 pub cast-checked-spec : {M : Type 1} → statement M

@@ -3,7 +3,7 @@ use mathlib.Core.Path.{_≡_, sym, _∙_}
 use native.Mathlib.Omega.{arith}
 use Rattle.util.specs.Refusal.{unless}
 use Rattle.layout.specs.View.{layoutOf}
-use Rattle.cast.specs.Cast.{prefix, bytesCauses, grantOf, castFor}
+use Rattle.cast.specs.Cast.{prefix, bytesCauses, greatestGrant, castFor}
 use Rattle.cast.specs.View.{castSays}
 use Rattle.cast.specs.declared.CastAnswer.{CastAnswer}
 use Rattle.cast.proofs.Grants.{cast-accepted}
@@ -14,7 +14,7 @@ use Rattle.cast.proofs.exact_elems.Tie as tie
 
 -- the layout is accepted, so the answer over the bytes is that of the whole cast
 whole : (k : tie.Start) (r : CastAnswer) → let l = layoutOf (k .args .layout) in
-    castSays r ≡ unless (bytesCauses 64 l prefix 0 (k .args .size)) (grantOf 64 (l .info) prefix (k .args .size)) → castSays r ≡ castFor 64 l prefix 0 (k .args .size)
+    castSays r ≡ unless (bytesCauses 64 l prefix 0 (k .args .size)) (greatestGrant 64 (l .info) prefix (k .args .size)) → castSays r ≡ castFor 64 l prefix 0 (k .args .size)
 whole k r e = e ∙ sym (cast-accepted 64 (layoutOf (k .args .layout)) prefix 0 (k .args .size) (omega arith) (k .pre .0))
 
 cast-checked-requires : tie.Need-cast-checked-requires

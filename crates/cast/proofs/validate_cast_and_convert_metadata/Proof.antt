@@ -7,7 +7,7 @@ use Rattle.util.proofs.Tables.{told-by, refused-first, accepted-first, accepted
 use Rattle.layout.specs.Layout.{layoutCauses, checkFor}
 use Rattle.layout.specs.View.{layoutOf, checkSays}
 use Rattle.layout.proofs.Layouts.{layout-decided}
-use Rattle.cast.specs.Cast.{bytesCauses, grantOf, castFor}
+use Rattle.cast.specs.Cast.{bytesCauses, greatestGrant, castFor}
 use Rattle.cast.specs.View.{sideOf}
 use Rattle.cast.proofs.Grants.{cast-meets}
 use borrow.Author.Needs.{needs}
@@ -34,7 +34,7 @@ returns c =
     let l = layoutOf (k .args .layout) in
     let side = sideOf (k .args .cast-type) in
     let cs = bytesCauses 64 l side (k .args .addr) (k .args .bytes-len) in
-    let g = grantOf 64 (l .info) side (k .args .bytes-len) in
+    let g = greatestGrant 64 (l .info) side (k .args .bytes-len) in
     told (cast-meets 64 l side (k .args .addr) (k .args .bytes-len) (omega arith) (lit< tt)) (c .cast-checked .ensures ∙ sym (accepted-first (layoutCauses 64 l) cs tt g (told-by checkSays (c .before .before .before .check .ensures .0) (c .before .enum-told .given .1))))
 
 returns-2 : tie.Need-returns-2
@@ -44,7 +44,7 @@ returns-2 c =
     let l = layoutOf (k .args .layout) in
     let side = sideOf (k .args .cast-type) in
     let cs = bytesCauses 64 l side (k .args .addr) (k .args .bytes-len) in
-    let g = grantOf 64 (l .info) side (k .args .bytes-len) in
+    let g = greatestGrant 64 (l .info) side (k .args .bytes-len) in
     told (cast-meets 64 l side (k .args .addr) (k .args .bytes-len) (omega arith) (lit< tt)) (sym (refused-first (layoutCauses 64 l) cs tt g (told-by checkSays (c .before .before .before .check .ensures .0) (c .before .number .given .1))))
 
 pub validate-cast-and-convert-metadata-spec : {M : Type 1} → statement M

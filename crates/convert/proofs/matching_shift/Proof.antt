@@ -2,7 +2,7 @@
 use mathlib.Core.Path.{refl, sym, ap, _∙_}
 use Rattle.trailing.specs.Sequence.{sameSequence}
 use Rattle.trailing.specs.View.{trailingOf}
-use Rattle.convert.specs.Convert.{matching}
+use Rattle.convert.specs.Convert.{matchedShift}
 use Rattle.convert.specs.declared.Shift.{Shift}
 use Rattle.convert.specs.View.{shiftIn}
 use borrow.Author.Needs.{needs}
@@ -23,14 +23,14 @@ returns c =
     let k = c .before .before .before .before .before in
     let s = trailingOf (k .args .src) in
     let t = trailingOf (k .args .dst) in
-    simp (sym (c .before .sequences-match .ensures) ∙ c .if1 .taken) refl ∙ ap (λ (x : Shift). matching 64 (sameSequence 64) s t (shiftIn x)) (sym (c .before .before .before .shift .given .1))
+    simp (sym (c .before .sequences-match .ensures) ∙ c .if1 .taken) refl ∙ ap (λ (x : Shift). matchedShift 64 (sameSequence 64) s t (shiftIn x)) (sym (c .before .before .before .shift .given .1))
 
 returns-2 : tie.Need-returns-2
 returns-2 c =
     let k = c .before .before .before .before .before in
     let s = trailingOf (k .args .src) in
     let t = trailingOf (k .args .dst) in
-    simp (sym (c .before .sequences-match .ensures) ∙ c .if1 .left) refl ∙ ap (λ (x : Shift). matching 64 (sameSequence 64) s t (shiftIn x)) (sym (c .before .before .before .shift .given .1))
+    simp (sym (c .before .sequences-match .ensures) ∙ c .if1 .left) refl ∙ ap (λ (x : Shift). matchedShift 64 (sameSequence 64) s t (shiftIn x)) (sym (c .before .before .before .shift .given .1))
 
 returns-3 : tie.Need-returns-3
 returns-3 c = search needs

@@ -3,7 +3,7 @@ use mathlib.Core.Path.{sym, ap, _∙_}
 use Rattle.trailing.specs.Sequence.{sameSequence}
 use Rattle.trailing.specs.View.{trailingOf}
 use Rattle.layout.specs.View.{layoutOf}
-use Rattle.convert.specs.Convert.{Shift, bySize, matching, orElse, shiftOf}
+use Rattle.convert.specs.Convert.{Shift, bySize, matchedShift, orElse, shiftOf}
 use Rattle.convert.specs.View.{shiftIn}
 use borrow.Author.Needs.{needs}
 use Rattle.convert.proofs.offset_delta_elems.Statement.{statement}
@@ -33,8 +33,8 @@ returns c =
     let k = c .before .before .before .before .before in
     let s = trailingOf (k .args .src) in
     let t = trailingOf (k .args .dst) in
-    let m = sym (ap shiftIn (c .before .elems .given .1)) ∙ c .before .before .before .matching-shift .ensures ∙ ap (matching 64 (sameSequence 64) s t) (c .before .before .before .before .exact-offset-delta-elems .ensures) in
-    ap (λ (x : Shift). orElse x (matching 64 (sameSequence 64) s t (bySize 64 s (layoutOf (k .args .dst-layout))))) m
+    let m = sym (ap shiftIn (c .before .elems .given .1)) ∙ c .before .before .before .matching-shift .ensures ∙ ap (matchedShift 64 (sameSequence 64) s t) (c .before .before .before .before .exact-offset-delta-elems .ensures) in
+    ap (λ (x : Shift). orElse x (matchedShift 64 (sameSequence 64) s t (bySize 64 s (layoutOf (k .args .dst-layout))))) m
 
 returns-2 : tie.Need-returns-2
 unfolding shiftOf
@@ -42,8 +42,8 @@ returns-2 c =
     let k = c .before .before .before .before .before .before in
     let s = trailingOf (k .args .src) in
     let t = trailingOf (k .args .dst) in
-    let m = sym (ap shiftIn (c .before .before .enum-told .given .1)) ∙ c .before .before .before .before .matching-shift .ensures ∙ ap (matching 64 (sameSequence 64) s t) (c .before .before .before .before .before .exact-offset-delta-elems .ensures) in
-    c .matching-shift2 .ensures ∙ ap (matching 64 (sameSequence 64) s t) (c .before .offset-delta-by-size .ensures) ∙ ap (λ (x : Shift). orElse x (matching 64 (sameSequence 64) s t (bySize 64 s (layoutOf (k .args .dst-layout))))) m
+    let m = sym (ap shiftIn (c .before .before .enum-told .given .1)) ∙ c .before .before .before .before .matching-shift .ensures ∙ ap (matchedShift 64 (sameSequence 64) s t) (c .before .before .before .before .before .exact-offset-delta-elems .ensures) in
+    c .matching-shift2 .ensures ∙ ap (matchedShift 64 (sameSequence 64) s t) (c .before .offset-delta-by-size .ensures) ∙ ap (λ (x : Shift). orElse x (matchedShift 64 (sameSequence 64) s t (bySize 64 s (layoutOf (k .args .dst-layout))))) m
 
 pub offset-delta-elems-spec : {M : Type 1} → statement M
 offset-delta-elems-spec =

@@ -4,7 +4,7 @@ use Prim.Native.Nat.{ℕ, _*_}
 use native.Mathlib.Omega.{arith}
 use Rattle.util.specs.Refusal.{answered}
 use Rattle.util.specs.View.{decisionSays}
-use Rattle.util.proofs.Refusals.{yes, told-false, agree, tells-as}
+use Rattle.util.proofs.Refusals.{tells-true, yes, told-false, agree, tells-as}
 use Rattle.util.proofs.Tables.{told-by, apart}
 use Rattle.util.proofs.Told.{product-told, product-past}
 use Rattle.rounding.proofs.Words.{not-zero}
@@ -15,7 +15,7 @@ use Rattle.trailing.proofs.Sequences.{tells-same}
 use Rattle.trailing.proofs.Calls.{advanced-word, same-answered}
 use Rattle.trailing.proofs.Told.{advance-told, advance-missing}
 use Rattle.convert.specs.Match.{shifted}
-use Rattle.convert.proofs.Matching.{tells-true, tells-matches}
+use Rattle.convert.proofs.Matching.{tells-matches}
 use borrow.Author.Needs.{needs}
 use Rattle.convert.proofs.sequences_match.Statement.{statement}
 use Rattle.convert.proofs.sequences_match.Tie as tie

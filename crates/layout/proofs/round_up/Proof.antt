@@ -17,7 +17,7 @@ use Rattle.util.proofs.Rounding.{up-padding}
 use Rattle.util.proofs.Helpers.{power, align-decided, padding-answered}
 use Rattle.util.proofs.Told.{number-told}
 use Rattle.layout.proofs.Passes.{within, past, round-meets, round-power}
-use Rattle.layout.specs.Extend.{passes8, roundUpFor}
+use Rattle.layout.specs.Extend.{roundingPasses, roundUpFor}
 use borrow.Author.Needs.{needs}
 use Rattle.layout.proofs.round_up.Statement.{statement}
 use Rattle.layout.proofs.round_up.Tie as tie
@@ -72,7 +72,7 @@ returns-3 c =
     let v = k .args .len in
     let a = k .args .align in
     told (round-meets 64 v a (k .fits .align .fits))
-    (sym (refused-first (alignCauses 64 a) (passes8 64 (up v a) ∷ []) (padding v a) (up v a) (told-by numberSays (c .before .before .before .padding-needed-for .ensures .0) (c .before .number .given .1))))
+    (sym (refused-first (alignCauses 64 a) (roundingPasses 64 (up v a) ∷ []) (padding v a) (up v a) (told-by numberSays (c .before .before .before .padding-needed-for .ensures .0) (c .before .number .given .1))))
 
 pub round-up-spec : {M : Type 1} → statement M
 round-up-spec =

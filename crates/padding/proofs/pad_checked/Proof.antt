@@ -12,7 +12,7 @@ use Rattle.util.proofs.Helpers.{power}
 use Rattle.util.proofs.Tables.{told-by, answer-is, accepted-as, refused-as}
 use Rattle.trailing.specs.View.{trailingOf}
 use Rattle.layout.specs.Layout.{Info, Layout, fixed, trailing, noWord}
-use Rattle.layout.specs.Extend.{passes8}
+use Rattle.layout.specs.Extend.{roundingPasses}
 use Rattle.layout.specs.View.{layoutOf, infoOf, infoSays}
 use Rattle.layout.specs.declared.SizeInfo.{SizeInfo}
 use Rattle.layout.specs.declared.SizeInfo.the-variants.{SliceDst}
@@ -30,7 +30,7 @@ abbrev made : tie.Start → Info → Layout
 made k i = record { align = k .args .layout .align; info = paddedInfo 64 (k .args .layout .align) i; mark = paddedMark (k .args .layout .align) i (k .args .layout .«statically_shallow_unpadded») }
 
 abbrev says : tie.Start → SizeInfo → Outcome Layout
-says k i = unless (passes8 64 (paddingNeeds 64 (k .args .layout .align) (infoOf i)) ∷ []) (made k (infoOf i))
+says k i = unless (roundingPasses 64 (paddingNeeds 64 (k .args .layout .align) (infoOf i)) ∷ []) (made k (infoOf i))
 
 pad-mark-requires : tie.Need-pad-mark-requires
 pad-mark-requires c κs = aligned c
@@ -69,7 +69,7 @@ returns c =
     let a = k .args .layout .align in
     let g = c .before .before .before .before .before .size-info .given .1 in
     let s = c .before .before .before .before .before .size-info .given .0 .0 in
-    let cs = passes8 64 (up s a) ∷ [] in
+    let cs = roundingPasses 64 (up s a) ∷ [] in
     let e = told-by numberSays (c .before .before .before .round-up .ensures .0 ∙ round-power 64 s (aligned k) (omega arith)) (c .before .padded .given .1) in
     ap₂ (λ (n : ℕ) (m : Bool). answered (record { align = a; info = fixed n; mark = m })) (answer-is cs (up s a) e) (c .before .before .before .before .before .before .before .pad-mark .ensures ∙ ap (λ (i : SizeInfo). paddedMark a (infoOf i) (k .args .layout .«statically_shallow_unpadded»)) g)
     ∙ sym (accepted-as cs (up s a) (made k (fixed s)) e)
@@ -82,7 +82,7 @@ returns-2 c =
     let a = k .args .layout .align in
     let g = c .before .before .before .before .before .size-info .given .1 in
     let s = c .before .before .before .before .before .size-info .given .0 .0 in
-    let cs = passes8 64 (up s a) ∷ [] in
+    let cs = roundingPasses 64 (up s a) ∷ [] in
     let e = told-by numberSays (c .before .before .before .round-up .ensures .0 ∙ round-power 64 s (aligned k) (omega arith)) (c .before .number .given .1) in
     sym (refused-as cs (up s a) (made k (fixed s)) e) ∙ ap (says k) (sym g)
 
@@ -93,7 +93,7 @@ returns-3 c =
     let a = k .args .layout .align in
     let g = c .before .before .before .before .before .size-info2 .given .1 in
     let t = trailingOf (c .before .before .before .before .before .size-info2 .given .0 .0) in
-    let cs = passes8 64 (paddingNeeds 64 a (trailing t)) ∷ [] in
+    let cs = roundingPasses 64 (paddingNeeds 64 a (trailing t)) ∷ [] in
     let e = told-by infoSays (c .before .before .before .pad-trailing .ensures) (c .before .padded-info .given .1) in
     ap₂ (λ (i : Info) (m : Bool). answered (record { align = a; info = i; mark = m })) (answer-is cs (trailing (paddedTail 64 a t)) e) (c .before .before .before .before .before .before .before .pad-mark .ensures ∙ ap (λ (i : SizeInfo). paddedMark a (infoOf i) (k .args .layout .«statically_shallow_unpadded»)) g)
     ∙ sym (accepted-as cs (trailing (paddedTail 64 a t)) (made k (trailing t)) e)
@@ -106,7 +106,7 @@ returns-4 c =
     let a = k .args .layout .align in
     let g = c .before .before .before .before .before .size-info2 .given .1 in
     let t = trailingOf (c .before .before .before .before .before .size-info2 .given .0 .0) in
-    let cs = passes8 64 (paddingNeeds 64 a (trailing t)) ∷ [] in
+    let cs = roundingPasses 64 (paddingNeeds 64 a (trailing t)) ∷ [] in
     let e = told-by infoSays (c .before .before .before .pad-trailing .ensures) (c .before .number2 .given .1) in
     sym (refused-as cs (trailing (paddedTail 64 a t)) (made k (trailing t)) e) ∙ ap (says k) (sym g)
 

@@ -7,7 +7,7 @@ use Rattle.util.specs.Refusal.{answered}
 use Rattle.util.specs.View.{numberSays}
 use Rattle.trailing.specs.View.{trailingOf}
 use Rattle.layout.specs.Layout.{trailing}
-use Rattle.layout.specs.Extend.{passes8}
+use Rattle.layout.specs.Extend.{roundingPasses}
 use Rattle.padding.specs.Pad.{finer}
 use Rattle.layout.proofs.Passes.{round-power}
 use Rattle.util.proofs.Tables.{told-by, answer-is, accepted-as, refused-as}
@@ -27,7 +27,7 @@ enum-known-number c = search needs
 returns : tie.Need-returns
 returns c =
     let a = c .before .before .before .before .before .args in
-    let cs = passes8 64 (up (a .tail .«size_base») (a .align)) ∷ [] in
+    let cs = roundingPasses 64 (up (a .tail .«size_base») (a .align)) ∷ [] in
     let e = told-by numberSays (c .before .before .before .round-up .ensures .0 ∙ round-power 64 (a .tail .«size_base») (c .before .before .before .before .before .pre) (c .before .before .before .before .before .fits .align .fits)) (c .before .size-base .given .1) in
     ap (λ (b : ℕ). answered (trailing (record { offset = a .tail .offset; elem = a .tail .«elem_size»; base = b; word = a .tail .«size_rounding_align_and_phase» .0 })))
     (answer-is cs (up (a .tail .«size_base») (a .align)) e)
@@ -36,7 +36,7 @@ returns c =
 returns-2 : tie.Need-returns-2
 returns-2 c =
     let a = c .before .before .before .before .before .args in
-    sym (refused-as (passes8 64 (up (a .tail .«size_base») (a .align)) ∷ []) (up (a .tail .«size_base») (a .align)) (trailing (finer (a .align) (trailingOf (a .tail))))
+    sym (refused-as (roundingPasses 64 (up (a .tail .«size_base») (a .align)) ∷ []) (up (a .tail .«size_base») (a .align)) (trailing (finer (a .align) (trailingOf (a .tail))))
     (told-by numberSays (c .before .before .before .round-up .ensures .0 ∙ round-power 64 (a .tail .«size_base») (c .before .before .before .before .before .pre) (c .before .before .before .before .before .fits .align .fits)) (c .before .number .given .1)))
 
 pub pad-finer-spec : {M : Type 1} → statement M

@@ -4,7 +4,7 @@ use mathlib.Core.List.{[], _∷_}
 use native.Mathlib.Omega.{arith}
 use Rattle.util.proofs.Refusals.{told}
 use Rattle.layout.specs.Layout.{layoutCauses, checkFor}
-use Rattle.layout.specs.Extend.{passes8}
+use Rattle.layout.specs.Extend.{roundingPasses}
 use Rattle.padding.specs.Pad.{padded, paddingNeeds, padFor}
 use Rattle.layout.specs.View.{layoutOf, checkSays}
 use Rattle.util.proofs.Tables.{told-by, refused-first, accepted-first, accepted-none}
@@ -33,7 +33,7 @@ returns : tie.Need-returns
 unfolding padFor checkFor
 returns c =
     let l = layoutOf (c .before .before .before .before .args .layout) in
-    let ds = passes8 64 (paddingNeeds 64 (l .align) (l .info)) ∷ [] in
+    let ds = roundingPasses 64 (paddingNeeds 64 (l .align) (l .info)) ∷ [] in
     told (pad-meets 64 l (omega arith))
     (c .pad-checked .ensures ∙ sym (accepted-first (layoutCauses 64 l) ds tt (padded 64 l) (told-by checkSays (c .before .before .before .check .ensures .0) (c .before .enum-told .given .1))))
 
@@ -41,7 +41,7 @@ returns-2 : tie.Need-returns-2
 unfolding padFor checkFor
 returns-2 c =
     let l = layoutOf (c .before .before .before .before .args .layout) in
-    let ds = passes8 64 (paddingNeeds 64 (l .align) (l .info)) ∷ [] in
+    let ds = roundingPasses 64 (paddingNeeds 64 (l .align) (l .info)) ∷ [] in
     told (pad-meets 64 l (omega arith)) (sym (refused-first (layoutCauses 64 l) ds tt (padded 64 l) (told-by checkSays (c .before .before .before .check .ensures .0) (c .before .number .given .1))))
 
 pub pad-to-align-spec : {M : Type 1} → statement M

@@ -4,7 +4,7 @@ use native.Mathlib.Omega.{arith}
 use borrow.Author.Tests.{eq-eqb, ne-eqb}
 use Rattle.util.specs.Refusal.{unless}
 use Rattle.util.proofs.Refusals.{told}
-use Rattle.layout.specs.Layout.{WordHeld, checkFor}
+use Rattle.layout.specs.Layout.{WordFits, checkFor}
 use Rattle.layout.specs.declared.SizeInfo.{SizeInfo}
 use Rattle.layout.specs.View.{infoOf, layoutOf}
 use Rattle.layout.proofs.Layouts.{check-meets, check-refused}
@@ -25,7 +25,7 @@ returns : tie.Need-returns
 unfolding checkFor unless
 returns c =
     let l = layoutOf (c .before .before .before .before .args .self) in
-    told (check-meets 64 l (record { align = omega arith; word = subst (λ (i : SizeInfo). WordHeld 64 (infoOf i)) (sym (c .enum-told .given .1)) tt }))
+    told (check-meets 64 l (record { align = omega arith; word = subst (λ (i : SizeInfo). WordFits 64 (infoOf i)) (sym (c .enum-told .given .1)) tt }))
     (simp (sym (c .before .before .before .is-power-of-two .ensures .0) ∙ c .before .before .if1 .taken, c .enum-told .given .1))
 
 returns-2 : tie.Need-returns-2
@@ -38,7 +38,7 @@ returns-3 : tie.Need-returns-3
 unfolding checkFor unless
 returns-3 c =
     let l = layoutOf (c .before .before .before .before .before .before .before .before .args .self) in
-    told (check-meets 64 l (record { align = omega arith; word = subst (λ (i : SizeInfo). WordHeld 64 (infoOf i)) (sym (c .before .before .before .before .size-info .given .1)) (omega arith) }))
+    told (check-meets 64 l (record { align = omega arith; word = subst (λ (i : SizeInfo). WordFits 64 (infoOf i)) (sym (c .before .before .before .before .size-info .given .1)) (omega arith) }))
     (simp (sym (c .before .before .before .before .before .before .before .is-power-of-two .ensures .0) ∙ c .before .before .before .before .before .before .if1 .taken, c .before .before .before .before .size-info .given .1, ne-eqb _ 0 (c .if2 .left)))
 
 returns-4 : tie.Need-returns-4

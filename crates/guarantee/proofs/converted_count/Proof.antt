@@ -1,11 +1,11 @@
--- `convert::converted_count` meets its contract. Assumes nothing.
+-- `guarantee::converted_count` meets its contract. Assumes nothing.
 use mathlib.Core.Path.{sym, ap, _∙_}
-use Rattle.convert.specs.Demand.{countAfter}
+use Rattle.guarantee.specs.Demand.{countAfter}
 use Rattle.convert.specs.declared.ComputeAnswer.{ComputeAnswer}
 use Rattle.convert.specs.View.{computeSays}
 use borrow.Author.Needs.{needs}
-use Rattle.convert.proofs.converted_count.Statement.{statement}
-use Rattle.convert.proofs.converted_count.Tie as tie
+use Rattle.guarantee.proofs.converted_count.Statement.{statement}
+use Rattle.guarantee.proofs.converted_count.Tie as tie
 
 enum-known-computed : tie.Need-enum-known-computed
 enum-known-computed c = search needs
