@@ -1,6 +1,7 @@
 //! The inputs of the bench, each in the words of the C interface and in the Rust's own types.
 //!
-//! The Rust refuses none of them by a panic, so that it can be called as it is.
+//! The Rust refuses none of them by a panic, so that it can be called as it is, but for the refused ones, which it is not
+//! called on.
 
 use super::exports::Words;
 use super::random::Random;
@@ -15,9 +16,11 @@ pub enum Set {
     Random,
     /// Great alignments, phases and counts, and conversions that are found by the second way.
     Worst,
+    /// Typical ones, each spoilt for the function that is called: it refuses them by each of its numbers in turn.
+    Refused,
 }
 
-pub const SETS: [Set; 3] = [Set::Typical, Set::Random, Set::Worst];
+pub const SETS: [Set; 4] = [Set::Typical, Set::Random, Set::Worst, Set::Refused];
 
 impl Set {
     pub fn name(self) -> &'static str {
@@ -25,6 +28,7 @@ impl Set {
             Set::Typical => "typical",
             Set::Random => "random",
             Set::Worst => "worst",
+            Set::Refused => "refused",
         }
     }
 }
@@ -33,6 +37,7 @@ impl Set {
 const CASES: usize = 256;
 
 /// Numbers for every function; `_n` is the same in the Rust's types.
+#[derive(Clone)]
 pub struct Case {
     /// A power of two and another, a phase below the first, and a multiple of it.
     pub align: u64,
@@ -55,6 +60,10 @@ pub struct Case {
     pub tail: Words<4>,
     pub tail_n: TrailingSliceLayout,
     pub count: u64,
+    /// A trailing part to compare with that one: in turn of the same sizes, of another element size, of another size at
+    /// 0, and of another rounding.
+    pub other_tail: Words<4>,
+    pub other_tail_n: TrailingSliceLayout,
     /// The size there, a length that has room for it, and an address that is aligned on the side.
     pub exact: u64,
     pub len: u64,
@@ -64,14 +73,19 @@ pub struct Case {
     /// A source that converts to the whole layout, and how.
     pub source: Words<6>,
     pub source_n: DstLayout,
-    pub source_tail: Words<4>,
-    pub source_tail_n: TrailingSliceLayout,
     pub params: Words<4>,
     pub params_n: CastParamsInner,
-    /// A member list, to be composed under the packing, and the whole layout's record.
+    /// The trailing part of the source and the shift, as they match, or one of them changed so that they do not.
+    pub source_tail: Words<4>,
+    pub source_tail_n: TrailingSliceLayout,
+    pub shift: u64,
+    /// A member list, to be composed under the packing and the alignment asked for, which is 0 but where it is refused;
+    /// the whole layout's record, and the room for it.
+    pub own_align: u64,
     pub list: Vec<u8>,
     pub list_n: Vec<DstLayout>,
     pub record: Vec<u8>,
+    pub room: usize,
 }
 
 impl Case {
@@ -80,13 +94,18 @@ impl Case {
     }
 }
 
+pub fn bytes(words: &[u64]) -> Vec<u8> {
+    words.iter().flat_map(|word| word.to_le_bytes()).collect()
+}
+
 pub fn cases(set: Set) -> Vec<Case> {
     drawn(set, CASES, 0)
 }
 
-/// Cases with lists of as many members; fewer of long ones.
+/// Cases with lists of as many members; fewer of long ones, but one for each refusal.
 pub fn lists(set: Set, members: usize) -> Vec<Case> {
-    drawn(set, CASES.div_ceil(4 * members), members)
+    let least = if set == Set::Refused { 12 } else { 1 };
+    drawn(set, CASES.div_ceil(4 * members).max(least), members)
 }
 
 fn drawn(set: Set, cases: usize, members: usize) -> Vec<Case> {
@@ -97,7 +116,7 @@ fn drawn(set: Set, cases: usize, members: usize) -> Vec<Case> {
 /// A power of two.
 fn align(random: &mut Random, set: Set) -> u64 {
     1 << match set {
-        Set::Typical => random.below(4),
+        Set::Typical | Set::Refused => random.below(4),
         Set::Random => random.below(30),
         Set::Worst => 20 + random.below(10),
     }
@@ -107,7 +126,7 @@ fn align(random: &mut Random, set: Set) -> u64 {
 fn sized(random: &mut Random, set: Set) -> (u64, u64) {
     let align = align(random, set);
     let times = match set {
-        Set::Typical => 1 + random.below(3),
+        Set::Typical | Set::Refused => 1 + random.below(3),
         Set::Random => 1 + random.log_uniform() % (1 << 20),
         Set::Worst => 15 - 2 * random.below(4),
     };
@@ -139,6 +158,30 @@ fn source(random: &mut Random, set: Set, target: [u64; 6]) -> Option<[u64; 6]> {
     Some([target[0], target[1], size.checked_sub(align)?, offset, elem_size * times, align + 1])
 }
 
+/// The trailing part with another rounding, of twice the alignment, that has the same size at 0.
+fn other_rounding([offset, elem_size, size_base, word]: [u64; 4]) -> Option<[u64; 4]> {
+    let size = crate::size_for_elems([offset, elem_size, size_base, word], 0).ok()?[0];
+    Some([offset, elem_size, size, 2 << word.ilog2()])
+}
+
+/// The same sizes with a phase, where elements are whole multiples of the alignment; else only the offset is another.
+fn same_sizes([offset, elem_size, size_base, word]: [u64; 4]) -> [u64; 4] {
+    if word.is_power_of_two() && word > 1 && elem_size % word == 0 && size_base >= word {
+        return [offset, elem_size, size_base - word, word + 1];
+    }
+    [offset ^ 1, elem_size, size_base, word]
+}
+
+fn other_tail(random: &mut Random, tail: [u64; 4]) -> Option<[u64; 4]> {
+    let [offset, elem_size, size_base, word] = tail;
+    match random.below(4) {
+        0 => Some(same_sizes(tail)),
+        1 => Some([offset, elem_size.checked_add(1)?, size_base, word]),
+        2 => Some([offset, elem_size, size_base.checked_add(1 << word.ilog2())?, word]),
+        _ => other_rounding(tail),
+    }
+}
+
 /// None where the Rust would panic, or there is no conversion to take.
 fn draw(random: &mut Random, set: Set, members: usize) -> Option<Case> {
     let (size, align) = sized(random, set);
@@ -153,7 +196,7 @@ fn draw(random: &mut Random, set: Set, members: usize) -> Option<Case> {
     let whole = crate::for_repr_c_struct(own_align, packing, &[head, slice]).ok()?;
     let last = (u64::MAX - whole[2] - (1 << 30)) / elem_size;
     let count = match set {
-        Set::Typical => random.below(256),
+        Set::Typical | Set::Refused => random.below(256),
         Set::Random => random.log_uniform() % last,
         Set::Worst => last / 2 - random.below(16),
     };
@@ -165,9 +208,14 @@ fn draw(random: &mut Random, set: Set, members: usize) -> Option<Case> {
     addr.checked_add(len)?;
     let source = source(random, set, whole)?;
     let params = crate::try_compute(source, whole).ok()?;
+    let other_tail = other_tail(random, tail(whole))?;
+    let (source_tail, shift) = match random.below(4) {
+        0 | 1 => (tail(source), params[1]),
+        2 => (tail(source), params[1].checked_add(1)?),
+        _ => (other_rounding(tail(source))?, params[1]),
+    };
     let list: Vec<[u64; 6]> = (0..members).map(|_| fixed(random, set)).collect();
     crate::for_repr_c_struct(0, packing, &list).ok()?;
-    let bytes = |words: &[u64]| words.iter().flat_map(|word| word.to_le_bytes()).collect();
     Some(Case {
         align,
         align_n: nonzero(align),
@@ -187,6 +235,8 @@ fn draw(random: &mut Random, set: Set, members: usize) -> Option<Case> {
         tail: Words(tail(whole)),
         tail_n: trailing(tail(whole)),
         count,
+        other_tail: Words(other_tail),
+        other_tail_n: trailing(other_tail),
         exact,
         len,
         addr,
@@ -194,14 +244,17 @@ fn draw(random: &mut Random, set: Set, members: usize) -> Option<Case> {
         side_n: if suffix { CastType::Suffix } else { CastType::Prefix },
         source: Words(source),
         source_n: layout(source),
-        source_tail: Words(tail(source)),
-        source_tail_n: trailing(tail(source)),
         params: Words(params),
         params_n: CastParamsInner::UnsizedToUnsized {
             offset_delta_elems: params[1] as usize,
             elem_multiple: params[2] as usize,
         },
+        source_tail: Words(source_tail),
+        source_tail_n: trailing(source_tail),
+        shift,
         record: bytes(&whole),
+        room: 48,
+        own_align: 0,
         list: bytes(&list.concat()),
         list_n: list.into_iter().map(layout).collect(),
     })

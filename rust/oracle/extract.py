@@ -104,9 +104,54 @@ NUMBERS_FOR_TYPES = [
     ("-> Dst::PointerMetadata {", "-> usize {", 1),
     ("src_meta.to_elem_count()", "src_meta", 1),
     ("Dst::PointerMetadata::from_elem_count(dst_meta)", "dst_meta", 1),
+    # The bench calls it twice, which keeps the compiler from inlining it where a program would call it once.
+    ("                fn try_compute(", "#[cfg_attr(bench, inline(always))]\n                fn try_compute(", 1),
     # Those items stood two modules deeper.
     ("super::max_elems_for_bytes(", "max_elems_for_bytes(", 2),
     ("super::add_scaled_metadata(", "add_scaled_metadata(", 1),
+]
+
+# The two functions above whose refusals are panics, once more, with refusals that are returned, as one would write them
+# where they are to be known: for the bench.
+RETURNING = [
+    "pub const fn extend(",
+    "pub const fn pad_to_align(",
+]
+RETURNED = [
+    ("pub fn extend(", "pub fn try_extend(", 1),
+    ("pub fn pad_to_align(", "pub fn try_pad_to_align(", 1),
+    (") -> Self {", ") -> Result<Self, u64> {", 2),
+    (
+        "require(max_align.get().is_power_of_two(), 5);",
+        "if !max_align.get().is_power_of_two() { return Err(5); }",
+        1,
+    ),
+    (
+        "debug_require(self.align.get() <= DstLayout::CURRENT_MAX_ALIGN.get(), 6);",
+        "if self.align.get() > DstLayout::CURRENT_MAX_ALIGN.get() { return Err(6); }",
+        1,
+    ),
+    (
+        "debug_require(field.align.get() <= DstLayout::CURRENT_MAX_ALIGN.get(), 6);",
+        "if field.align.get() > DstLayout::CURRENT_MAX_ALIGN.get() { return Err(6); }",
+        1,
+    ),
+    (
+        "debug_require(repr_packed.get() <= DstLayout::CURRENT_MAX_ALIGN.get(), 6);",
+        "if repr_packed.get() > DstLayout::CURRENT_MAX_ALIGN.get() { return Err(6); }",
+        1,
+    ),
+    ("refuse(", "return Err(", 9),
+    (
+        "\n        DstLayout { align, size_info, statically_shallow_unpadded }",
+        "\n        Ok(DstLayout { align, size_info, statically_shallow_unpadded })",
+        1,
+    ),
+    (
+        "\n        DstLayout { align: self.align, size_info, statically_shallow_unpadded }",
+        "\n        Ok(DstLayout { align: self.align, size_info, statically_shallow_unpadded })",
+        1,
+    ),
 ]
 
 
@@ -151,6 +196,10 @@ def main():
     text += "}\n\n"
     text += "\n".join(cut(layout, item) for item in LAYOUT)
     text = substitute(text, ASSERTIONS + NUMBERS_FOR_TYPES)
+    functions = "\n".join(cut(layout, item) for item in RETURNING)
+    for old, new, _ in ASSERTIONS:
+        functions = functions.replace(old, new)
+    text += "\nimpl DstLayout {\n" + substitute(functions, RETURNED) + "}\n"
     out.parent.mkdir(parents=True, exist_ok=True)
     text = "// Cut from zerocopy 0.8.63 by rust/oracle/extract.py; its licences apply.\n" + text
     out.write_text(text, encoding="utf-8")

@@ -1,0 +1,183 @@
+//! How a typical case is spoilt, so that a function refuses it: each function's refusals by number.
+
+use super::cases::{bytes, Case};
+
+/// The number, and what makes the case one that is refused by it.
+pub type Spoil = (u64, fn(&mut Case));
+
+/// Cases as they are, spoilt in turn.
+pub fn spoilt(cases: Vec<Case>, spoils: &[Spoil]) -> Vec<Case> {
+    let mut cases = cases;
+    for ((_, spoil), case) in spoils.iter().cycle().zip(&mut cases) {
+        spoil(case);
+    }
+    cases
+}
+
+/// The refusals of each of the layouts, and more.
+macro_rules! layouts {
+    ($($layout:ident),*; $($more:expr),*) => {
+        &[
+            $((21, |c| c.$layout.0[1] = 4 + c.code),
+            (1, |c| c.$layout.0[0] = 0),
+            (1, |c| c.$layout.0[0] *= 3),
+            (22, |c| {
+                c.$layout.0[1] &= 1;
+                c.$layout.0[5] |= 1;
+            }),
+            (2, |c| {
+                c.$layout.0[1] |= 2;
+                c.$layout.0[5] = 0;
+            }),)*
+            $($more),*
+        ]
+    };
+}
+
+pub const ALIGN: &[Spoil] = &[(1, |c| c.align = 0), (1, |c| c.align *= 3)];
+pub const ALIGNS: &[Spoil] = &[(1, |c| c.align = 0), (1, |c| c.other_align *= 3), (1, |c| c.align = c.align * 2 + 1)];
+pub const ROUNDING: &[Spoil] = &[(1, |c| c.align = 0), (1, |c| c.align *= 3), (3, |c| c.phase += c.align)];
+pub const TAIL: &[Spoil] = &[(2, |c| c.tail.0[3] = 0)];
+pub const TAILS: &[Spoil] = &[(2, |c| c.tail.0[3] = 0), (2, |c| c.other_tail.0[3] = 0)];
+pub const ROOM: &[Spoil] = &[(2, |c| c.tail.0[3] = 0), (16, |c| c.len = c.tail.0[2] - 1)];
+pub const COUNT: &[Spoil] = &[(2, |c| c.tail.0[3] = 0), (15, |c| c.count = u64::MAX)];
+pub const ADVANCE: &[Spoil] = &[
+    (2, |c| c.tail.0[3] = 0),
+    (17, |c| {
+        c.tail.0[2] += c.tail.0[3];
+        c.size = u64::MAX;
+    }),
+];
+pub const ASKED: &[Spoil] = &[(1, |c| c.packing = 3 * c.align)];
+pub const TYPE: &[Spoil] = &[
+    (1, |c| c.align = 0),
+    (1, |c| c.align *= 3),
+    (4, |c| {
+        c.align *= 2;
+        c.size = c.size * 2 + 1;
+    }),
+];
+pub const EXTEND: &[Spoil] = layouts![fixed, field;
+    (5, |c| c.packing = 3 * c.align),
+    (6, |c| c.fixed.0[0] = 1 << 30),
+    (6, |c| c.field.0[0] = 1 << 30),
+    (6, |c| c.packing = 1 << 30),
+    (7, |c| c.fixed = c.whole),
+    (8, |c| {
+        c.fixed.0[2] = u64::MAX;
+        c.field.0[0] = 2 * c.align;
+        c.packing = 0;
+    }),
+    (9, |c| {
+        c.fixed.0[2] = u64::MAX - 7;
+        c.field.0[2] = 8;
+    })
+];
+pub const WHOLE: &[Spoil] = layouts![whole;];
+pub const PAD: &[Spoil] = layouts![whole;
+    (8, |c| c.whole.0 = [2 * c.align, 1, u64::MAX, 0, 0, 0]),
+    (8, |c| c.whole.0 = [2 * c.align, 3, u64::MAX, 0, 1, 2 * c.align])
+];
+pub const ENCODE: &[Spoil] = layouts![whole; (20, |c| c.room = 47)];
+pub const SCALAR: &[Spoil] = &[(23, |c| c.code += 9)];
+pub const CAST: &[Spoil] = layouts![whole;
+    (10, |c| c.whole.0[4] = 0),
+    (11, |c| c.addr = u64::MAX - c.len + 1),
+    (12, |c| {
+        c.whole.0[0] *= 2;
+        c.addr |= 1;
+        c.len &= !1;
+    }),
+    (13, |c| {
+        c.addr = 0;
+        c.len = 0;
+    })
+];
+pub const EXACT: &[Spoil] = layouts![whole;
+    (14, |c| c.exact = 0),
+    (14, |c| c.whole.0[4] = 0),
+    (14, |c| c.whole = c.fixed)
+];
+pub const SOURCE_TAIL: &[Spoil] = &[(2, |c| c.source_tail.0[3] = 0), (2, |c| c.tail.0[3] = 0)];
+pub const CONVERT: &[Spoil] = layouts![source, whole;
+    // The alignment is lower; a trailing source and a fixed target; a fixed source that is smaller.
+    (18, |c| c.whole.0[0] = 2 * c.source.0[0]),
+    (18, |c| c.whole = c.fixed),
+    (18, |c| c.source.0 = [c.source.0[0], 1, 0, 0, 0, 0]),
+    // No whole multiple; other sizes.
+    (18, |c| {
+        c.whole.0[4] *= 2;
+        c.source.0[4] = 2 * c.whole.0[4] - 1;
+    }),
+    (18, |c| c.source.0[2] = 0)
+];
+pub const CONVERTED: &[Spoil] = &[
+    (19, |c| {
+        c.params.0[2] = 2;
+        c.code = u64::MAX;
+    }),
+    (19, |c| {
+        c.params.0[1] = u64::MAX;
+        c.code += 1;
+    }),
+];
+
+// ---- records and lists ----
+
+/// Puts the whole layout's words into the record.
+fn with_record(case: &mut Case, spoil: fn(&mut Case)) {
+    spoil(case);
+    case.record = bytes(&case.whole.0);
+}
+
+pub const DECODE: &[Spoil] = &[
+    (20, |c| c.record.truncate(47)),
+    (21, |c| with_record(c, WHOLE[0].1)),
+    (1, |c| with_record(c, WHOLE[1].1)),
+    (1, |c| with_record(c, WHOLE[2].1)),
+    (22, |c| with_record(c, WHOLE[3].1)),
+    (2, |c| with_record(c, WHOLE[4].1)),
+];
+
+/// Puts a record where the last one of the list is, or before that one.
+fn put(case: &mut Case, from_end: usize, record: [u64; 6]) {
+    let at = case.list.len() - 48 * (1 + from_end);
+    case.list[at..at + 48].copy_from_slice(&bytes(&record));
+}
+
+/// The size of the members before the last ones.
+fn size_before(case: &Case, from_end: usize) -> u64 {
+    let mut before = case.list_n.clone();
+    before.truncate(before.len() - 1 - from_end);
+    let whole = super::plain::compose(None, case.packing_n, &before);
+    crate::layout_numbers(whole).unwrap()[2]
+}
+
+const LAST_21: Spoil = (21, |c| put(c, 0, [1, 4, 0, 0, 0, 0]));
+const LAST_1: Spoil = (1, |c| put(c, 0, [3, 1, 3, 0, 0, 0]));
+const LAST_22: Spoil = (22, |c| put(c, 0, [1, 1, 1, 0, 1, 0]));
+const LAST_2: Spoil = (2, |c| put(c, 0, [1, 3, 1, 0, 1, 0]));
+const UNEVEN: Spoil = (20, |c| c.list.truncate(c.list.len() - 1));
+const OWN_ALIGN: Spoil = (1, |c| c.own_align = 3 * c.align);
+const PACKING: Spoil = (5, |c| c.packing = 3 * c.align);
+const LAST_6: Spoil = (6, |c| put(c, 0, [1 << 30, 1, 1 << 30, 0, 0, 0]));
+const LAST_7: Spoil = (7, |c| put(c, 1, [1, 3, 0, 0, 1, 1]));
+const LAST_8: Spoil = (8, |c| {
+    (c.packing, c.packing_n) = (0, None);
+    let size = u64::MAX - size_before(c, 1);
+    put(c, 1, [1, 1, size, 0, 0, 0]);
+    put(c, 0, [2, 1, 2, 0, 0, 0]);
+});
+const LAST_9: Spoil = (9, |c| put(c, 0, [1, 1, u64::MAX, 0, 0, 0]));
+const FINAL_8: Spoil = (8, |c| {
+    let size = u64::MAX - size_before(c, 0);
+    put(c, 0, [1, 1, size, 0, 0, 0]);
+    c.own_align = 2 * c.align;
+});
+
+pub const COMPOSE: &[Spoil] =
+    &[UNEVEN, OWN_ALIGN, PACKING, LAST_21, LAST_1, LAST_22, LAST_2, LAST_6, LAST_7, LAST_8, LAST_9];
+pub const STRUCT: &[Spoil] =
+    &[UNEVEN, OWN_ALIGN, PACKING, LAST_21, LAST_1, LAST_22, LAST_2, LAST_6, LAST_7, LAST_8, LAST_9, FINAL_8];
+pub const STRUCT_OF_ONE: &[Spoil] =
+    &[UNEVEN, OWN_ALIGN, PACKING, LAST_21, LAST_1, LAST_22, LAST_2, LAST_6, FINAL_8];

@@ -1,0 +1,317 @@
+//! The Rust behind the C interface, with the export's refusals and the same answer: a function each that is not inlined.
+//!
+//! It is written as one would write it in Rust: plain tests with early returns, in the order of document 01, that make
+//! the Rust's own types of the numbers, so that nothing is tested twice, and then the Rust's own function. All of it is
+//! compiled as one unit, so that the compiler may inline what it likes.
+
+use super::exports::{Layout, Told, Trailing, Words};
+use crate::*;
+
+// ---- the numbers as the Rust's types, or the refusal ----
+
+#[inline]
+fn alignment(number: u64) -> Result<NonZeroUsize, u64> {
+    if !number.is_power_of_two() {
+        return Err(1);
+    }
+    NonZeroUsize::new(number as usize).ok_or(1)
+}
+
+#[inline]
+fn asked_alignment(number: u64) -> Result<Option<NonZeroUsize>, u64> {
+    if number == 0 {
+        return Ok(None);
+    }
+    alignment(number).map(Some)
+}
+
+#[inline]
+fn rounding(word: u64) -> Result<RoundingAlignAndPhase, u64> {
+    NonZeroUsize::new(word as usize).map(RoundingAlignAndPhase).ok_or(2)
+}
+
+#[inline]
+fn tail(Words([offset, elem_size, size_base, word]): Trailing) -> Result<TrailingSliceLayout, u64> {
+    Ok(TrailingSliceLayout {
+        offset: offset as usize,
+        elem_size: elem_size as usize,
+        size_base: size_base as usize,
+        size_rounding_align_and_phase: rounding(word)?,
+    })
+}
+
+#[inline]
+fn layout(Words([align, kind, size_or_base, offset, elem_size, word]): Layout) -> Result<DstLayout, u64> {
+    if kind > 3 {
+        return Err(21);
+    }
+    let align = alignment(align)?;
+    let size_info = if kind < 2 {
+        if (offset | elem_size | word) != 0 {
+            return Err(22);
+        }
+        SizeInfo::Sized { size: size_or_base as usize }
+    } else {
+        SizeInfo::SliceDst(tail(Words([offset, elem_size, size_or_base, word]))?)
+    };
+    Ok(DstLayout { align, size_info, statically_shallow_unpadded: kind % 2 == 1 })
+}
+
+#[inline]
+fn check_type(size: u64, align: u64) -> Result<(), u64> {
+    if !align.is_power_of_two() {
+        return Err(1);
+    }
+    if size & (align - 1) != 0 {
+        return Err(4);
+    }
+    Ok(())
+}
+
+// ---- compositions ----
+
+#[inline]
+fn word_at(record: &[u8; 48], at: usize) -> u64 {
+    u64::from_le_bytes(record[at..at + 8].try_into().unwrap())
+}
+
+#[inline]
+fn words(record: &[u8; 48]) -> Layout {
+    Words([
+        word_at(record, 0),
+        word_at(record, 8),
+        word_at(record, 16),
+        word_at(record, 24),
+        word_at(record, 32),
+        word_at(record, 40),
+    ])
+}
+
+/// The members one after the other, or the refusal and its place.
+#[inline]
+fn composed(repr_align: u64, repr_packed: u64, members: &[u8]) -> Result<DstLayout, (u64, u64)> {
+    if members.len() % 48 != 0 {
+        return Err((20, 0));
+    }
+    let align = asked_alignment(repr_align).map_err(|number| (number, 0))?;
+    let packing = asked(repr_packed);
+    let mut whole = DstLayout::new_zst(align);
+    for (place, record) in members.chunks_exact(48).enumerate() {
+        let refused = |number| (number, place as u64);
+        let member = layout(words(record.try_into().unwrap())).map_err(refused)?;
+        whole = whole.try_extend(member, packing).map_err(refused)?;
+    }
+    Ok(whole)
+}
+
+// ---- the answers of the C interface ----
+
+#[inline]
+fn told<const N: usize>(says: Says<N>) -> Told<N> {
+    match says {
+        Ok(values) => Told { refusal: 0, values },
+        Err(refusal) => Told { refusal, values: [0; N] },
+    }
+}
+
+#[inline]
+fn told_at(says: Result<DstLayout, (u64, u64)>) -> Told<7> {
+    match says {
+        Ok(layout) => {
+            let [align, kind, size_or_base, offset, elem_size, word] = layout_words(layout);
+            Told { refusal: 0, values: [0, align, kind, size_or_base, offset, elem_size, word] }
+        }
+        Err((refusal, place)) => Told { refusal, values: [place, 0, 0, 0, 0, 0, 0] },
+    }
+}
+
+#[inline]
+fn layout_words(layout: DstLayout) -> [u64; 6] {
+    let (align, mark) = (layout.align.get() as u64, u64::from(layout.statically_shallow_unpadded));
+    match layout.size_info {
+        SizeInfo::Sized { size } => [align, mark, size as u64, 0, 0, 0],
+        SizeInfo::SliceDst(tail) => {
+            let [offset, elem_size, size_base, word] = trailing_numbers(tail);
+            [align, 2 + mark, size_base, offset, elem_size, word]
+        }
+    }
+}
+
+macro_rules! functions {
+    ($($name:ident($($input:ident: $type:ty),*) -> $answers:literal $answer:block)*) => {
+        $(#[inline(never)]
+        pub extern "C" fn $name($($input: $type),*) -> Told<$answers> {
+            told((|| $answer)())
+        })*
+    };
+}
+
+functions! {
+    padding_needed_for(len: u64, align: u64) -> 1 {
+        number(util::padding_needed_for(len as usize, alignment(align)?))
+    }
+    round_down_to_next_multiple_of_alignment(n: u64, align: u64) -> 1 {
+        number(util::round_down_to_next_multiple_of_alignment(n as usize, alignment(align)?))
+    }
+    max(a: u64, b: u64) -> 1 { number(util::max(alignment(a)?, alignment(b)?).get()) }
+    min(a: u64, b: u64) -> 1 { number(util::min(alignment(a)?, alignment(b)?).get()) }
+
+    rounding_new(align: u64, phase: u64) -> 1 {
+        let align = alignment(align)?;
+        if phase as usize >= align.get() {
+            return Err(3);
+        }
+        number(RoundingAlignAndPhase::new(align, phase as usize).0.get())
+    }
+    rounding_components(word: u64) -> 2 {
+        let (align, phase) = rounding(word)?.components();
+        Ok([align.get() as u64, phase as u64])
+    }
+    rounding_align(word: u64) -> 1 { number(rounding(word)?.align().get()) }
+
+    size_offset(layout: Trailing) -> 1 { number(tail(layout)?.size_offset()) }
+    max_trailing_bytes(layout: Trailing, len: u64) -> 1 {
+        number_or(tail(layout)?.max_trailing_bytes(len as usize), 16)
+    }
+    padding_for_elems(layout: Trailing, elems: u64) -> 1 { number(tail(layout)?.padding_for_elems(elems as usize)) }
+    size_for_elems(layout: Trailing, elems: u64) -> 1 { number_or(tail(layout)?.size_for_elems(elems as usize), 15) }
+    advance(layout: Trailing, bytes: u64, elem_size: u64) -> 4 {
+        tail(layout)?.advance(bytes as usize, elem_size as usize).map(trailing_numbers).ok_or(17)
+    }
+    has_same_size_sequence(layout: Trailing, other: Trailing) -> 1 {
+        yes_or_no(tail(layout)?.has_same_size_sequence(tail(other)?))
+    }
+
+    new_zst(repr_align: u64) -> 6 { Ok(layout_words(DstLayout::new_zst(asked_alignment(repr_align)?))) }
+    for_type(size: u64, align: u64) -> 6 {
+        check_type(size, align)?;
+        Ok(layout_words(DstLayout::for_type(size as usize, align as usize)))
+    }
+    for_unpadded_type(size: u64, align: u64) -> 6 {
+        check_type(size, align)?;
+        Ok(layout_words(DstLayout::for_unpadded_type(size as usize, align as usize)))
+    }
+    for_slice(size: u64, align: u64) -> 6 {
+        check_type(size, align)?;
+        Ok(layout_words(DstLayout::for_slice(size as usize, align as usize)))
+    }
+    extend(own: Layout, field: Layout, repr_packed: u64) -> 6 {
+        let (own, field) = (layout(own)?, layout(field)?);
+        Ok(layout_words(own.try_extend(field, asked(repr_packed))?))
+    }
+    pad_to_align(own: Layout) -> 6 { Ok(layout_words(layout(own)?.try_pad_to_align()?)) }
+    requires_static_padding(own: Layout) -> 1 { yes_or_no(layout(own)?.requires_static_padding()) }
+    requires_dynamic_padding(own: Layout) -> 1 { yes_or_no(layout(own)?.requires_dynamic_padding()) }
+
+    scalar(code: u64) -> 6 {
+        if code > 8 {
+            return Err(23);
+        }
+        Ok(layout_words(SCALARS[code as usize]))
+    }
+
+    validate_cast_and_convert_metadata(own: Layout, addr: u64, len: u64, suffix: bool) -> 2 {
+        let own = layout(own)?;
+        if matches!(own.size_info, SizeInfo::SliceDst(TrailingSliceLayout { elem_size: 0, .. })) {
+            return Err(10);
+        }
+        if addr.checked_add(len).is_none() {
+            return Err(11);
+        }
+        let side = if suffix { CastType::Suffix } else { CastType::Prefix };
+        match own.validate_cast_and_convert_metadata(addr as usize, len as usize, side) {
+            Ok((count, split)) => Ok([count as u64, split as u64]),
+            Err(MetadataCastError::Alignment) => Err(12),
+            Err(MetadataCastError::Size) => Err(13),
+        }
+    }
+    metadata_for_exact_size(own: Layout, size: u64) -> 1 {
+        number_or(layout(own)?.metadata_for_exact_size(size as usize), 14)
+    }
+
+    size_sequences_match(src: Trailing, dst: Trailing, dst_base: u64) -> 1 {
+        yes_or_no(CastParams::size_sequences_match(tail(src)?, tail(dst)?, dst_base as usize))
+    }
+    try_compute(src: Layout, dst: Layout) -> 4 {
+        let (src, dst) = (layout(src)?, layout(dst)?);
+        let Some(params) = CastParams::try_compute(&src, &dst) else { return Err(18) };
+        Ok(match params.inner {
+            CastParamsInner::SizedToSized => [0, 0, 0, 0],
+            CastParamsInner::SizedToUnsized { dst_meta } => [1, 0, 0, dst_meta as u64],
+            CastParamsInner::UnsizedToUnsized { offset_delta_elems, elem_multiple } => {
+                [2, offset_delta_elems as u64, elem_multiple as u64, 0]
+            }
+        })
+    }
+    cast_metadata(params: Words<4>, count: u64) -> 1 {
+        let Words([kind, shift, multiple, meta]) = params;
+        if kind < 2 {
+            return Ok([if kind == 0 { 0 } else { meta }]);
+        }
+        match multiple.checked_mul(count).and_then(|scaled| scaled.checked_add(shift)) {
+            Some(converted) => Ok([converted]),
+            None => Err(19),
+        }
+    }
+}
+
+#[inline(never)]
+pub extern "C" fn is_power_of_two(align: u64) -> u8 {
+    u8::from(align.is_power_of_two())
+}
+
+const fn unpadded<T>() -> DstLayout {
+    DstLayout {
+        align: NonZeroUsize::new(mem::align_of::<T>()).unwrap(),
+        size_info: SizeInfo::Sized { size: mem::size_of::<T>() },
+        statically_shallow_unpadded: true,
+    }
+}
+
+const SCALARS: [DstLayout; 9] = [
+    unpadded::<u8>(),
+    unpadded::<u16>(),
+    unpadded::<u32>(),
+    unpadded::<u64>(),
+    unpadded::<f32>(),
+    unpadded::<f64>(),
+    unpadded::<char>(),
+    unpadded::<bool>(),
+    unpadded::<usize>(),
+];
+
+#[inline(never)]
+pub fn decode(bytes: &[u8]) -> Told<6> {
+    told((|| {
+        let record = bytes.try_into().map_err(|_| 20u64)?;
+        let words = words(record);
+        layout(words)?;
+        Ok(words.0)
+    })())
+}
+
+#[inline(never)]
+pub fn encode(own: Layout, out: &mut [u8]) -> u64 {
+    if out.len() != 48 {
+        return 20;
+    }
+    if let Err(refusal) = layout(own) {
+        return refusal;
+    }
+    for (bytes, word) in out.chunks_exact_mut(8).zip(own.0) {
+        bytes.copy_from_slice(&word.to_le_bytes());
+    }
+    0
+}
+
+#[inline(never)]
+pub fn compose(repr_align: u64, repr_packed: u64, members: &[u8]) -> Told<7> {
+    told_at(composed(repr_align, repr_packed, members))
+}
+
+#[inline(never)]
+pub fn for_repr_c_struct(repr_align: u64, repr_packed: u64, members: &[u8]) -> Told<7> {
+    let whole = composed(repr_align, repr_packed, members);
+    let place = members.len() as u64 / 48;
+    told_at(whole.and_then(|whole| whole.try_pad_to_align().map_err(|number| (number, place))))
+}
