@@ -1,7 +1,6 @@
 //! The inputs of the bench, each in the words of the C interface and in the Rust's own types.
 //!
-//! The Rust refuses none of them by a panic, so that it can be called as it is, but for the refused ones, which it is not
-//! called on.
+//! The Rust refuses none of them by a panic, so that it can be called as it is; on the refused ones it is not called.
 
 use super::exports::Words;
 use super::random::Random;

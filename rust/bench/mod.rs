@@ -1,8 +1,8 @@
 //! How long the exports take beside the Rust that they were ported from. tools/bench builds and runs it.
 //!
-//! Three sides are called on the same inputs, none of them inlined: the export; the Rust as it is, in its own types; and
-//! the Rust behind the C interface, with the export's refusals and the same answer. Rounds alternate, in both orders, and
-//! the best of each side counts.
+//! Three sides are called on the same inputs, through pointers: the export; the Rust behind the C interface, with the
+//! export's refusals and the same answer, which the same code calls; and the Rust as it is, in its own types. Rounds
+//! alternate, in both orders, and the best of each side counts.
 
 mod cases;
 #[path = "../exports.rs"]
@@ -36,24 +36,28 @@ const ROUND: Duration = Duration::from_micros(50);
 /// How often the inputs are gone through by `--counts`.
 const COUNTED: u64 = 8;
 
-/// Goes through the cases, as often as said.
+/// Goes through the cases, as often as said. The compiler does not see which function is called.
 #[inline(never)]
-fn go_through<T>(cases: &[Case], times: u64, call: impl Fn(&Case) -> T) {
+fn go_through<F, T>(cases: &[Case], times: u64, function: F, call: impl Fn(F, &Case) -> T)
+where
+    F: Copy,
+{
+    let function = black_box(function);
     for _ in 0..times {
         for case in cases {
-            black_box(call(black_box(case)));
+            black_box(call(function, black_box(case)));
         }
     }
 }
 
-fn timed(side: Side, cases: &[Case], times: u64) -> Duration {
+fn timed(side: &Side, cases: &[Case], times: u64) -> Duration {
     let start = Instant::now();
     side(cases, times);
     start.elapsed()
 }
 
 /// How often a side goes through the cases in a round.
-fn times_in_a_round(side: Side, cases: &[Case]) -> u64 {
+fn times_in_a_round(side: &Side, cases: &[Case]) -> u64 {
     let mut times = 1;
     while timed(side, cases, times) < ROUND {
         times *= 2;
@@ -62,7 +66,7 @@ fn times_in_a_round(side: Side, cases: &[Case]) -> u64 {
 }
 
 /// The best time of a call of each side, in nanoseconds.
-fn best(sides: [Option<Side>; 3], cases: &[Case], rounds: u64) -> [Option<f64>; 3] {
+fn best(sides: [Option<&Side>; 3], cases: &[Case], rounds: u64) -> [Option<f64>; 3] {
     let times = sides.map(|side| side.map(|side| times_in_a_round(side, cases)));
     let mut best = [None; 3];
     for round in 0..rounds {
@@ -79,8 +83,8 @@ fn best(sides: [Option<Side>; 3], cases: &[Case], rounds: u64) -> [Option<f64>; 
 }
 
 /// A function's inputs of a set, and the sides that take them. None where the function refuses nothing.
-fn inputs(row: &Row, set: Set) -> Result<Option<(Vec<Case>, [Option<Side>; 3])>, String> {
-    let (mut cases, mut sides) = ((row.cases)(set), row.sides);
+fn inputs(row: &Row, set: Set) -> Result<Option<(Vec<Case>, [Option<&Side>; 3])>, String> {
+    let (mut cases, mut sides) = ((row.cases)(set), row.sides.each_ref().map(Option::as_ref));
     let mut expected = vec![0];
     if set == Set::Refused {
         if row.spoils.is_empty() {
@@ -100,7 +104,7 @@ fn inputs(row: &Row, set: Set) -> Result<Option<(Vec<Case>, [Option<Side>; 3])>,
     Ok(Some((cases, sides)))
 }
 
-fn times(rounds: u64, rows: &[&Row]) -> Result<(), String> {
+fn times(rounds: u64, rows: &[Row]) -> Result<(), String> {
     for row in rows {
         for set in SETS {
             if let Some((cases, sides)) = inputs(row, set)? {
@@ -112,7 +116,7 @@ fn times(rounds: u64, rows: &[&Row]) -> Result<(), String> {
     Ok(())
 }
 
-fn counts(rows: &[&Row]) -> Result<(), String> {
+fn counts(rows: &[Row]) -> Result<(), String> {
     for row in rows {
         for set in SETS {
             if let Some((cases, sides)) = inputs(row, set)? {
@@ -136,8 +140,8 @@ fn run() -> Result<(), String> {
         ["--counts", ref only @ ..] => (None, only),
         _ => return Err(USAGE.to_string()),
     };
-    let named = |row: &&Row| only.is_empty() || row.name == only[0] || row.name.split(',').next() == Some(only[0]);
-    let rows: Vec<&Row> = rows().filter(named).collect();
+    let named = |row: &Row| only.is_empty() || row.name == only[0] || row.name.split(',').next() == Some(only[0]);
+    let rows: Vec<Row> = rows().into_iter().filter(named).collect();
     if only.len() > 1 {
         return Err(USAGE.to_string());
     }

@@ -4,8 +4,7 @@ use crate::*;
 
 macro_rules! functions {
     ($($name:ident($($input:ident: $type:ty),*) -> $answer:ty = $call:expr;)*) => {
-        $(#[inline(never)]
-        pub fn $name($($input: $type),*) -> $answer {
+        $(pub fn $name($($input: $type),*) -> $answer {
             $call
         })*
     };

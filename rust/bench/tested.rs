@@ -1,11 +1,13 @@
-//! The Rust behind the C interface, with the export's refusals and the same answer: a function each that is not inlined.
+//! The Rust behind the C interface, with the export's refusals and the same answer.
 //!
 //! It is written as one would write it in Rust: plain tests with early returns, in the order of document 01, that make
-//! the Rust's own types of the numbers, so that nothing is tested twice, and then the Rust's own function. All of it is
-//! compiled as one unit, so that the compiler may inline what it likes.
+//! the Rust's own types of the numbers, so that nothing is tested twice, and then the Rust's own function; of `extend`
+//! and `pad_to_align` the text with refusals that are returned. All of it is compiled as one unit, so that the compiler
+//! may inline what it likes.
 
 use super::exports::{Layout, Told, Trailing, Words};
 use crate::*;
+use core::slice;
 
 // ---- the numbers as the Rust's types, or the refusal ----
 
@@ -139,8 +141,7 @@ fn layout_words(layout: DstLayout) -> [u64; 6] {
 
 macro_rules! functions {
     ($($name:ident($($input:ident: $type:ty),*) -> $answers:literal $answer:block)*) => {
-        $(#[inline(never)]
-        pub extern "C" fn $name($($input: $type),*) -> Told<$answers> {
+        $(pub extern "C" fn $name($($input: $type),*) -> Told<$answers> {
             told((|| $answer)())
         })*
     };
@@ -255,7 +256,6 @@ functions! {
     }
 }
 
-#[inline(never)]
 pub extern "C" fn is_power_of_two(align: u64) -> u8 {
     u8::from(align.is_power_of_two())
 }
@@ -280,38 +280,47 @@ const SCALARS: [DstLayout; 9] = [
     unpadded::<usize>(),
 ];
 
-#[inline(never)]
-pub fn decode(bytes: &[u8]) -> Told<6> {
-    told((|| {
-        let record = bytes.try_into().map_err(|_| 20u64)?;
-        let words = words(record);
-        layout(words)?;
-        Ok(words.0)
-    })())
+fn decoded(record: &[u8]) -> Says<6> {
+    let record = record.try_into().map_err(|_| 20u64)?;
+    let words = words(record);
+    layout(words)?;
+    Ok(words.0)
 }
 
-#[inline(never)]
-pub fn encode(own: Layout, out: &mut [u8]) -> u64 {
+fn encoded(own: Layout, out: &mut [u8]) -> Result<(), u64> {
     if out.len() != 48 {
-        return 20;
+        return Err(20);
     }
-    if let Err(refusal) = layout(own) {
-        return refusal;
-    }
+    layout(own)?;
     for (bytes, word) in out.chunks_exact_mut(8).zip(own.0) {
         bytes.copy_from_slice(&word.to_le_bytes());
     }
-    0
+    Ok(())
 }
 
-#[inline(never)]
-pub fn compose(repr_align: u64, repr_packed: u64, members: &[u8]) -> Told<7> {
-    told_at(composed(repr_align, repr_packed, members))
+// SAFETY of these: the bytes are as many as said.
+
+pub unsafe extern "C" fn decode(record: *const u8, len: usize) -> Told<6> {
+    told(decoded(unsafe { slice::from_raw_parts(record, len) }))
 }
 
-#[inline(never)]
-pub fn for_repr_c_struct(repr_align: u64, repr_packed: u64, members: &[u8]) -> Told<7> {
-    let whole = composed(repr_align, repr_packed, members);
-    let place = members.len() as u64 / 48;
-    told_at(whole.and_then(|whole| whole.try_pad_to_align().map_err(|number| (number, place))))
+pub unsafe extern "C" fn encode(own: Layout, out: *mut u8, len: usize) -> u64 {
+    match encoded(own, unsafe { slice::from_raw_parts_mut(out, len) }) {
+        Ok(()) => 0,
+        Err(refusal) => refusal,
+    }
+}
+
+pub unsafe extern "C" fn compose(repr_align: u64, repr_packed: u64, members: *const u8, len: usize) -> Told<7> {
+    told_at(composed(repr_align, repr_packed, unsafe { slice::from_raw_parts(members, len) }))
+}
+
+pub unsafe extern "C" fn for_repr_c_struct(
+    repr_align: u64,
+    repr_packed: u64,
+    members: *const u8,
+    len: usize,
+) -> Told<7> {
+    let whole = composed(repr_align, repr_packed, unsafe { slice::from_raw_parts(members, len) });
+    told_at(whole.and_then(|whole| whole.try_pad_to_align().map_err(|number| (number, len as u64 / 48))))
 }
