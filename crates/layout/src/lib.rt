@@ -4,6 +4,7 @@ ghost use mathlib.Core.Bool.{_&&_};
 ghost use mathlib.Core.List.{[], _∷_};
 ghost use Prim.Native.Nat.{ℕ, max};
 ghost use lib.Dec.{eqb};
+ghost use Rattle.util.specs.Round.{padding};
 ghost use Rattle.util.specs.Power.{PowerOfTwo};
 ghost use Rattle.util.specs.Refusal.{answered, refused, unless, Meets};
 ghost use Rattle.util.specs.View.{numberSays};
@@ -127,6 +128,36 @@ fn place_trailing(tail: TrailingSliceLayout, place: u64) -> SizeInfoAnswer
     }))
 }
 
+// The bytes that pad len to what is known to be a power of two: of the lesser of two alignments the compiler does not see
+// that it is one, and would test it once more.
+fn padding_to_power(len: u64, align: u64) -> u64
+    requires { ⌜ PowerOfTwo align ⌝ }
+    ensures { λ r. ⌜ r ≡ padding len align ⌝ }
+{
+    let mask = align - 1;
+    !std::num::wrapping_sub_u64(len, 1) & mask
+}
+
+// `round_up` to such a power of two.
+fn round_up_to_power(len: u64, align: u64) -> Answer
+    requires { ⌜ PowerOfTwo align ⌝ }
+    ensures { λ r. ⌜ numberSays r ≡ roundUpFor 64 len align ⌝ }
+{
+    let padding = padding_to_power(len, align);
+    if u64::MAX - padding < len {
+        Answer::Refused(refusal::ROUNDING_PASSES_MAX)
+    } else {
+        Answer::Number(len + padding)
+    }
+}
+
+// The larger of two numbers.
+fn larger(a: u64, b: u64) -> u64
+    ensures { λ r. ⌜ r ≡ max a b ⌝ }
+{
+    if a < b { b } else { a }
+}
+
 // The size of a layout whose last member stands at place.
 fn place_member(size_info: SizeInfo, place: u64) -> SizeInfoAnswer
     ensures { λ r. ⌜ infoSays r ≡ unless (memberPasses 64 place (infoOf «size_info») ∷ []) (placedAt place (infoOf «size_info»)) ⌝ }
@@ -170,14 +201,11 @@ fn extend_at(own: SizedLayout, field: DstLayout, field_align: u64, place: u64) -
         place,
     );
     match place_member(field_info, place) {
-        SizeInfoAnswer::Info(size_info) => match util::max(own.align, field_align) {
-            Answer::Number(align) => LayoutAnswer::Layout(DstLayout {
-                align,
-                size_info,
-                statically_shallow_unpadded: unpadded,
-            }),
-            Answer::Refused(number) => LayoutAnswer::Refused(number),
-        },
+        SizeInfoAnswer::Info(size_info) => LayoutAnswer::Layout(DstLayout {
+            align: larger(own.align, field_align),
+            size_info,
+            statically_shallow_unpadded: unpadded,
+        }),
         SizeInfoAnswer::Refused(number) => LayoutAnswer::Refused(number),
     }
 }
@@ -187,7 +215,7 @@ fn extend_aligned(own: SizedLayout, field: DstLayout, field_align: u64) -> Layou
     requires { ⌜ PowerOfTwo (own .align) × PowerOfTwo «field_align» ⌝ }
     ensures { λ r. ⌜ ((packing : ℕ) → «field_align» ≡ memberAlign (field .align) packing → layoutSays r ≡ unless (placeCauses 64 (sizedOf own) (layoutOf field) packing) (extended (sizedOf own) (layoutOf field) packing)) ⌝ }
 {
-    match round_up(own.size, field_align) {
+    match round_up_to_power(own.size, field_align) {
         Answer::Number(place) => extend_at(own, field, field_align, place),
         Answer::Refused(number) => LayoutAnswer::Refused(number),
     }
