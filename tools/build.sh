@@ -1,13 +1,13 @@
 # What the tools beside it share. They source it, and stand at the top of the repository when they call it.
 
-# build_library OUT: builds the library, which must have every export that rust/exports.rs declares. OUT is made.
+# build_library OUT: builds the library, which must have every export that rust/lukaripe/src/exports.rs declares. OUT is
+# made.
 build_library() {
     local missing
-    # Standard output is the driver's alone.
-    rt staticlib lukaripe >&2
+    tools/library
     mkdir -p "$1"
     nm --defined-only target/staticlib/liblukaripe.a | sed -n 's/.* T //p' | sort -u >"$1/exports"
-    missing=$(grep -oh 'lukaripe_[a-z_]*' rust/exports.rs | sort -u | comm -23 - "$1/exports")
+    missing=$(grep -oh 'lukaripe_[a-z_]*' rust/lukaripe/src/exports.rs | sort -u | comm -23 - "$1/exports")
     if [ -n "$missing" ]; then
         echo "the library has no" $missing >&2
         return 1

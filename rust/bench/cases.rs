@@ -137,17 +137,18 @@ fn fixed(random: &mut Random, set: Set) -> [u64; 6] {
     crate::for_unpadded_type(size, align).unwrap()
 }
 
-fn tail([_, _, size_base, offset, elem_size, word]: [u64; 6]) -> [u64; 4] {
-    [offset, elem_size, size_base, word]
+/// The last four words of a layout.
+fn tail([_, _, tail @ ..]: [u64; 6]) -> [u64; 4] {
+    tail
 }
 
 /// A source for the target: the same rounding further on, or for the worst case another one with a phase.
 fn source(random: &mut Random, set: Set, target: [u64; 6]) -> Option<[u64; 6]> {
-    let [offset, elem_size, _, word] = tail(target);
+    let [_, offset, elem_size, word] = tail(target);
     let [shift, times] = [1 + random.below(3), 1 + random.below(3)];
     if set != Set::Worst {
         let bytes = shift.checked_mul(elem_size)?;
-        let [_, elem_size, base, word] = crate::advance(tail(target), bytes, elem_size.checked_mul(times)?).ok()?;
+        let [base, _, elem_size, word] = crate::advance(tail(target), bytes, elem_size.checked_mul(times)?).ok()?;
         return Some([target[0], target[1], base, offset, elem_size, word]);
     }
     // Twice the alignment of the rounding, phase 1, and elements that are a multiple of both alignments.
@@ -158,25 +159,26 @@ fn source(random: &mut Random, set: Set, target: [u64; 6]) -> Option<[u64; 6]> {
 }
 
 /// The trailing part with another rounding, of twice the alignment, that has the same size at 0.
-fn other_rounding([offset, elem_size, size_base, word]: [u64; 4]) -> Option<[u64; 4]> {
-    let size = crate::size_for_elems([offset, elem_size, size_base, word], 0).ok()?[0];
-    Some([offset, elem_size, size, 2 << word.ilog2()])
+fn other_rounding(tail: [u64; 4]) -> Option<[u64; 4]> {
+    let [_, offset, elem_size, word] = tail;
+    let size = crate::size_for_elems(tail, 0).ok()?[0];
+    Some([size, offset, elem_size, 2 << word.ilog2()])
 }
 
 /// The same sizes with a phase, where elements are whole multiples of the alignment; else only the offset is another.
-fn same_sizes([offset, elem_size, size_base, word]: [u64; 4]) -> [u64; 4] {
+fn same_sizes([size_base, offset, elem_size, word]: [u64; 4]) -> [u64; 4] {
     if word.is_power_of_two() && word > 1 && elem_size % word == 0 && size_base >= word {
-        return [offset, elem_size, size_base - word, word + 1];
+        return [size_base - word, offset, elem_size, word + 1];
     }
-    [offset ^ 1, elem_size, size_base, word]
+    [size_base, offset ^ 1, elem_size, word]
 }
 
 fn other_tail(random: &mut Random, tail: [u64; 4]) -> Option<[u64; 4]> {
-    let [offset, elem_size, size_base, word] = tail;
+    let [size_base, offset, elem_size, word] = tail;
     match random.below(4) {
         0 => Some(same_sizes(tail)),
-        1 => Some([offset, elem_size.checked_add(1)?, size_base, word]),
-        2 => Some([offset, elem_size, size_base.checked_add(1 << word.ilog2())?, word]),
+        1 => Some([size_base, offset, elem_size.checked_add(1)?, word]),
+        2 => Some([size_base.checked_add(1 << word.ilog2())?, offset, elem_size, word]),
         _ => other_rounding(tail),
     }
 }

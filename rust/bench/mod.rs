@@ -5,7 +5,7 @@
 //! alternate, in both orders, and the best of each side counts.
 
 mod cases;
-#[path = "../exports.rs"]
+#[path = "../lukaripe/src/exports.rs"]
 mod exports;
 mod plain;
 #[path = "../differential/random.rs"]

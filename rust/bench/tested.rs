@@ -33,7 +33,7 @@ fn rounding(word: u64) -> Result<RoundingAlignAndPhase, u64> {
 }
 
 #[inline]
-fn tail(Words([offset, elem_size, size_base, word]): Trailing) -> Result<TrailingSliceLayout, u64> {
+fn tail(Words([size_base, offset, elem_size, word]): Trailing) -> Result<TrailingSliceLayout, u64> {
     Ok(TrailingSliceLayout {
         offset: offset as usize,
         elem_size: elem_size as usize,
@@ -43,7 +43,7 @@ fn tail(Words([offset, elem_size, size_base, word]): Trailing) -> Result<Trailin
 }
 
 #[inline]
-fn layout(Words([align, kind, size_or_base, offset, elem_size, word]): Layout) -> Result<DstLayout, u64> {
+fn layout(Words([align, kind, size_base, offset, elem_size, word]): Layout) -> Result<DstLayout, u64> {
     if kind > 3 {
         return Err(21);
     }
@@ -52,9 +52,9 @@ fn layout(Words([align, kind, size_or_base, offset, elem_size, word]): Layout) -
         if (offset | elem_size | word) != 0 {
             return Err(22);
         }
-        SizeInfo::Sized { size: size_or_base as usize }
+        SizeInfo::Sized { size: size_base as usize }
     } else {
-        SizeInfo::SliceDst(tail(Words([offset, elem_size, size_or_base, word]))?)
+        SizeInfo::SliceDst(tail(Words([size_base, offset, elem_size, word]))?)
     };
     Ok(DstLayout { align, size_info, statically_shallow_unpadded: kind % 2 == 1 })
 }
@@ -120,8 +120,8 @@ fn told<const N: usize>(says: Says<N>) -> Told<N> {
 fn told_at(says: Result<DstLayout, (u64, u64)>) -> Told<7> {
     match says {
         Ok(layout) => {
-            let [align, kind, size_or_base, offset, elem_size, word] = layout_words(layout);
-            Told { refusal: 0, values: [0, align, kind, size_or_base, offset, elem_size, word] }
+            let [align, kind, size_base, offset, elem_size, word] = layout_words(layout);
+            Told { refusal: 0, values: [0, align, kind, size_base, offset, elem_size, word] }
         }
         Err((refusal, place)) => Told { refusal, values: [place, 0, 0, 0, 0, 0, 0] },
     }
@@ -133,7 +133,7 @@ fn layout_words(layout: DstLayout) -> [u64; 6] {
     match layout.size_info {
         SizeInfo::Sized { size } => [align, mark, size as u64, 0, 0, 0],
         SizeInfo::SliceDst(tail) => {
-            let [offset, elem_size, size_base, word] = trailing_numbers(tail);
+            let [size_base, offset, elem_size, word] = trailing_numbers(tail);
             [align, 2 + mark, size_base, offset, elem_size, word]
         }
     }

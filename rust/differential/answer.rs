@@ -1,25 +1,26 @@
 //! What a call said, from whichever side.
 
-use crate::exports::Told;
+use crate::exports::{Carried, Told};
 
 /// The most numbers that an answer has.
-const MOST: usize = 7;
+const MOST: usize = 12;
 
 /// The refusal number, 0 where there is none, and the numbers of the answer. Those not used are 0, and on a refusal all
-/// of them but a list's place, so that a refusal that hands back anything is a difference.
+/// of them but a list's place and the other answers of a chain, so that a refusal that hands back anything is a
+/// difference.
 #[derive(Clone, Copy, PartialEq, Eq)]
 pub struct Answer {
     pub refusal: u64,
     pub values: [u64; MOST],
-    /// How many bytes changed that the call may not change.
-    pub strays: u64,
+    /// What the call broke besides: bytes that it may not change, or the conversion guarantee.
+    pub broken: Option<&'static str>,
 }
 
 impl Answer {
     fn new<const N: usize>(refusal: u64, some: [u64; N]) -> Answer {
         let mut values = [0; MOST];
         values[..N].copy_from_slice(&some);
-        Answer { refusal, values, strays: 0 }
+        Answer { refusal, values, broken: None }
     }
 
     pub fn of<const N: usize>(values: [u64; N]) -> Answer {
@@ -43,6 +44,14 @@ impl Answer {
     }
 }
 
+/// What a function of the Rust says, as an export tells it.
+pub fn told<const N: usize>(says: oracle::Says<N>) -> Told<N> {
+    match says {
+        Ok(values) => Told { refusal: 0, values },
+        Err(refusal) => Told { refusal, values: [0; N] },
+    }
+}
+
 impl<const N: usize> From<Told<N>> for Answer {
     fn from(told: Told<N>) -> Answer {
         Answer::new(told.refusal, told.values)
@@ -51,10 +60,7 @@ impl<const N: usize> From<Told<N>> for Answer {
 
 impl<const N: usize> From<oracle::Says<N>> for Answer {
     fn from(says: oracle::Says<N>) -> Answer {
-        match says {
-            Ok(values) => Answer::of(values),
-            Err(refusal) => Answer::refused(refusal),
-        }
+        told(says).into()
     }
 }
 
@@ -62,11 +68,35 @@ impl<const N: usize> From<oracle::Says<N>> for Answer {
 impl From<Result<oracle::Layout, oracle::AtPlace>> for Answer {
     fn from(says: Result<oracle::Layout, oracle::AtPlace>) -> Answer {
         match says {
-            Ok([align, kind, size_or_base, offset, elem_size, word]) => {
-                Answer::of([0, align, kind, size_or_base, offset, elem_size, word])
+            Ok([align, kind, size_base, offset, elem_size, word]) => {
+                Answer::of([0, align, kind, size_base, offset, elem_size, word])
             }
             Err((refusal, place)) => Answer::refused_at(refusal, place),
         }
+    }
+}
+
+/// A chain: its refusal is that of the conversion, and the other three answers have theirs among the values.
+impl From<Carried> for Answer {
+    fn from(Carried { computed, count, first, second }: Carried) -> Answer {
+        let Told { refusal, values: [kind, offset_delta_elems, elem_multiple, dst_meta] } = computed;
+        Answer::new(
+            refusal,
+            [
+                kind,
+                offset_delta_elems,
+                elem_multiple,
+                dst_meta,
+                count.refusal,
+                count.values[0],
+                first.refusal,
+                first.values[0],
+                first.values[1],
+                second.refusal,
+                second.values[0],
+                second.values[1],
+            ],
+        )
     }
 }
 

@@ -129,7 +129,7 @@ const LENGTH: Kind = Kind {
 };
 
 const LAYOUT: Kind = Kind {
-    names: &["align", "kind", "size_or_base", "offset", "elem_size", "word"],
+    names: &["align", "kind", "size_base", "offset", "elem_size", "word"],
     good: &[8, 1, 16, 0, 0, 0],
     bad: &[
         &[8, 4, 16, 0, 0, 0],

@@ -1,6 +1,6 @@
 //! Layouts to try: small ones, ones at the boundaries, and random ones, mostly such as types have.
 //!
-//! Six words as a record's: alignment, kind, size or base, offset, element size, rounding word.
+//! Six words as a record's: alignment, kind, size_base, offset, element size, rounding word.
 
 use crate::kinds::{any, power_of_two, rounding_word, BOUNDARIES};
 use crate::random::Random;
@@ -25,17 +25,17 @@ pub fn rounded_phase(word: u64) -> u64 {
 }
 
 /// The size at a count.
-pub fn size_at([_, kind, size_or_base, _, elem_size, word]: Layout, count: u64) -> u64 {
+pub fn size_at([_, kind, size_base, _, elem_size, word]: Layout, count: u64) -> u64 {
     if kind < 2 {
-        return size_or_base;
+        return size_base;
     }
     let (align, phase) = parts(word);
     let unrounded = phase.wrapping_add(count.wrapping_mul(elem_size));
-    size_or_base.wrapping_add(unrounded.wrapping_add(align - 1) & !(align - 1))
+    size_base.wrapping_add(unrounded.wrapping_add(align - 1) & !(align - 1))
 }
 
 /// A source that has the target's sizes from some count on, mostly, and that count.
-pub fn source_for(random: &mut Random, [offset, elem_size, size_base, word]: Trailing) -> (Trailing, u64) {
+pub fn source_for(random: &mut Random, [size_base, offset, elem_size, word]: Trailing) -> (Trailing, u64) {
     let (align, phase) = parts(word);
     let shift = random.below(6);
     let moved = phase.wrapping_add(shift.wrapping_mul(elem_size));
@@ -43,7 +43,7 @@ pub fn source_for(random: &mut Random, [offset, elem_size, size_base, word]: Tra
     if random.one_in(2) {
         // The same rounding, further on.
         let base = size_base.wrapping_add(moved & !(align - 1));
-        let source = [random.near(offset), elem_size.wrapping_mul(multiple), base, align + (moved & (align - 1))];
+        let source = [base, random.near(offset), elem_size.wrapping_mul(multiple), align + (moved & (align - 1))];
         return (source, shift);
     }
     // Another rounding, and elements that are a multiple of the alignments of both.
@@ -51,7 +51,7 @@ pub fn source_for(random: &mut Random, [offset, elem_size, size_base, word]: Tra
     let larger = align.max(parts(own).0);
     let size = size_base.wrapping_add(moved.wrapping_add(align - 1) & !(align - 1));
     let elem_size = elem_size.wrapping_mul(multiple).wrapping_mul(larger);
-    ([random.near(offset), elem_size, size.wrapping_sub(rounded_phase(own)), own], shift)
+    ([size.wrapping_sub(rounded_phase(own)), random.near(offset), elem_size, own], shift)
 }
 
 // ---- every small one ----

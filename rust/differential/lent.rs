@@ -32,8 +32,8 @@ pub fn records(held: &[u64]) -> Option<Vec<[u64; 6]>> {
     Some(held[1..].chunks_exact(6).map(|record| record.try_into().unwrap()).collect())
 }
 
-/// As many other bytes stand before the lent ones and after them. Odd, so that no word of them starts at a multiple of 8:
-/// the C interface asks for no alignment.
+/// As many other bytes stand before the lent ones and after them. Odd, so that no word of them starts at a multiple of
+/// 8: the C interface asks for no alignment.
 const AROUND: usize = 49;
 const OTHER: u8 = 0xa5;
 
@@ -50,10 +50,14 @@ fn changed(after: &[u8], before: &[u8]) -> usize {
     after.iter().zip(before).filter(|(after, before)| after != before).count()
 }
 
+fn stray(bytes: usize) -> Option<&'static str> {
+    (bytes > 0).then_some("bytes changed that it may not change")
+}
+
 /// A call that only reads what it is lent.
 pub fn reads(lent: &[u8], call: impl FnOnce(*const u8, usize) -> Answer) -> Answer {
     let (answer, after, strays) = lend(lent, |bytes, len| call(bytes, len));
-    Answer { strays: (strays + changed(&after, lent)) as u64, ..answer }
+    Answer { broken: stray(strays + changed(&after, lent)), ..answer }
 }
 
 /// A call that writes a record to what it is lent, and gives the refusal number. The answer has the words written.
@@ -65,7 +69,7 @@ pub fn writes(len: usize, call: impl FnOnce(*mut u8, usize) -> u64) -> Answer {
         for (word, bytes) in words.iter_mut().zip(after.chunks_exact(8)) {
             *word = u64::from_le_bytes(bytes.try_into().unwrap());
         }
-        return Answer { strays: strays as u64, ..Answer::of(words) };
+        return Answer { broken: stray(strays), ..Answer::of(words) };
     }
-    Answer { strays: (strays + changed(&after, &lent)) as u64, ..Answer::refused(refusal) }
+    Answer { broken: stray(strays + changed(&after, &lent)), ..Answer::refused(refusal) }
 }

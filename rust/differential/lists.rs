@@ -106,15 +106,15 @@ fn fill(random: &mut Random, members: &mut [Layout]) {
 /// Something wrong with one of the members.
 fn spoil(random: &mut Random, members: &mut [Layout]) {
     let at = random.below(members.len() as u64) as usize;
-    let [align, kind, size_or_base, offset, elem_size, word] = members[at];
+    let [align, kind, size_base, offset, elem_size, word] = members[at];
     members[at] = match random.below(7) {
-        0 => [align, 4 + random.below(2), size_or_base, offset, elem_size, word],
-        1 => [random.one_of(&[0, 3, 6]), kind, size_or_base, offset, elem_size, word],
+        0 => [align, 4 + random.below(2), size_base, offset, elem_size, word],
+        1 => [random.one_of(&[0, 3, 6]), kind, size_base, offset, elem_size, word],
         // A fixed one with a later word.
-        2 => [align, kind % 2, size_or_base, 0, random.below(2), 1],
+        2 => [align, kind % 2, size_base, 0, random.below(2), 1],
         // A trailing one without its word.
-        3 => [align, 2 + kind % 2, size_or_base, offset, elem_size, 0],
-        4 => [1 << (29 + random.below(35)), kind, size_or_base, offset, elem_size, word],
+        3 => [align, 2 + kind % 2, size_base, offset, elem_size, 0],
+        4 => [1 << (29 + random.below(35)), kind, size_base, offset, elem_size, word],
         // A trailing one before others.
         5 => layouts::trailing(random),
         _ => [align, kind, any(random), offset, elem_size, word],

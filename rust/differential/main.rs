@@ -4,8 +4,9 @@
 //! of a function never did.
 
 mod answer;
-#[path = "../exports.rs"]
+#[path = "../lukaripe/src/exports.rs"]
 mod exports;
+mod guarantee;
 mod inputs;
 mod kinds;
 mod layouts;
@@ -23,14 +24,13 @@ use rows::{Row, Slot, LAYERS};
 use std::process::ExitCode;
 use std::time::Instant;
 
-
 const USAGE: &str = "\
 usage: differential [--cases N] [--seed S] [--only FUNCTION] [--record N]
   --cases N        random inputs in total (default 10000000), beside the small numbers and the boundaries, which are
                    fewer where N is below 8 million
   --seed S         where the random numbers start (default 1)
   --only FUNCTION  one function alone
-  --record N       write about N answers of each function to standard output, no report";
+  --record N       write about N answers of each function to standard output, and wrong ones; no report (tools/record)";
 
 struct Options {
     cases: u64,
@@ -99,8 +99,8 @@ fn compare(row: &Row, slots: &[Slot], inputs: &[u64]) -> Result<(usize, Answer),
     if expected != Ok(ours) {
         let show = |answer: Answer| format!("refusal, then values {:?}", answer.numbers(row.values));
         let other = if apart.is_some() { "table:" } else { "Rust: " };
-        let strays = if ours.strays > 0 { format!(", and {} stray bytes", ours.strays) } else { String::new() };
-        return Err(format!("ours:  {}{strays}\n{other} {}", show(ours), expected.map_or_else(|panic| panic, show)));
+        let broken = ours.broken.map_or(String::new(), |what| format!(", and {what}"));
+        return Err(format!("ours:  {}{broken}\n{other} {}", show(ours), expected.map_or_else(|panic| panic, show)));
     }
     let label = if apart.is_some() { "" } else { (row.label)(inputs, &ours) };
     match slots.iter().position(|slot| slot.holds(&ours, apart.is_some(), label)) {

@@ -1,13 +1,16 @@
-//! Recorded answers: a choice of the inputs tried, spread evenly over what can come of each function.
+//! Recorded answers, the Rust's, and document 01's table where the Rust has none: a choice of the inputs tried, spread
+//! evenly over what can come of each function. Beside them lines that are wrong on purpose, which a reader must report.
 //!
-//! A line is decimal numbers with single spaces between: the function's number (its row has it), the inputs in the order
-//! of the C parameters, the refusal number (0: none), and the numbers of the answer, which are 0 on a refusal.
+//! A line is decimal numbers with single spaces between: the function's number (its row has it), the inputs in the
+//! order of the C parameters, the refusal number (0: none), and the numbers of the answer, which are 0 on a refusal.
 //!
-//! A trailing layout is offset, elem_size, size_base, word; a layout is the six words of its record; parameters of a
-//! conversion are kind, offset_delta_elems, elem_multiple, dst_meta; a bool is 0 or 1. Bytes that are read are the length
-//! in bytes and then the 8-byte words, little-endian, and for a length that is no multiple of 8 the remaining bytes as one
-//! little-endian number. Bytes that are written are their length alone, and the answer is the six words of the record. The
-//! answer of a composition is the place and then the six words; the place stays on a refusal. So all lines of a function
+//! A layout is the six words of its record; a trailing layout is the last four of them, size_base, offset, elem_size,
+//! word; parameters of a conversion are kind, offset_delta_elems, elem_multiple, dst_meta; a bool is 0 or 1. Bytes that
+//! are read are the length in bytes and then the 8-byte words, little-endian, and for a length that is no multiple of 8
+//! the remaining bytes as one little-endian number. Bytes that are written are their length alone, and the answer is
+//! the six words of the record. The answer of a composition is the place and then the six words; the place stays on a
+//! refusal. That of a conversion with casts after it is the parameters, and then of the count and of either cast the
+//! refusal number and the numbers; those of the casts stay where the conversion is refused. So all lines of a function
 //! have the same length, where it reads no bytes.
 
 use crate::answer::Answer;
@@ -51,14 +54,43 @@ impl Recorded<'_> {
         }
     }
 
-    /// Sorted, and each line once.
+    /// Sorted, and each line once, after the name of the file that it belongs to.
     pub fn print(self) {
         let lines: BTreeSet<Vec<u64>> = self.kept.into_iter().flat_map(|(_, lines)| lines).collect();
-        for line in lines {
-            let words: Vec<String> = line.iter().map(u64::to_string).collect();
-            println!("{}", words.join(" "));
-        }
+        print("answers", &lines);
+        print("wrong", &wrong(self.row, &lines));
     }
+}
+
+fn print<'a>(file: &str, lines: impl IntoIterator<Item = &'a Vec<u64>>) {
+    for line in lines {
+        let words: Vec<String> = line.iter().map(u64::to_string).collect();
+        println!("{file} {}", words.join(" "));
+    }
+}
+
+/// Lines with one number of the answer changed: of an accepted one each, and of a refused one each that is not 0, which
+/// are the refusal, a list's place and the other answers of a chain.
+fn wrong(row: &Row, lines: &BTreeSet<Vec<u64>>) -> Vec<Vec<u64>> {
+    let start = |line: &[u64]| line.len() - 1 - row.values;
+    let zeros = |line: &[u64]| line[start(line)..].iter().filter(|number| **number == 0).count();
+    let (accepted, refused): (Vec<_>, Vec<_>) = lines.iter().partition(|line| line[start(line)] == 0);
+    let mut wrong = Vec::new();
+    // The ones that tell most.
+    if let Some(line) = accepted.into_iter().min_by_key(|line| zeros(line)) {
+        wrong.extend((start(line)..line.len()).map(|at| with_next(line, at)));
+    }
+    if let Some(line) = refused.into_iter().min_by_key(|line| zeros(line)) {
+        wrong.extend((start(line)..line.len()).filter(|at| line[*at] != 0).map(|at| with_next(line, at)));
+    }
+    wrong
+}
+
+/// The line with the next number in one place.
+fn with_next(line: &[u64], at: usize) -> Vec<u64> {
+    let mut line = line.to_vec();
+    line[at] = line[at].wrapping_add(1);
+    line
 }
 
 fn line(row: &Row, inputs: &[u64], answer: &Answer) -> Vec<u64> {

@@ -1,6 +1,4 @@
 //! The table of functions: a row each, in the order of include/lukaripe.h, a file for each layer.
-//!
-//! A layer is compiled in where the library has its exports; tools/differential looks and says so.
 
 mod cast;
 mod convert;
@@ -16,15 +14,8 @@ use crate::kinds::{number, word};
 use crate::random::Random;
 use std::fmt;
 
-pub const LAYERS: &[&[Row]] = &[
-    util::ROWS,
-    rounding::ROWS,
-    trailing::ROWS,
-    layout::ROWS,
-    record::ROWS,
-    cast::ROWS,
-    convert::ROWS,
-];
+pub const LAYERS: &[&[Row]] =
+    &[util::ROWS, rounding::ROWS, trailing::ROWS, layout::ROWS, record::ROWS, cast::ROWS, convert::ROWS];
 
 pub struct Row {
     /// The function's number in recorded answers. It never changes and is not given to another.
@@ -37,7 +28,7 @@ pub struct Row {
     pub values: usize,
     /// What can come of a call.
     pub cells: &'static [Cell],
-    /// Which answer it is, or which reason for a refusal, where cells tell several apart.
+    /// Which answer it is, or which reason for a refusal, where cells tell several apart. The Rust was asked.
     pub label: fn(&[u64], &Answer) -> &'static str,
     /// Its cases in document 01, "Pages from the proof table", and others that are easily misread.
     pub pages: &'static [&'static [u64]],
@@ -78,6 +69,10 @@ pub const fn refused_for(refusal: u64, label: &'static str) -> Cell {
 /// A refusal, or by 0 an answer, that the Rust is not asked for.
 pub const fn apart(refusal: u64) -> Cell {
     Cell { refusal, apart: true, ..ANSWER }
+}
+
+pub const fn apart_for(refusal: u64, label: &'static str) -> Cell {
+    Cell { label, ..apart(refusal) }
 }
 
 impl Cell {
@@ -125,7 +120,7 @@ impl Slot {
         self.what.refusal == answer.refusal
             && self.what.apart == apart
             && self.place.is_none_or(|place| place == answer.values[0])
-            && self.what.label == label
+            && (apart || self.what.label == label)
     }
 }
 
@@ -147,7 +142,7 @@ impl Row {
 
 // ---- what rows of several layers share ----
 
-const TRAILING: &[Input] = &[number("offset"), number("elem_size"), number("size_base"), word("word")];
+const TRAILING: &[Input] = &[number("size_base"), number("offset"), number("elem_size"), word("word")];
 
 /// The trailing layout that the inputs start with.
 fn trailing_of(inputs: &[u64]) -> [u64; 4] {

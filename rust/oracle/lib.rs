@@ -60,10 +60,10 @@ pub mod bench;
 /// An answer of N numbers, or the number of the refusal.
 pub type Says<const N: usize> = Result<[u64; N], u64>;
 
-/// A trailing layout: offset, elem_size, size_base, rounding word.
+/// A trailing layout: size_base, offset, elem_size, rounding word.
 pub type Trailing = [u64; 4];
 
-/// A layout, as its record: alignment, kind, size or base, offset, elem_size, rounding word.
+/// A layout, as its record: alignment, kind, and then a trailing layout, or the size and three zeros.
 pub type Layout = [u64; 6];
 
 /// The parameters of a conversion: kind, offset_delta_elems, elem_multiple, dst_meta.
@@ -85,7 +85,7 @@ fn yes_or_no(value: bool) -> Says<1> {
     Ok([u64::from(value)])
 }
 
-fn trailing([offset, elem_size, size_base, word]: Trailing) -> TrailingSliceLayout {
+fn trailing([size_base, offset, elem_size, word]: Trailing) -> TrailingSliceLayout {
     TrailingSliceLayout {
         offset: offset as usize,
         elem_size: elem_size as usize,
@@ -96,19 +96,16 @@ fn trailing([offset, elem_size, size_base, word]: Trailing) -> TrailingSliceLayo
 
 fn trailing_numbers(layout: TrailingSliceLayout) -> Trailing {
     [
+        layout.size_base as u64,
         layout.offset as u64,
         layout.elem_size as u64,
-        layout.size_base as u64,
         layout.size_rounding_align_and_phase.0.get() as u64,
     ]
 }
 
-fn layout([align, kind, size_or_base, offset, elem_size, word]: Layout) -> DstLayout {
-    let size_info = if kind < 2 {
-        SizeInfo::Sized { size: size_or_base as usize }
-    } else {
-        SizeInfo::SliceDst(trailing([offset, elem_size, size_or_base, word]))
-    };
+fn layout([align, kind, tail @ ..]: Layout) -> DstLayout {
+    let size_info =
+        if kind < 2 { SizeInfo::Sized { size: tail[0] as usize } } else { SizeInfo::SliceDst(trailing(tail)) };
     DstLayout { align: nonzero(align), size_info, statically_shallow_unpadded: kind % 2 == 1 }
 }
 
@@ -117,7 +114,7 @@ fn layout_numbers(layout: DstLayout) -> Says<6> {
     Ok(match layout.size_info {
         SizeInfo::Sized { size } => [align, mark, size as u64, 0, 0, 0],
         SizeInfo::SliceDst(slice) => {
-            let [offset, elem_size, size_base, word] = trailing_numbers(slice);
+            let [size_base, offset, elem_size, word] = trailing_numbers(slice);
             [align, 2 + mark, size_base, offset, elem_size, word]
         }
     })

@@ -1,7 +1,7 @@
-//! Compares the exports with the compiler on repr(C) structs: alignments, sizes, the places of members, and where a struct
-//! ends in a slice its sizes at some counts. tools/rustc-types writes the structs, builds and runs.
+//! Compares the exports with the compiler on repr(C) structs: alignments, sizes, the places of members, and where a
+//! struct ends in a slice its sizes at some counts. tools/rustc-types writes the structs, builds and runs.
 
-#[path = "../exports.rs"]
+#[path = "../lukaripe/src/exports.rs"]
 mod exports;
 
 use exports::*;
@@ -64,8 +64,8 @@ fn equal(what: &str, ours: u64, compiler: usize) -> Result<(), String> {
     Err(format!("{what}: ours {ours}, the compiler's {compiler}"))
 }
 
-/// A member's place is where a composition that ends with it has its size, less the member's own; of a trailing part, its
-/// offset.
+/// A member's place is where a composition that ends with it has its size, less the member's own; of a trailing part,
+/// its offset.
 fn check_places(align: u64, packing: u64, members: &[[u64; 6]], places: &[usize]) -> Result<(), String> {
     for (at, place) in places.iter().enumerate() {
         let [_, kind, size, offset, ..] = composed(lukaripe_compose, align, packing, &members[..=at]);
@@ -120,14 +120,14 @@ macro_rules! ends_in_slice {
             }
 
             fn check() -> Checked {
-                let [align, _, base, offset, elem_size, word] = $name::layout();
+                let [align, _, tail @ ..] = $name::layout();
                 let empty = $name::at(0);
                 equal("alignment", align, align_of_val(empty))?;
                 let start = (empty as *const $name).cast::<u8>() as usize;
                 let places: &[usize] = &[$((&raw const empty.$field).cast::<u8>() as usize - start),*];
                 check_places($align, $packing, &[$(<$type>::layout()),*], places)?;
                 for count in COUNTS {
-                    let told = lukaripe_size_for_elems(Words([offset, elem_size, base, word]), count as u64);
+                    let told = lukaripe_size_for_elems(Words(tail), count as u64);
                     equal(&format!("size at {count}"), told.values[0], size_of_val($name::at(count)))?;
                 }
                 Ok(1 + places.len() + COUNTS.len())

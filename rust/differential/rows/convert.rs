@@ -1,8 +1,9 @@
 //! Conversions.
 
-use super::{answered, apart, layout_of, refused_for, trailing_of, yes_or_no, Row, TRAILING};
-use crate::answer::Answer;
+use super::{answered, apart, apart_for, layout_of, refused_for, trailing_of, yes_or_no, Row, TRAILING};
+use crate::answer::{told, Answer};
 use crate::exports::*;
+use crate::guarantee;
 use crate::kinds::{layout, number, variant};
 use crate::layouts::{parts, size_at, source_for};
 use crate::random::Random;
@@ -19,7 +20,7 @@ pub const ROWS: &[Row] = &[
             "yes" => which_match(trailing_of(i), trailing_of(&i[4..])),
             no => no,
         },
-        pages: &[&[0, 4, 8, 4, 0, 2, 4, 2, 2], &[0, 8, 8, 12, 0, 8, 8, 4, 1]],
+        pages: &[&[8, 0, 4, 4, 4, 0, 2, 2, 2], &[8, 0, 8, 12, 8, 0, 8, 4, 1]],
         aim: at_a_match,
         ours: |i| lukaripe_size_sequences_match(Words(trailing_of(i)), Words(trailing_of(&i[4..])), i[8]).into(),
         apart: |i| first(&[(2, i[3] == 0), (2, i[7] == 0)]),
@@ -33,8 +34,8 @@ pub const ROWS: &[Row] = &[
         cells: &[
             answered("fixed to fixed"),
             answered("fixed to trailing"),
-            answered("first way, e a multiple of the larger A"),
-            answered("first way, equal words"),
+            answered(FIRST_MULTIPLE),
+            answered(FIRST_EQUAL_WORDS),
             answered("second way"),
             refused_for(18, "source alignment lower"),
             refused_for(18, "fixed sizes differ"),
@@ -79,49 +80,168 @@ pub const ROWS: &[Row] = &[
         pages: &[&[2, 2, 2, 0, 3], &[2, 1, 1, 0, 3], &[1, 0, 0, 1, 3], &[0, 0, 0, 0, 3]],
         aim: at_the_last_count,
         ours: |i| lukaripe_cast_metadata(Words(trailing_of(i)), i[4]).into(),
-        apart: |i| first(&[(19, i[0] > 1 && converted(i) > u128::from(u64::MAX))]),
-        // SAFETY: what passes M is not handed over.
-        rust: |i| unsafe { oracle::cast_metadata(trailing_of(i), i[4]) }.into(),
+        apart: |i| first(&[(19, passes_max(params_of(i), i[4]))]),
+        rust: |i| converted(params_of(i), i[4]).into(),
+    },
+    Row {
+        number: 33,
+        name: "convert_and_cast",
+        inputs: &[&[
+            layout("src"),
+            layout("dst"),
+            number("src_meta"),
+            number("addr"),
+            number("bytes_len"),
+            number("more_len"),
+        ]],
+        values: 12,
+        cells: &[
+            answered("fixed to fixed, cast as many"),
+            answered("fixed to trailing, cast as many"),
+            answered("fixed to trailing, cast more"),
+            answered("first way, multiple, cast as many"),
+            answered("first way, multiple, cast more"),
+            answered("first way, equal words, cast as many"),
+            answered("first way, equal words, cast more"),
+            answered("second way, cast as many"),
+            answered("second way, cast more"),
+            answered("cast fewer"),
+            answered("cast refused"),
+            refused_for(18, "cast granted"),
+            refused_for(18, "cast refused"),
+            apart_for(0, "count refused 19"),
+            apart(1),
+            apart(2),
+            apart(21),
+            apart(22),
+        ],
+        label: which_chain,
+        pages: &[
+            // Three elements of the first become eight of the second, in 20 bytes.
+            &[4, 2, 8, 0, 4, 4, 2, 2, 4, 0, 2, 2, 3, 0, 20, 20],
+            &[4, 2, 8, 0, 4, 4, 2, 2, 4, 0, 2, 2, 3, 2, 21, 22],
+            &[4, 2, 8, 0, 4, 4, 2, 2, 4, 0, 2, 2, 3, 0, 19, 18],
+            &[4, 2, 8, 0, 4, 4, 2, 2, 4, 0, 2, 2, 3, 1, 20, 22],
+            // By the second way: three become four, in 40 bytes.
+            &[8, 2, 8, 0, 8, 12, 4, 2, 8, 0, 8, 4, 3, 4, 40, 48],
+            &[4, 0, 16, 0, 0, 0, 4, 2, 8, 0, 8, 4, 0, 4, 16, 24],
+            &[4, 0, 15, 0, 0, 0, 4, 2, 8, 0, 8, 4, 0, 4, 16, 24],
+        ],
+        aim: at_a_chain,
+        ours: kept,
+        apart: |i| {
+            let refused = two_layouts(layout_of(i), layout_of(&i[6..]));
+            refused.map(|layout| all_refused(layout.refusal)).or_else(|| count_past_max(i))
+        },
+        rust: chain,
     },
 ];
 
-/// The converted count of two trailing layouts, over unlimited whole numbers.
-fn converted(inputs: &[u64]) -> u128 {
-    u128::from(inputs[1]) + u128::from(inputs[2]) * u128::from(inputs[4])
+fn params_of(inputs: &[u64]) -> oracle::Params {
+    trailing_of(inputs)
+}
+
+/// Whether the converted count of two trailing layouts passes M, over unlimited whole numbers.
+fn passes_max([kind, offset_delta_elems, elem_multiple, _]: oracle::Params, src_meta: u64) -> bool {
+    let count = u128::from(offset_delta_elems) + u128::from(elem_multiple) * u128::from(src_meta);
+    kind > 1 && count > u128::from(u64::MAX)
+}
+
+/// What the Rust says, and where it may not be asked the refusal of the table.
+fn converted(params: oracle::Params, src_meta: u64) -> oracle::Says<1> {
+    if passes_max(params, src_meta) {
+        return Err(19);
+    }
+    // SAFETY: the count does not pass M.
+    unsafe { oracle::cast_metadata(params, src_meta) }
+}
+
+// ---- a conversion and casts after it ----
+
+/// The export, held to the guarantee.
+fn kept(inputs: &[u64]) -> Answer {
+    let (src, dst) = (Words(layout_of(inputs)), Words(layout_of(&inputs[6..])));
+    let answer = lukaripe_convert_and_cast(src, dst, inputs[12], inputs[13], inputs[14], inputs[15]).into();
+    Answer { broken: guarantee::broken(inputs, &answer), ..answer }
+}
+
+/// The calls of the Rust one after the other: what the first gives goes into the next.
+fn chain(inputs: &[u64]) -> Answer {
+    let (src, dst) = (layout_of(inputs), layout_of(&inputs[6..]));
+    let computed = oracle::try_compute(src, dst);
+    let count = computed.and_then(|params| converted(params, inputs[12]));
+    let cast = |len| oracle::said(|| oracle::validate_cast_and_convert_metadata(dst, inputs[13], len, false));
+    let (first, second) = (told(cast(inputs[14])), told(cast(inputs[15])));
+    Carried { computed: told(computed), count: told(count), first, second }.into()
+}
+
+/// A layout that is refused refuses all four.
+fn all_refused(refusal: u64) -> Answer {
+    let (computed, count) = (told(Err(refusal)), told(Err(refusal)));
+    Carried { computed, count, first: told(Err(refusal)), second: told(Err(refusal)) }.into()
+}
+
+/// A count that the Rust is not asked for; the other three answers are its own.
+fn count_past_max(inputs: &[u64]) -> Option<Answer> {
+    let params = oracle::try_compute(layout_of(inputs), layout_of(&inputs[6..])).ok()?;
+    passes_max(params, inputs[12]).then(|| chain(inputs))
 }
 
 // ---- which conversion it is ----
 
 const MULTIPLE: &str = "yes, e a multiple of the larger A";
 const EQUAL_WORDS: &str = "yes, equal words";
+const FIRST_MULTIPLE: &str = "first way, e a multiple of the larger A";
+const FIRST_EQUAL_WORDS: &str = "first way, equal words";
 
 /// Which of its two alternatives makes the sequences match.
 fn which_match(src: [u64; 4], dst: [u64; 4]) -> &'static str {
     let larger = parts(src[3]).0.max(parts(dst[3]).0);
-    if src[1] % larger == 0 {
+    if src[2] % larger == 0 {
         MULTIPLE
     } else {
         EQUAL_WORDS
     }
 }
 
-/// A layout's trailing part.
-fn tail([_, _, size_base, offset, elem_size, word]: [u64; 6]) -> [u64; 4] {
-    [offset, elem_size, size_base, word]
-}
-
 fn which_conversion(inputs: &[u64], answer: &Answer) -> &'static str {
-    let (src, dst) = (layout_of(inputs), layout_of(&inputs[6..]));
     if answer.refusal != 0 {
-        return why_none(src, dst);
+        return why_none(layout_of(inputs), layout_of(&inputs[6..]));
     }
+    let (src, dst) = (trailing_of(&inputs[2..]), trailing_of(&inputs[8..]));
     match answer.values[0] {
         0 => "fixed to fixed",
         1 => "fixed to trailing",
         // With equal words the sizes at 0 are equal exactly where the shift is the difference: that is the first way.
-        _ if !by_difference(tail(src), tail(dst), answer.values[1]) => "second way",
-        _ if which_match(tail(src), tail(dst)) == MULTIPLE => "first way, e a multiple of the larger A",
-        _ => "first way, equal words",
+        _ if !by_difference(src, dst, answer.values[1]) => "second way",
+        _ if which_match(src, dst) == MULTIPLE => FIRST_MULTIPLE,
+        _ => FIRST_EQUAL_WORDS,
+    }
+}
+
+/// Which conversion it is and what the first cast grants beside the converted count.
+fn which_chain(inputs: &[u64], answer: &Answer) -> &'static str {
+    let [_, _, _, _, _, count, cast_refusal, cast, ..] = answer.values;
+    match (answer.refusal, cast_refusal) {
+        (0, 0) if cast < count => "cast fewer",
+        (0, 0) => kept_by(which_conversion(inputs, answer), cast > count),
+        (_, 0) => "cast granted",
+        _ => "cast refused",
+    }
+}
+
+fn kept_by(conversion: &str, more: bool) -> &'static str {
+    match (conversion, more) {
+        ("fixed to fixed", false) => "fixed to fixed, cast as many",
+        ("fixed to trailing", false) => "fixed to trailing, cast as many",
+        ("fixed to trailing", true) => "fixed to trailing, cast more",
+        (FIRST_MULTIPLE, false) => "first way, multiple, cast as many",
+        (FIRST_MULTIPLE, true) => "first way, multiple, cast more",
+        (FIRST_EQUAL_WORDS, false) => "first way, equal words, cast as many",
+        (FIRST_EQUAL_WORDS, true) => "first way, equal words, cast more",
+        ("second way", false) => "second way, cast as many",
+        ("second way", true) => "second way, cast more",
+        _ => "no such conversion",
     }
 }
 
@@ -129,7 +249,7 @@ fn which_conversion(inputs: &[u64], answer: &Answer) -> &'static str {
 fn by_difference(src: [u64; 4], dst: [u64; 4], shift: u64) -> bool {
     let [src_offset] = oracle::size_offset(src).unwrap();
     let [dst_offset] = oracle::size_offset(dst).unwrap();
-    u128::from(src_offset) == u128::from(dst_offset) + u128::from(shift) * u128::from(dst[1])
+    u128::from(src_offset) == u128::from(dst_offset) + u128::from(shift) * u128::from(dst[2])
 }
 
 /// Why there is no conversion: the reasons in the order in which the Rust tests them.
@@ -176,12 +296,43 @@ fn at_a_conversion(random: &mut Random, inputs: &mut [u64]) {
         inputs[1] = random.below(2);
         inputs[2..6].copy_from_slice(&[size_at(dst, count), 0, 0, 0]);
     } else {
-        let ([offset, elem_size, size_base, word], _) = source_for(random, tail(dst));
+        let (src, _) = source_for(random, trailing_of(&dst[2..]));
         inputs[1] = 2 + random.below(2);
-        inputs[2..6].copy_from_slice(&[size_base, offset, elem_size, word]);
+        inputs[2..6].copy_from_slice(&src);
     }
     inputs[0] = inputs[0].max(dst[0]);
     spoil(random, inputs);
+}
+
+/// Bytes that hold what a source converts, or come close: the guarantee speaks of these.
+fn at_a_chain(random: &mut Random, inputs: &mut [u64]) {
+    at_a_conversion(random, &mut inputs[..12]);
+    let counts = random.one_of(&[4, 64, 1 << 20, 1 << 62]);
+    inputs[12] = random.below(counts);
+    let size = size_at(layout_of(inputs), inputs[12]);
+    inputs[14] = a_length(random, size, inputs[10]);
+    inputs[15] = a_length(random, inputs[14], inputs[10]);
+    inputs[13] = an_address(random, inputs[6], inputs[14].max(inputs[15]));
+}
+
+/// The size, or next to it, or with room for more, mostly for some elements.
+fn a_length(random: &mut Random, size: u64, elem_size: u64) -> u64 {
+    match random.below(4) {
+        0 => size,
+        1 => random.near(size),
+        2 => size.wrapping_add(random.below(4).wrapping_mul(elem_size)),
+        _ => size.wrapping_add(random.below(1 << 12)),
+    }
+}
+
+/// Mostly aligned; or such that as many bytes end at M, or just past it.
+fn an_address(random: &mut Random, align: u64, len: u64) -> u64 {
+    match random.below(8) {
+        0 => random.near(u64::MAX - len),
+        1 => (u64::MAX - len) & align.wrapping_neg(),
+        2 => random.near(align),
+        _ => align.wrapping_mul(random.below(1 << 8)),
+    }
 }
 
 /// Changes one number a little, in one case of four.

@@ -174,7 +174,7 @@ fn at_the_last_place(random: &mut Random, inputs: &mut [u64]) {
     }
 }
 
-/// A size or base near M.
+/// A size_base near M.
 fn at_the_last_base(random: &mut Random, inputs: &mut [u64]) {
     let room = random.below(4).wrapping_mul(inputs[0]);
     inputs[2] = random.near(u64::MAX.wrapping_sub(room));

@@ -41,7 +41,7 @@ pub const ROWS: &[Row] = &[
         values: 1,
         cells: &[ANSWER, apart(2)],
         label: no_label,
-        pages: &[&[9, 1, 8, 5, 0], &[9, 1, 8, 5, 3], &[9, 1, 8, 5, 4]],
+        pages: &[&[8, 9, 1, 5, 0], &[8, 9, 1, 5, 3], &[8, 9, 1, 5, 4]],
         aim: at_the_last_count,
         ours: |i| lukaripe_padding_for_elems(Words(trailing_of(i)), i[4]).into(),
         apart: |i| first(&[(2, i[3] == 0)]),
@@ -55,12 +55,12 @@ pub const ROWS: &[Row] = &[
         cells: &[ANSWER, refused(15), apart(2)],
         label: no_label,
         pages: &[
-            &[9, 1, 8, 5, 0],
-            &[9, 1, 8, 5, 3],
-            &[9, 1, 8, 5, 4],
-            &[0, 1, u64::MAX - 7, 8, 0],
-            &[0, 1, u64::MAX - 7, 8, 1],
-            &[0, 1, u64::MAX - 7, 9, 0],
+            &[8, 9, 1, 5, 0],
+            &[8, 9, 1, 5, 3],
+            &[8, 9, 1, 5, 4],
+            &[u64::MAX - 7, 0, 1, 8, 0],
+            &[u64::MAX - 7, 0, 1, 8, 1],
+            &[u64::MAX - 7, 0, 1, 9, 0],
         ],
         aim: at_the_last_count,
         ours: |i| lukaripe_size_for_elems(Words(trailing_of(i)), i[4]).into(),
@@ -87,7 +87,7 @@ pub const ROWS: &[Row] = &[
         values: 1,
         cells: &[answered("no"), answered("yes"), apart(2)],
         label: yes_or_no,
-        pages: &[&[0, 4, 0, 9, 0, 4, 0, 10]],
+        pages: &[&[0, 0, 4, 9, 0, 0, 4, 10]],
         aim: at_equal_sizes,
         ours: |i| lukaripe_has_same_size_sequence(Words(trailing_of(i)), Words(trailing_of(&i[4..]))).into(),
         apart: |i| first(&[(2, i[3] == 0), (2, i[7] == 0)]),
@@ -100,22 +100,22 @@ pub const ROWS: &[Row] = &[
 /// Room for one of the first sizes.
 fn at_a_size(random: &mut Random, inputs: &mut [u64]) {
     let (align, _) = parts(inputs[3]);
-    let size = inputs[2].wrapping_add(align.wrapping_mul(random.below(4)));
+    let size = inputs[0].wrapping_add(align.wrapping_mul(random.below(4)));
     inputs[4] = random.near(size);
 }
 
 /// The greatest count that has a size.
 fn at_the_last_count(random: &mut Random, inputs: &mut [u64]) {
     let (align, phase) = parts(inputs[3]);
-    let room = (u64::MAX - inputs[2]) & !(align - 1);
-    let count = room.saturating_sub(phase) / inputs[1].max(1);
+    let room = (u64::MAX - inputs[0]) & !(align - 1);
+    let count = room.saturating_sub(phase) / inputs[2].max(1);
     inputs[4] = random.near(count);
 }
 
 /// The greatest number of bytes to advance by.
 fn at_the_last_advance(random: &mut Random, inputs: &mut [u64]) {
     let (align, phase) = parts(inputs[3]);
-    let bytes = u64::MAX - (inputs[2] & !(align - 1)) - phase;
+    let bytes = u64::MAX - (inputs[0] & !(align - 1)) - phase;
     inputs[4] = random.near(bytes);
 }
 
@@ -130,8 +130,8 @@ fn at_equal_sizes(random: &mut Random, inputs: &mut [u64]) {
     };
     let larger = align.max(parts(inputs[7]).0);
     let unit = random.one_of(&[larger, larger.div_ceil(2), 1]);
-    inputs[1] = inputs[1].wrapping_mul(unit);
-    inputs[5] = inputs[1];
-    let size = inputs[2].wrapping_add(rounded_phase(inputs[3]));
-    inputs[6] = size.wrapping_sub(rounded_phase(inputs[7]));
+    inputs[2] = inputs[2].wrapping_mul(unit);
+    inputs[6] = inputs[2];
+    let size = inputs[0].wrapping_add(rounded_phase(inputs[3]));
+    inputs[4] = size.wrapping_sub(rounded_phase(inputs[7]));
 }

@@ -1,0 +1,2 @@
+-- What the exports of layouts share.
+pub mod Given

@@ -1,0 +1,18 @@
+-- `exports_numbers::lukaripe_min` meets its contract. Assumes nothing.
+use mathlib.Core.Path.{ap, _∙_}
+use Rattle.exports_numbers.specs.Numbers.{numberOut}
+use borrow.Author.Needs.{needs}
+use Rattle.exports_numbers.proofs.lukaripe_min.Statement.{statement}
+use Rattle.exports_numbers.proofs.lukaripe_min.Tie as tie
+
+min-requires : tie.Need-min-requires
+min-requires c κs = search needs
+
+number-out-requires : tie.Need-number-out-requires
+number-out-requires c κs = search needs
+
+returns : tie.Need-returns
+returns c = c .number-out .ensures ∙ ap numberOut (c .before .min .ensures .0)
+
+pub lukaripe-min-spec : {M : Type 1} → statement M
+lukaripe-min-spec = tie.close (tie.spec min-requires number-out-requires returns)

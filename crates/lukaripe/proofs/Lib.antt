@@ -1,2 +1,0 @@
--- What the exports share.
-pub mod Exports

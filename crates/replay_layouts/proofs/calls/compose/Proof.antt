@@ -1,0 +1,63 @@
+-- `replay_layouts::calls::compose` meets its contract. Assumes nothing.
+use mathlib.Core.Path.{sym}
+use lib.Seq.{length-take-le}
+use borrow.Author.Needs.{needs}
+use Rattle.replay_layouts.proofs.calls.compose.Statement.{statement}
+use Rattle.replay_layouts.proofs.calls.compose.Tie as tie
+
+element-copy-out-length : tie.Need-element-copy-out-length
+element-copy-out-length c = search needs
+
+tell-none-requires : tie.Need-tell-none-requires
+tell-none-requires c κs = search needs
+
+returns : tie.Need-returns
+returns c = search needs
+
+bytes-from-requires : tie.Need-bytes-from-requires
+bytes-from-requires c κs = search needs
+
+element-copy-out-lukaripe-compose : tie.Need-element-copy-out-lukaripe-compose
+element-copy-out-lukaripe-compose c = search needs
+
+element-copy-out-lukaripe-compose-2 : tie.Need-element-copy-out-lukaripe-compose-2
+element-copy-out-lukaripe-compose-2 c = search needs
+
+array-share-prefix-bytes : tie.Need-array-share-prefix-bytes
+array-share-prefix-bytes c = search needs
+
+slice-aggregate-lukaripe-compose : tie.Need-slice-aggregate-lukaripe-compose
+slice-aggregate-lukaripe-compose c = sym (length-take-le _ _ (array-share-prefix-bytes (c .before)))
+
+lukaripe-compose-requires : tie.Need-lukaripe-compose-requires
+lukaripe-compose-requires c κs = search needs
+
+add-tell-composed : tie.Need-add-tell-composed
+add-tell-composed c = search needs
+
+add-tell-composed-2 : tie.Need-add-tell-composed-2
+add-tell-composed-2 c = search needs
+
+tell-composed-requires : tie.Need-tell-composed-requires
+tell-composed-requires c κs = search needs
+
+returns-2 : tie.Need-returns-2
+returns-2 c = search needs
+
+pub compose-spec : {M : Type 1} → statement M
+compose-spec =
+    tie.close
+    (tie.spec
+    element-copy-out-length
+    tell-none-requires
+    returns
+    bytes-from-requires
+    element-copy-out-lukaripe-compose
+    element-copy-out-lukaripe-compose-2
+    array-share-prefix-bytes
+    slice-aggregate-lukaripe-compose
+    lukaripe-compose-requires
+    add-tell-composed
+    add-tell-composed-2
+    tell-composed-requires
+    returns-2)

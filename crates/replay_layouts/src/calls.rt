@@ -1,0 +1,214 @@
+// A function for each recorded function: it takes the inputs from the line and tells the answer as a line has it.
+// The number of a function and the order of its inputs are those of rust/differential/recorded.rs and its rows; so is the way
+// bytes stand in a line, their length and then words.
+use exports_layouts::ComposedOut;
+use exports_layouts::Layout;
+use exports_layouts::LayoutOut;
+use exports_numbers::Number;
+use recorded::LENGTH;
+use recorded::Told;
+use recorded::WIDTH;
+
+// The greatest length of bytes, eight records; no line agrees with a greater one.
+const BYTES: usize = 384;
+
+// No call: no line agrees with it.
+fn tell_none() -> Told {
+    Told {
+        inputs: WIDTH,
+        length: 0,
+        numbers: [0; LENGTH],
+    }
+}
+
+fn tell_number(inputs: usize, n: Number) -> Told {
+    Told {
+        inputs,
+        length: 2,
+        numbers: [n.refusal, n.value, 0, 0, 0, 0, 0, 0, 0, 0, 0, 0, 0],
+    }
+}
+
+fn tell_layout(inputs: usize, a: LayoutOut) -> Told {
+    let l = a.layout;
+    Told {
+        inputs,
+        length: 7,
+        numbers: [
+            a.refusal,
+            l.align,
+            l.kind,
+            l.size_base,
+            l.offset,
+            l.elem_size,
+            l.word,
+            0,
+            0,
+            0,
+            0,
+            0,
+            0,
+        ],
+    }
+}
+
+fn tell_composed(inputs: usize, a: ComposedOut) -> Told {
+    let l = a.layout;
+    Told {
+        inputs,
+        length: 8,
+        numbers: [
+            a.refusal,
+            a.place,
+            l.align,
+            l.kind,
+            l.size_base,
+            l.offset,
+            l.elem_size,
+            l.word,
+            0,
+            0,
+            0,
+            0,
+            0,
+        ],
+    }
+}
+
+// The layout that the inputs start with, and one behind it.
+fn first(line: &[u64; WIDTH]) -> Layout {
+    Layout {
+        align: line[1],
+        kind: line[2],
+        size_base: line[3],
+        offset: line[4],
+        elem_size: line[5],
+        word: line[6],
+    }
+}
+
+fn second(line: &[u64; WIDTH]) -> Layout {
+    Layout {
+        align: line[7],
+        kind: line[8],
+        size_base: line[9],
+        offset: line[10],
+        elem_size: line[11],
+        word: line[12],
+    }
+}
+
+// The bytes of the words of the line from this one on.
+fn bytes_from(line: &[u64; WIDTH], from: usize) -> [u8; BYTES] {
+    let mut bytes = [0u8; BYTES];
+    let mut at = from;
+    let mut rest: u64 = 0;
+    let mut k = 0;
+    while k < BYTES {
+        if k % 8 == 0 {
+            if at < WIDTH {
+                rest = line[at];
+                at += 1;
+            }
+        }
+        bytes[k] = (rest % 256) as u8;
+        rest /= 256;
+        k += 1;
+    }
+    bytes
+}
+
+fn decode(line: &[u64; WIDTH]) -> Told {
+    let length = line[1] as usize;
+    if length > BYTES {
+        return tell_none();
+    }
+    let bytes = bytes_from(line, 2);
+    let answer = exports_layouts::lukaripe_decode(&bytes[..length]);
+    tell_layout(1 + (length + 7) / 8, answer)
+}
+
+// What is read back from the bytes that were written. On a refusal they are still those that were lent, which read as no record.
+fn encoded(l: Layout, out: &mut [u8]) -> LayoutOut {
+    let refusal = exports_layouts::lukaripe_encode(l, out);
+    let read = exports_layouts::lukaripe_decode(out);
+    let layout = read.layout;
+    if refusal == 0 {
+        return read;
+    }
+    LayoutOut { refusal, layout }
+}
+
+fn encode(line: &[u64; WIDTH]) -> Told {
+    let length = line[7] as usize;
+    if length > BYTES {
+        return tell_none();
+    }
+    let mut bytes = [0u8; BYTES];
+    let answer = encoded(first(line), &mut bytes[..length]);
+    tell_layout(7, answer)
+}
+
+fn compose(line: &[u64; WIDTH]) -> Told {
+    let length = line[3] as usize;
+    if length > BYTES {
+        return tell_none();
+    }
+    let bytes = bytes_from(line, 4);
+    let answer = exports_layouts::lukaripe_compose(line[1], line[2], &bytes[..length]);
+    tell_composed(3 + (length + 7) / 8, answer)
+}
+
+fn for_repr_c_struct(line: &[u64; WIDTH]) -> Told {
+    let length = line[3] as usize;
+    if length > BYTES {
+        return tell_none();
+    }
+    let bytes = bytes_from(line, 4);
+    let answer = exports_layouts::lukaripe_for_repr_c_struct(line[1], line[2], &bytes[..length]);
+    tell_composed(3 + (length + 7) / 8, answer)
+}
+
+fn made(line: &[u64; WIDTH]) -> Told {
+    match line[0] {
+        15 => tell_layout(1, exports_layouts::lukaripe_new_zst(line[1])),
+        16 => tell_layout(2, exports_layouts::lukaripe_for_type(line[1], line[2])),
+        17 => tell_layout(
+            2,
+            exports_layouts::lukaripe_for_unpadded_type(line[1], line[2]),
+        ),
+        18 => tell_layout(2, exports_layouts::lukaripe_for_slice(line[1], line[2])),
+        25 => tell_layout(1, exports_layouts::lukaripe_scalar(line[1])),
+        _ => tell_none(),
+    }
+}
+
+fn listed(line: &[u64; WIDTH]) -> Told {
+    match line[0] {
+        23 => decode(line),
+        24 => encode(line),
+        26 => compose(line),
+        27 => for_repr_c_struct(line),
+        _ => made(line),
+    }
+}
+
+// What the function of the line tells.
+pub(crate) fn call(line: &[u64; WIDTH]) -> Told {
+    match line[0] {
+        19 => tell_layout(
+            13,
+            exports_layouts::lukaripe_extend(first(line), second(line), line[13]),
+        ),
+        20 => tell_layout(6, exports_layouts::lukaripe_pad_to_align(first(line))),
+        21 => tell_number(
+            6,
+            exports_layouts::lukaripe_requires_static_padding(first(line)),
+        ),
+        22 => tell_number(
+            6,
+            exports_layouts::lukaripe_requires_dynamic_padding(first(line)),
+        ),
+        _ => listed(line),
+    }
+}

@@ -1,0 +1,143 @@
+// A function for each recorded function: it takes the inputs from the line and tells the answer as a line has it.
+// The number of a function and the order of its inputs are those of rust/differential/recorded.rs and its rows.
+use exports_numbers::Components;
+use exports_numbers::Number;
+use exports_numbers::Trailing;
+use exports_numbers::TrailingAnswer;
+use recorded::LENGTH;
+use recorded::Told;
+use recorded::WIDTH;
+
+// No call: no line agrees with it.
+fn tell_none() -> Told {
+    Told {
+        inputs: WIDTH,
+        length: 0,
+        numbers: [0; LENGTH],
+    }
+}
+
+fn tell_number(inputs: usize, n: Number) -> Told {
+    Told {
+        inputs,
+        length: 2,
+        numbers: [n.refusal, n.value, 0, 0, 0, 0, 0, 0, 0, 0, 0, 0, 0],
+    }
+}
+
+fn tell_yes(inputs: usize, yes: bool) -> Told {
+    if yes {
+        tell_number(
+            inputs,
+            Number {
+                refusal: 0,
+                value: 1,
+            },
+        )
+    } else {
+        tell_number(
+            inputs,
+            Number {
+                refusal: 0,
+                value: 0,
+            },
+        )
+    }
+}
+
+fn tell_components(c: Components) -> Told {
+    Told {
+        inputs: 1,
+        length: 3,
+        numbers: [c.refusal, c.align, c.phase, 0, 0, 0, 0, 0, 0, 0, 0, 0, 0],
+    }
+}
+
+fn tell_trailing(a: TrailingAnswer) -> Told {
+    let t = a.layout;
+    Told {
+        inputs: 6,
+        length: 5,
+        numbers: [
+            a.refusal,
+            t.size_base,
+            t.offset,
+            t.elem_size,
+            t.word,
+            0,
+            0,
+            0,
+            0,
+            0,
+            0,
+            0,
+            0,
+        ],
+    }
+}
+
+// The layout that the inputs start with, and one behind it.
+fn first(line: &[u64; WIDTH]) -> Trailing {
+    Trailing {
+        size_base: line[1],
+        offset: line[2],
+        elem_size: line[3],
+        word: line[4],
+    }
+}
+
+fn second(line: &[u64; WIDTH]) -> Trailing {
+    Trailing {
+        size_base: line[5],
+        offset: line[6],
+        elem_size: line[7],
+        word: line[8],
+    }
+}
+
+fn helper(line: &[u64; WIDTH]) -> Told {
+    match line[0] {
+        1 => tell_yes(1, exports_numbers::lukaripe_is_power_of_two(line[1])),
+        2 => tell_number(
+            2,
+            exports_numbers::lukaripe_padding_needed_for(line[1], line[2]),
+        ),
+        3 => tell_number(
+            2,
+            exports_numbers::lukaripe_round_down_to_next_multiple_of_alignment(line[1], line[2]),
+        ),
+        4 => tell_number(2, exports_numbers::lukaripe_max(line[1], line[2])),
+        5 => tell_number(2, exports_numbers::lukaripe_min(line[1], line[2])),
+        _ => tell_none(),
+    }
+}
+
+fn rounding(line: &[u64; WIDTH]) -> Told {
+    match line[0] {
+        6 => tell_number(2, exports_numbers::lukaripe_rounding_new(line[1], line[2])),
+        7 => tell_components(exports_numbers::lukaripe_rounding_components(line[1])),
+        8 => tell_number(1, exports_numbers::lukaripe_rounding_align(line[1])),
+        _ => helper(line),
+    }
+}
+
+fn trailing(line: &[u64; WIDTH]) -> Told {
+    let t = first(line);
+    match line[0] {
+        9 => tell_number(4, exports_numbers::lukaripe_size_offset(t)),
+        10 => tell_number(5, exports_numbers::lukaripe_max_trailing_bytes(t, line[5])),
+        11 => tell_number(5, exports_numbers::lukaripe_padding_for_elems(t, line[5])),
+        12 => tell_number(5, exports_numbers::lukaripe_size_for_elems(t, line[5])),
+        13 => tell_trailing(exports_numbers::lukaripe_advance(t, line[5], line[6])),
+        14 => tell_number(
+            8,
+            exports_numbers::lukaripe_has_same_size_sequence(t, second(line)),
+        ),
+        _ => rounding(line),
+    }
+}
+
+// What the function of the line tells.
+pub(crate) fn call(line: &[u64; WIDTH]) -> Told {
+    trailing(line)
+}
