@@ -3,35 +3,56 @@
 #include <inttypes.h>
 #include <stdio.h>
 
-enum { MEMBERS = 3, RECORD = 48 };
+enum { MEMBERS = 3 };
 
-/* Six words each: 8 bytes aligned to 4, a byte, and a run of bytes, all with the mark. */
-static const lukaripe_layout members[MEMBERS] = {
-    {.align = 4, .kind = 1, .size_or_base = 8},
-    {.align = 1, .kind = 1, .size_or_base = 1},
-    {.align = 1, .kind = 3, .elem_size = 1, .word = 1},
-};
+/* Prints why a call was refused, and gives main's status. */
+static int refused(const char *call, uint64_t refusal) {
+    fprintf(stderr, "%s: refused by %" PRIu64 ", %s\n", call, refusal, lukaripe_refusal_text(refusal));
+    return 1;
+}
 
 int main(void) {
-    uint8_t list[MEMBERS * RECORD];
-    for (int i = 0; i < MEMBERS; i++)
-        if (lukaripe_encode(members[i], list + i * RECORD, RECORD) != 0)
-            return 1;
-
-    lukaripe_composed c = lukaripe_for_repr_c_struct(0, 0, list, sizeof list);
-    if (c.refusal != 0) {
-        printf("refused %" PRIu64 " at %" PRIu64 "\n", c.refusal, c.place);
-        return 1;
+    /* 8 bytes aligned to 4, a byte, and a run of bytes. */
+    const lukaripe_layout_answer members[MEMBERS] = {
+        lukaripe_for_unpadded_type(8, 4),
+        lukaripe_scalar(LUKARIPE_SCALAR_U8),
+        lukaripe_for_slice(1, 1),
+    };
+    uint8_t list[MEMBERS * LUKARIPE_RECORD_LENGTH];
+    for (int i = 0; i < MEMBERS; i++) {
+        if (members[i].refusal != 0)
+            return refused("member", members[i].refusal);
+        uint8_t *record = list + i * LUKARIPE_RECORD_LENGTH;
+        uint64_t refusal = lukaripe_encode(members[i].layout, record, LUKARIPE_RECORD_LENGTH);
+        if (refusal != 0)
+            return refused("encode", refusal);
     }
-    printf("align %" PRIu64 ", elements of %" PRIu64 " from %" PRIu64 " on\n", c.align, c.elem_size, c.offset);
 
-    lukaripe_trailing run = {c.offset, c.elem_size, c.size_or_base, c.word};
-    printf("4 elements: %" PRIu64 " bytes\n", lukaripe_size_for_elems(run, 4).value);
+    lukaripe_composed record = lukaripe_for_repr_c_struct(0, 0, list, sizeof list);
+    if (record.refusal != 0) {
+        fprintf(stderr, "at %" PRIu64 ": ", record.place);
+        return refused("for_repr_c_struct", record.refusal);
+    }
+    lukaripe_layout l = record.layout;
+    printf("alignment %" PRIu64 ", elements of %" PRIu64 " from %" PRIu64 " on\n", l.align, l.elem_size, l.offset);
 
-    lukaripe_layout record = {c.align, c.kind, c.size_or_base, c.offset, c.elem_size, c.word};
-    lukaripe_cast cast = lukaripe_validate_cast_and_convert_metadata(record, 0, 15, false);
+    lukaripe_cast cast = lukaripe_validate_cast_and_convert_metadata(record.layout, 0, 15, false);
     if (cast.refusal != 0)
-        return 1;
+        return refused("cast", cast.refusal);
     printf("15 bytes hold %" PRIu64 " elements, in %" PRIu64 " bytes\n", cast.count, cast.split);
+
+    lukaripe_number count = lukaripe_metadata_for_exact_size(record.layout, 16);
+    if (count.refusal != 0)
+        return refused("metadata_for_exact_size", count.refusal);
+    printf("16 bytes are just %" PRIu64 " elements\n", count.value);
+
+    /* Elements of 1 byte do not become elements of 4. */
+    lukaripe_layout_answer wide = lukaripe_for_slice(4, 4);
+    if (wide.refusal != 0)
+        return refused("for_slice", wide.refusal);
+    lukaripe_cast_params_answer params = lukaripe_try_compute(record.layout, wide.layout);
+    if (params.refusal != LUKARIPE_REFUSED_NO_CONVERSION)
+        return refused("try_compute", params.refusal);
+    printf("as a run of 4 bytes each: %s\n", lukaripe_refusal_text(params.refusal));
     return 0;
 }

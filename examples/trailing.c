@@ -3,28 +3,38 @@
 #include <inttypes.h>
 #include <stdio.h>
 
+/* Prints why a call was refused, and gives main's status. */
+static int refused(const char *call, uint64_t refusal) {
+    fprintf(stderr, "%s: refused by %" PRIu64 ", %s\n", call, refusal, lukaripe_refusal_text(refusal));
+    return 1;
+}
+
 int main(void) {
-    /* What is rounded up to 4 starts with the one byte after the first 8. */
+    /* What is rounded up to 4 starts with the one byte behind the first 8. */
     lukaripe_number word = lukaripe_rounding_new(4, 1);
     if (word.refusal != 0)
-        return 1;
-    lukaripe_trailing record = {
-        .offset = 9,
-        .elem_size = 1,
-        .size_base = 8,
-        .size_rounding_align_and_phase = word.value,
-    };
+        return refused("rounding_new", word.refusal);
+    lukaripe_trailing record = {.size_base = 8, .offset = 9, .elem_size = 1, .word = word.value};
 
     for (uint64_t elems = 0; elems < 5; elems++) {
         lukaripe_number size = lukaripe_size_for_elems(record, elems);
+        if (size.refusal != 0)
+            return refused("size_for_elems", size.refusal);
         lukaripe_number padding = lukaripe_padding_for_elems(record, elems);
-        printf("%" PRIu64 " elements: %" PRIu64 " bytes, %" PRIu64 " of them padding\n", elems, size.value, padding.value);
+        if (padding.refusal != 0)
+            return refused("padding_for_elems", padding.refusal);
+        printf("%" PRIu64 " elements: %" PRIu64 " bytes, %" PRIu64 " of them padding\n", elems, size.value,
+               padding.value);
     }
 
-    lukaripe_number room = lukaripe_max_trailing_bytes(record, 11);
-    if (room.refusal == LUKARIPE_REFUSED_NO_ROOM)
-        printf("11 bytes are too few\n");
-    room = lukaripe_max_trailing_bytes(record, 15);
-    printf("15 bytes have room for %" PRIu64 " elements\n", room.value);
+    for (uint64_t bytes = 11; bytes <= 15; bytes += 4) {
+        lukaripe_number room = lukaripe_max_trailing_bytes(record, bytes);
+        if (room.refusal == LUKARIPE_REFUSED_NO_ROOM)
+            printf("%" PRIu64 " bytes: %s\n", bytes, lukaripe_refusal_text(room.refusal));
+        else if (room.refusal != 0)
+            return refused("max_trailing_bytes", room.refusal);
+        else
+            printf("%" PRIu64 " bytes have room for %" PRIu64 " elements\n", bytes, room.value);
+    }
     return 0;
 }

@@ -1,8 +1,28 @@
-/* Layout arithmetic: sizes, padding, casts and conversions of records that end in a run of elements.
+/* Lukaripe: layout arithmetic of records that end in a run of elements.
  *
- * Every function takes any numbers and any bytes. An answer has the refusal number first: 0 where there is none, and then
- * the other members are the answer; else the number of the cause (LUKARIPE_REFUSED_..), and the other members are 0.
- * On a refusal no lent byte has changed.
+ * Every function takes any numbers and any bytes and returns. An answer begins with its refusal: 0 where there is none, and
+ * then the members behind it are the answer; else the number of the cause (LUKARIPE_REFUSED_..; lukaripe_refusal_text gives
+ * it in words), and the members behind it are 0, except the `place` of a composition, which says where. Each function's
+ * comment names the refusals that it can give, in the order in which they are tested: the first that applies is given.
+ *
+ * Words used below:
+ *   alignment   a power of two
+ *   layout      the six words of a record: alignment, kind, size or base, offset, element size, rounding word
+ *   kind        whether a layout is fixed (it has one size) or trailing (it ends in a run of elements), and whether it has
+ *               the mark: LUKARIPE_KIND_..
+ *   mark        no padding is known between the members, nor after the last
+ *   word        the rounding word: an alignment A plus a phase p below it. Every number but 0 is one such pair
+ *   size        of a trailing layout with n elements: size_base + (p + n * elem_size rounded up to a multiple of A). The
+ *               offset, where the elements begin, does not enter it. There is no size where this is above 2^64 - 1
+ *   count       a number of elements; a fixed layout has the one count 0
+ *   split       where a cast divides the bytes: behind a prefix, before a suffix
+ *   packing     a greatest alignment of members, as repr(packed(N)) asks for
+ *
+ * A layout that is handed over is tested as a record is, before anything else: 21, 1, then 22 (fixed) or 2 (trailing). Where
+ * there are two, the first one is tested first. "Layout refusals" below stands for these four.
+ *
+ * The library has no state and allocates nothing: every function may be called from any thread at any time. Bytes that are
+ * lent are only read, but for `out` of lukaripe_encode, and not kept. A pointer may be NULL where its length is 0.
  */
 #ifndef LUKARIPE_H
 #define LUKARIPE_H
@@ -11,11 +31,24 @@
 #include <stddef.h>
 #include <stdint.h>
 
+#define LUKARIPE_VERSION_MAJOR 0
+#define LUKARIPE_VERSION_MINOR 2
+#define LUKARIPE_VERSION_PATCH 0
+#define LUKARIPE_VERSION "0.2.0"
+
+/* An answer that is not looked at is a mistake: a refusal would go unseen. */
+#if defined(__GNUC__) || defined(__clang__)
+#define LUKARIPE_USE_RESULT __attribute__((warn_unused_result))
+#else
+#define LUKARIPE_USE_RESULT
+#endif
+
 #ifdef __cplusplus
 extern "C" {
 #endif
 
-/* Why a call is refused. */
+/* ---- refusals ---- */
+
 enum {
     LUKARIPE_REFUSED_ALIGN_NOT_POWER_OF_TWO = 1,
     LUKARIPE_REFUSED_ROUNDING_WORD_ZERO = 2,
@@ -42,21 +75,86 @@ enum {
     LUKARIPE_REFUSED_SCALAR_CODE = 23
 };
 
+/* The cause of a refusal in words. "accepted" for 0, and "unknown refusal" for a number that this version does not have. */
+static inline const char *lukaripe_refusal_text(uint64_t refusal) {
+    switch (refusal) {
+    case 0:
+        return "accepted";
+    case LUKARIPE_REFUSED_ALIGN_NOT_POWER_OF_TWO:
+        return "an alignment is 0 or no power of two";
+    case LUKARIPE_REFUSED_ROUNDING_WORD_ZERO:
+        return "the rounding word is 0";
+    case LUKARIPE_REFUSED_PHASE_NOT_BELOW_ALIGN:
+        return "the phase is not below its alignment";
+    case LUKARIPE_REFUSED_SIZE_NOT_MULTIPLE_OF_ALIGN:
+        return "the size of a type is not a multiple of its alignment";
+    case LUKARIPE_REFUSED_PACKING_NOT_POWER_OF_TWO:
+        return "the packing is no power of two";
+    case LUKARIPE_REFUSED_ALIGN_ABOVE_MAX:
+        return "an alignment or the packing is above 2^29 while a member is added";
+    case LUKARIPE_REFUSED_MEMBER_AFTER_TRAILING:
+        return "a member comes after a run of elements";
+    case LUKARIPE_REFUSED_ROUNDING_PASSES_MAX:
+        return "rounding up overflows";
+    case LUKARIPE_REFUSED_MEMBER_PASSES_MAX:
+        return "the size, offset or base of a member overflows";
+    case LUKARIPE_REFUSED_CAST_ELEM_SIZE_ZERO:
+        return "the elements of a cast have size 0";
+    case LUKARIPE_REFUSED_ADDRESS_PASSES_MAX:
+        return "the sum of address and length overflows";
+    case LUKARIPE_REFUSED_CAST_NOT_ALIGNED:
+        return "the bytes of a cast are not aligned";
+    case LUKARIPE_REFUSED_CAST_TOO_SMALL:
+        return "the bytes of a cast are too few";
+    case LUKARIPE_REFUSED_NO_EXACT_COUNT:
+        return "no count of elements has exactly this size";
+    case LUKARIPE_REFUSED_NO_SIZE:
+        return "the size at this count of elements overflows";
+    case LUKARIPE_REFUSED_NO_ROOM:
+        return "there is less room than the size without elements";
+    case LUKARIPE_REFUSED_ADVANCE_PASSES_MAX:
+        return "the advance overflows";
+    case LUKARIPE_REFUSED_NO_CONVERSION:
+        return "the one layout does not convert to the other";
+    case LUKARIPE_REFUSED_CONVERTED_COUNT_PASSES_MAX:
+        return "the converted count overflows";
+    case LUKARIPE_REFUSED_RECORD_LENGTH:
+        return "a record is not 48 bytes long, or a list no multiple of that";
+    case LUKARIPE_REFUSED_KIND:
+        return "the kind of a record is above 3";
+    case LUKARIPE_REFUSED_FIXED_RECORD:
+        return "a record of a fixed size has a later word that is not 0";
+    case LUKARIPE_REFUSED_SCALAR_CODE:
+        return "the code of a scalar is above 8";
+    default:
+        return "unknown refusal";
+    }
+}
+
+/* ---- numbers ---- */
+
 /* A number. A yes or no is 1 or 0. */
 typedef struct {
     uint64_t refusal;
     uint64_t value;
 } lukaripe_number;
 
-/* ---- rounding helpers ---- */
+/* Whether align is a power of two. No refusals. */
+LUKARIPE_USE_RESULT bool lukaripe_is_power_of_two(uint64_t align);
 
-bool lukaripe_is_power_of_two(uint64_t align);
-lukaripe_number lukaripe_padding_needed_for(uint64_t len, uint64_t align);
-lukaripe_number lukaripe_round_down_to_next_multiple_of_alignment(uint64_t n, uint64_t align);
-lukaripe_number lukaripe_max(uint64_t a, uint64_t b);
-lukaripe_number lukaripe_min(uint64_t a, uint64_t b);
+/* The least number of bytes that takes len to a multiple of align, modulo 2^64. Refusals: 1. */
+LUKARIPE_USE_RESULT lukaripe_number lukaripe_padding_needed_for(uint64_t len, uint64_t align);
 
-/* ---- the rounding word: alignment + phase ---- */
+/* The greatest multiple of align that is at most n. Refusals: 1. */
+LUKARIPE_USE_RESULT lukaripe_number lukaripe_round_down_to_next_multiple_of_alignment(uint64_t n, uint64_t align);
+
+/* The larger of two alignments. Refusals: 1. */
+LUKARIPE_USE_RESULT lukaripe_number lukaripe_max(uint64_t a, uint64_t b);
+
+/* The smaller of two alignments. Refusals: 1. */
+LUKARIPE_USE_RESULT lukaripe_number lukaripe_min(uint64_t a, uint64_t b);
+
+/* ---- the rounding word ---- */
 
 typedef struct {
     uint64_t refusal;
@@ -64,42 +162,64 @@ typedef struct {
     uint64_t phase;
 } lukaripe_components;
 
-lukaripe_number lukaripe_rounding_new(uint64_t align, uint64_t phase);
-lukaripe_components lukaripe_rounding_components(uint64_t word);
-lukaripe_number lukaripe_rounding_align(uint64_t word);
+/* The word of an alignment and a phase. Refusals: 1, 3. */
+LUKARIPE_USE_RESULT lukaripe_number lukaripe_rounding_new(uint64_t align, uint64_t phase);
+
+/* The alignment and the phase of a word. Refusals: 2. */
+LUKARIPE_USE_RESULT lukaripe_components lukaripe_rounding_components(uint64_t word);
+
+/* The alignment of a word alone. Refusals: 2. */
+LUKARIPE_USE_RESULT lukaripe_number lukaripe_rounding_align(uint64_t word);
 
 /* ---- trailing layouts ---- */
 
+/* The last four words of a trailing layout. */
 typedef struct {
+    uint64_t size_base;
     uint64_t offset;
     uint64_t elem_size;
-    uint64_t size_base;
-    uint64_t size_rounding_align_and_phase;
+    uint64_t word;
 } lukaripe_trailing;
 
 typedef struct {
     uint64_t refusal;
-    uint64_t offset;
-    uint64_t elem_size;
-    uint64_t size_base;
-    uint64_t size_rounding_align_and_phase;
+    lukaripe_trailing layout;
 } lukaripe_trailing_answer;
 
-lukaripe_number lukaripe_size_offset(lukaripe_trailing layout);
-lukaripe_number lukaripe_max_trailing_bytes(lukaripe_trailing layout, uint64_t available_bytes);
-lukaripe_number lukaripe_padding_for_elems(lukaripe_trailing layout, uint64_t elems);
-lukaripe_number lukaripe_size_for_elems(lukaripe_trailing layout, uint64_t elems);
-lukaripe_trailing_answer lukaripe_advance(lukaripe_trailing layout, uint64_t bytes, uint64_t elem_size);
-lukaripe_number lukaripe_has_same_size_sequence(lukaripe_trailing layout, lukaripe_trailing other);
+/* The base rounded down to a multiple of the word's alignment, plus its phase. Refusals: 2. */
+LUKARIPE_USE_RESULT lukaripe_number lukaripe_size_offset(lukaripe_trailing layout);
+
+/* The greatest number of trailing bytes with which the size is at most available_bytes. Refusals: 2, 16. */
+LUKARIPE_USE_RESULT lukaripe_number lukaripe_max_trailing_bytes(lukaripe_trailing layout, uint64_t available_bytes);
+
+/* The size at elems less where the elements end, modulo 2^64, whether or not there is a size. Refusals: 2. */
+LUKARIPE_USE_RESULT lukaripe_number lukaripe_padding_for_elems(lukaripe_trailing layout, uint64_t elems);
+
+/* The size at elems. Refusals: 2, 15. */
+LUKARIPE_USE_RESULT lukaripe_number lukaripe_size_for_elems(lukaripe_trailing layout, uint64_t elems);
+
+/* The layout whose sizes are these with so many bytes more before the rounding, and with another element size.
+ * Refusals: 2, 17. */
+LUKARIPE_USE_RESULT lukaripe_trailing_answer lukaripe_advance(lukaripe_trailing layout, uint64_t bytes,
+                                                              uint64_t elem_size);
+
+/* Whether the two are found to have the same size at every count. A no does not mean that they have not. Refusals: 2. */
+LUKARIPE_USE_RESULT lukaripe_number lukaripe_has_same_size_sequence(lukaripe_trailing layout, lukaripe_trailing other);
 
 /* ---- layouts ---- */
 
-/* A layout is the six words of its record and is tested as a record is: 21, 1, then 22 or 2.
- * kind: 0 fixed, 1 fixed with the mark, 2 trailing, 3 trailing with the mark. A fixed layout's last three words are 0. */
+enum {
+    LUKARIPE_KIND_FIXED = 0,
+    LUKARIPE_KIND_FIXED_MARKED = 1,
+    LUKARIPE_KIND_TRAILING = 2,
+    LUKARIPE_KIND_TRAILING_MARKED = 3
+};
+
+/* A layout: the six words of its record. The last three are 0 when it is fixed; size_base is then its size. */
 typedef struct {
     uint64_t align;
     uint64_t kind;
-    uint64_t size_or_base;
+    uint64_t size_base;
     uint64_t offset;
     uint64_t elem_size;
     uint64_t word;
@@ -107,51 +227,80 @@ typedef struct {
 
 typedef struct {
     uint64_t refusal;
-    uint64_t align;
-    uint64_t kind;
-    uint64_t size_or_base;
-    uint64_t offset;
-    uint64_t elem_size;
-    uint64_t word;
+    lukaripe_layout layout;
 } lukaripe_layout_answer;
 
-/* An alignment or packing of 0 means that none was asked for, in these parameters only. */
-lukaripe_layout_answer lukaripe_new_zst(uint64_t repr_align);
-lukaripe_layout_answer lukaripe_for_type(uint64_t size, uint64_t align);
-lukaripe_layout_answer lukaripe_for_unpadded_type(uint64_t size, uint64_t align);
-lukaripe_layout_answer lukaripe_for_slice(uint64_t size, uint64_t align);
-lukaripe_layout_answer lukaripe_extend(lukaripe_layout layout, lukaripe_layout field, uint64_t repr_packed);
-lukaripe_layout_answer lukaripe_pad_to_align(lukaripe_layout layout);
-lukaripe_number lukaripe_requires_static_padding(lukaripe_layout layout);
-lukaripe_number lukaripe_requires_dynamic_padding(lukaripe_layout layout);
+/* The empty layout: size 0, the alignment that is asked for, or 1 for 0, and the mark. Refusals: 1. */
+LUKARIPE_USE_RESULT lukaripe_layout_answer lukaripe_new_zst(uint64_t repr_align);
+
+/* A type of this size and alignment, without the mark. Refusals: 1, 4. */
+LUKARIPE_USE_RESULT lukaripe_layout_answer lukaripe_for_type(uint64_t size, uint64_t align);
+
+/* A type of this size and alignment that has no padding: with the mark. Refusals: 1, 4. */
+LUKARIPE_USE_RESULT lukaripe_layout_answer lukaripe_for_unpadded_type(uint64_t size, uint64_t align);
+
+/* A run of elements of this size and alignment, with the mark. Refusals: 1, 4. */
+LUKARIPE_USE_RESULT lukaripe_layout_answer lukaripe_for_slice(uint64_t size, uint64_t align);
+
+/* The layout with one member more, at the next place that is a multiple of the member's alignment, or of the packing where
+ * that is lower. repr_packed 0: no packing is asked for. Refusals: layout refusals, of the layout and then of the field;
+ * 5, 6, 7, 8, 9. */
+LUKARIPE_USE_RESULT lukaripe_layout_answer lukaripe_extend(lukaripe_layout layout, lukaripe_layout field,
+                                                           uint64_t repr_packed);
+
+/* The layout with its closing padding: each size is rounded up to a multiple of the alignment. Refusals: layout refusals,
+ * 8. */
+LUKARIPE_USE_RESULT lukaripe_layout_answer lukaripe_pad_to_align(lukaripe_layout layout);
+
+/* Whether the mark is not set. Refusals: layout refusals. */
+LUKARIPE_USE_RESULT lukaripe_number lukaripe_requires_static_padding(lukaripe_layout layout);
+
+/* Whether some count may need padding behind its elements; no for a fixed layout. Refusals: layout refusals. */
+LUKARIPE_USE_RESULT lukaripe_number lukaripe_requires_dynamic_padding(lukaripe_layout layout);
 
 /* ---- records, scalars and member lists ---- */
 
-/* A record has 48 bytes, six little-endian words. A member list is records end to end. */
-lukaripe_layout_answer lukaripe_decode(const uint8_t *record, size_t len);
+/* The bytes of a record: the six words of a layout, little-endian. A member list is records end to end. */
+enum { LUKARIPE_RECORD_LENGTH = 48 };
 
-/* Gives the refusal number; 20 for the length of out comes first. */
-uint64_t lukaripe_encode(lukaripe_layout layout, uint8_t *out, size_t len);
+enum {
+    LUKARIPE_SCALAR_U8 = 0,
+    LUKARIPE_SCALAR_U16 = 1,
+    LUKARIPE_SCALAR_U32 = 2,
+    LUKARIPE_SCALAR_U64 = 3,
+    LUKARIPE_SCALAR_F32 = 4,
+    LUKARIPE_SCALAR_F64 = 5,
+    LUKARIPE_SCALAR_CHAR = 6,
+    LUKARIPE_SCALAR_BOOL = 7,
+    LUKARIPE_SCALAR_USIZE = 8
+};
 
-/* Codes: 0 u8, 1 u16, 2 u32, 3 u64, 4 f32, 5 f64, 6 char, 7 bool, 8 usize. */
-lukaripe_layout_answer lukaripe_scalar(uint64_t code);
+/* The layout of a record. Refusals: 20 where len is not 48, then layout refusals. */
+LUKARIPE_USE_RESULT lukaripe_layout_answer lukaripe_decode(const uint8_t *bytes, size_t len);
 
-/* place: the index of the member at fault, the member count for final padding, else 0. */
+/* Writes the record of a layout to 48 lent bytes and gives the refusal; on a refusal no byte of out has changed.
+ * Refusals: 20 where len is not 48, then layout refusals. */
+LUKARIPE_USE_RESULT uint64_t lukaripe_encode(lukaripe_layout layout, uint8_t *out, size_t len);
+
+/* The layout of a scalar type of Rust, with the mark (LUKARIPE_SCALAR_..; char is Rust's, of 4 bytes). Refusals: 23. */
+LUKARIPE_USE_RESULT lukaripe_layout_answer lukaripe_scalar(uint64_t code);
+
+/* A composed layout. place, of a refusal: the index of the member at fault; the member count where closing padding is at
+ * fault; 0 for the length of the list and for repr_align. */
 typedef struct {
     uint64_t refusal;
     uint64_t place;
-    uint64_t align;
-    uint64_t kind;
-    uint64_t size_or_base;
-    uint64_t offset;
-    uint64_t elem_size;
-    uint64_t word;
+    lukaripe_layout layout;
 } lukaripe_composed;
 
-/* compose is for_repr_c_struct before its closing padding. */
-lukaripe_composed lukaripe_compose(uint64_t repr_align, uint64_t repr_packed, const uint8_t *members, size_t len);
-lukaripe_composed lukaripe_for_repr_c_struct(uint64_t repr_align, uint64_t repr_packed, const uint8_t *members,
-                                             size_t len);
+/* The members of a list one behind the other, before closing padding. repr_align and repr_packed 0: none is asked for.
+ * Refusals: 20 where len is no multiple of 48; 1 of repr_align; of each member in turn: layout refusals, 5, 6, 7, 8, 9. */
+LUKARIPE_USE_RESULT lukaripe_composed lukaripe_compose(uint64_t repr_align, uint64_t repr_packed, const uint8_t *members,
+                                                       size_t len);
+
+/* The layout of a repr(C) struct with these members: lukaripe_compose, and closing padding. Refusals: the same, then 8. */
+LUKARIPE_USE_RESULT lukaripe_composed lukaripe_for_repr_c_struct(uint64_t repr_align, uint64_t repr_packed,
+                                                                 const uint8_t *members, size_t len);
 
 /* ---- casts ---- */
 
@@ -161,14 +310,26 @@ typedef struct {
     uint64_t split;
 } lukaripe_cast;
 
-lukaripe_cast lukaripe_validate_cast_and_convert_metadata(lukaripe_layout layout, uint64_t addr, uint64_t bytes_len,
-                                                          bool suffix);
-lukaripe_number lukaripe_metadata_for_exact_size(lukaripe_layout layout, uint64_t size);
+/* Whether bytes_len bytes at addr may be seen as this layout, from their start or (suffix) at their end: the greatest count
+ * whose size is at most bytes_len, and where the bytes split. The bytes themselves are not looked at.
+ * Refusals: layout refusals, 10, 11, 12, 13. */
+LUKARIPE_USE_RESULT lukaripe_cast lukaripe_validate_cast_and_convert_metadata(lukaripe_layout layout, uint64_t addr,
+                                                                              uint64_t bytes_len, bool suffix);
+
+/* The greatest count whose size is exactly this. Refusals: layout refusals, 14 (a fixed layout and element size 0 too). */
+LUKARIPE_USE_RESULT lukaripe_number lukaripe_metadata_for_exact_size(lukaripe_layout layout, uint64_t size);
 
 /* ---- conversions ---- */
 
-/* kind: 0 fixed to fixed, 1 fixed to trailing (dst_meta), 2 trailing to trailing (offset_delta_elems, elem_multiple).
- * A kind above 2 that is handed over is read as 2. */
+enum {
+    LUKARIPE_FIXED_TO_FIXED = 0,
+    LUKARIPE_FIXED_TO_TRAILING = 1,
+    LUKARIPE_TRAILING_TO_TRAILING = 2
+};
+
+/* How counts of one layout become counts of another (kind: LUKARIPE_.._TO_..; one above 2 that is handed over is read as 2).
+ * Fixed to fixed: 0. Fixed to trailing: dst_meta. Trailing to trailing: offset_delta_elems + n * elem_multiple. What a kind
+ * has no use for is 0. */
 typedef struct {
     uint64_t kind;
     uint64_t offset_delta_elems;
@@ -178,15 +339,36 @@ typedef struct {
 
 typedef struct {
     uint64_t refusal;
-    uint64_t kind;
-    uint64_t offset_delta_elems;
-    uint64_t elem_multiple;
-    uint64_t dst_meta;
+    lukaripe_cast_params params;
 } lukaripe_cast_params_answer;
 
-lukaripe_number lukaripe_size_sequences_match(lukaripe_trailing src, lukaripe_trailing dst, uint64_t dst_base);
-lukaripe_cast_params_answer lukaripe_try_compute(lukaripe_layout src, lukaripe_layout dst);
-lukaripe_number lukaripe_cast_metadata(lukaripe_cast_params params, uint64_t src_meta);
+/* Whether dst, advanced by dst_base of its elements and given the element size of src, is found to have the sizes of src.
+ * Refusals: 2. */
+LUKARIPE_USE_RESULT lukaripe_number lukaripe_size_sequences_match(lukaripe_trailing src, lukaripe_trailing dst,
+                                                                  uint64_t dst_base);
+
+/* How counts of src are converted to counts of dst that have the same size. Refusals: layout refusals, of src and then of
+ * dst; 18. */
+LUKARIPE_USE_RESULT lukaripe_cast_params_answer lukaripe_try_compute(lukaripe_layout src, lukaripe_layout dst);
+
+/* The count that src_meta becomes. Refusals: 19. */
+LUKARIPE_USE_RESULT lukaripe_number lukaripe_cast_metadata(lukaripe_cast_params params, uint64_t src_meta);
+
+/* What four calls gave, each with its own refusal. */
+typedef struct {
+    lukaripe_cast_params_answer computed;
+    lukaripe_number count;
+    lukaripe_cast first;
+    lukaripe_cast second;
+} lukaripe_carried;
+
+/* Converts src_meta elements of src to dst (lukaripe_try_compute, then lukaripe_cast_metadata; the count of a refused
+ * conversion has that refusal), and casts to dst the bytes_len and the more_len bytes at addr, from their start. It is proved
+ * of these four: an accepted conversion keeps the size, and where bytes_len bytes held the elements the first cast grants no
+ * fewer than the converted count, nor the second, over more bytes, fewer than the first. Refusals: layout refusals, of src
+ * and then of dst, in all four; else each as its own function. */
+LUKARIPE_USE_RESULT lukaripe_carried lukaripe_convert_and_cast(lukaripe_layout src, lukaripe_layout dst, uint64_t src_meta,
+                                                               uint64_t addr, uint64_t bytes_len, uint64_t more_len);
 
 #ifdef __cplusplus
 }

@@ -1,19 +1,20 @@
-//! Links liblukaripe.a, which `rt staticlib lukaripe` writes. LUKARIPE_LIB_DIR names its folder where that is another.
+//! Links liblukaripe.a, which tools/library makes. LUKARIPE_LIB_DIR names its folder where that is another.
 
-use std::env;
-use std::path::{Path, PathBuf};
+use std::path::PathBuf;
+use std::{env, process};
+
+const ARCHIVE: &str = "liblukaripe.a";
 
 fn main() {
     println!("cargo:rerun-if-env-changed=LUKARIPE_LIB_DIR");
     let named = env::var_os("LUKARIPE_LIB_DIR").map(PathBuf::from);
-    let folder = named.unwrap_or_else(|| Path::new(env!("CARGO_MANIFEST_DIR")).join("../../target/staticlib"));
-    let Ok(archive) = folder.join("liblukaripe.a").canonicalize() else {
-        panic!(
-            "no liblukaripe.a in {}: build it by 'rt staticlib lukaripe', or name its folder in LUKARIPE_LIB_DIR",
-            folder.display()
-        );
+    // A build script starts in the folder of its package.
+    let folder = named.unwrap_or_else(|| PathBuf::from("../../target/staticlib"));
+    let Some(found) = folder.canonicalize().ok().filter(|found| found.join(ARCHIVE).is_file()) else {
+        eprintln!("no {ARCHIVE} in {}: run tools/library, or name its folder in LUKARIPE_LIB_DIR", folder.display());
+        process::exit(1);
     };
-    println!("cargo:rerun-if-changed={}", archive.display());
-    println!("cargo:rustc-link-search=native={}", archive.parent().unwrap().display());
+    println!("cargo:rerun-if-changed={}", found.join(ARCHIVE).display());
+    println!("cargo:rustc-link-search=native={}", found.display());
     println!("cargo:rustc-link-lib=static=lukaripe");
 }

@@ -1,10 +1,16 @@
-use crate::exports;
+//! Casts.
+
+use crate::exports::{self, Told};
+#[cfg(doc)]
+use crate::Refusal;
 use crate::{Layout, Result};
 
 /// Which end of the bytes a cast takes.
 #[derive(Clone, Copy, Debug, PartialEq, Eq, Hash)]
 pub enum CastType {
+    /// The bytes from the start.
     Prefix,
+    /// The bytes up to the end.
     Suffix,
 }
 
@@ -17,38 +23,63 @@ pub struct Cast {
     pub split: u64,
 }
 
+impl Cast {
+    pub(crate) fn told(told: Told<2>) -> Result<Cast> {
+        told.answer().map(|[count, split]| Cast { count, split })
+    }
+}
+
 impl Layout {
     /// Whether `bytes_len` bytes at `addr` can be seen as this layout, and with what count.
     ///
-    /// ```
-    /// use lukaripe::{Cast, CastType, Layout, Refusal};
+    /// A prefix is aligned where `addr` is, and a suffix where the end of the bytes is.
     ///
-    /// let record = Layout::decode(&[4u64, 3, 8, 9, 1, 5].map(u64::to_le_bytes).concat())?;
-    /// let cast = |addr, len, side| record.validate_cast_and_convert_metadata(addr, len, side);
-    /// assert_eq!(cast(0, 15, CastType::Prefix), Ok(Cast { count: 3, split: 12 }));
-    /// assert_eq!(cast(0, 16, CastType::Prefix), Ok(Cast { count: 7, split: 16 }));
-    /// assert_eq!(cast(1, 15, CastType::Suffix), Ok(Cast { count: 3, split: 3 }));
-    /// assert_eq!(cast(0, 11, CastType::Prefix), Err(Refusal::CastTooSmall));
-    /// assert_eq!(cast(2, 3, CastType::Prefix), Err(Refusal::CastNotAligned));
-    /// # Ok::<(), Refusal>(())
     /// ```
+    /// use lukaripe::{for_repr_c_struct, Cast, CastType, Layout, Refusal};
+    ///
+    /// // #[repr(C)]
+    /// // struct Message { id: [u32; 2], kind: u8, text: [u8] }
+    /// let members = [Layout::of::<[u32; 2]>(), Layout::of::<u8>(), Layout::of_slice::<u8>()];
+    /// let message = for_repr_c_struct(None, None, &members)?;
+    ///
+    /// let prefix = |addr, len| message.validate_cast_and_convert_metadata(addr, len, CastType::Prefix);
+    /// assert_eq!(prefix(0, 15)?, Cast { count: 3, split: 12 });
+    /// assert_eq!(prefix(0, 16)?, Cast { count: 7, split: 16 });
+    /// assert_eq!(prefix(0, 11), Err(Refusal::CastTooSmall));
+    /// assert_eq!(prefix(2, 16), Err(Refusal::CastNotAligned));
+    ///
+    /// let suffix = |addr, len| message.validate_cast_and_convert_metadata(addr, len, CastType::Suffix);
+    /// assert_eq!(suffix(1, 15)?, Cast { count: 3, split: 3 });
+    /// # Ok::<(), lukaripe::Refused>(())
+    /// ```
+    ///
+    /// # Errors
+    ///
+    /// [`Refusal::AlignNotPowerOfTwo`], [`Refusal::RoundingWordZero`], [`Refusal::CastElemSizeZero`],
+    /// [`Refusal::AddressPassesMax`], [`Refusal::CastNotAligned`], [`Refusal::CastTooSmall`].
     pub fn validate_cast_and_convert_metadata(self, addr: u64, bytes_len: u64, cast_type: CastType) -> Result<Cast> {
         let suffix = cast_type == CastType::Suffix;
-        exports::lukaripe_validate_cast_and_convert_metadata(self.words(), addr, bytes_len, suffix)
-            .answer()
-            .map(|[count, split]| Cast { count, split })
+        Cast::told(exports::lukaripe_validate_cast_and_convert_metadata(self.words(), addr, bytes_len, suffix))
     }
 
     /// The greatest count whose size is exactly `size`.
     ///
     /// ```
-    /// use lukaripe::{Layout, Refusal};
+    /// use lukaripe::{for_repr_c_struct, Layout, Refusal};
     ///
-    /// let record = Layout::decode(&[4u64, 3, 8, 9, 1, 5].map(u64::to_le_bytes).concat())?;
-    /// assert_eq!(record.metadata_for_exact_size(16), Ok(7));
-    /// assert_eq!(record.metadata_for_exact_size(15), Err(Refusal::NoExactCount));
-    /// # Ok::<(), Refusal>(())
+    /// // #[repr(C)]
+    /// // struct Message { id: [u32; 2], kind: u8, text: [u8] }
+    /// let members = [Layout::of::<[u32; 2]>(), Layout::of::<u8>(), Layout::of_slice::<u8>()];
+    /// let message = for_repr_c_struct(None, None, &members)?;
+    /// assert_eq!(message.metadata_for_exact_size(16)?, 7);
+    /// assert_eq!(message.metadata_for_exact_size(15), Err(Refusal::NoExactCount));
+    /// # Ok::<(), lukaripe::Refused>(())
     /// ```
+    ///
+    /// # Errors
+    ///
+    /// [`Refusal::AlignNotPowerOfTwo`], [`Refusal::RoundingWordZero`], then [`Refusal::NoExactCount`], which also comes
+    /// of a fixed layout and of elements of size 0.
     pub fn metadata_for_exact_size(self, size: u64) -> Result<u64> {
         exports::lukaripe_metadata_for_exact_size(self.words(), size).number()
     }

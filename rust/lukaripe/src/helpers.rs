@@ -1,11 +1,17 @@
+//! Rounding helpers.
+
 use crate::exports;
+#[cfg(doc)]
+use crate::Refusal;
 use crate::Result;
 
 /// Whether `align` is a power of two.
 ///
 /// ```
-/// assert!(lukaripe::is_power_of_two(8));
-/// assert!(!lukaripe::is_power_of_two(0));
+/// use lukaripe::is_power_of_two;
+///
+/// assert!(is_power_of_two(8));
+/// assert!(!is_power_of_two(0));
 /// ```
 pub fn is_power_of_two(align: u64) -> bool {
     exports::lukaripe_is_power_of_two(align) != 0
@@ -16,10 +22,15 @@ pub fn is_power_of_two(align: u64) -> bool {
 /// ```
 /// use lukaripe::padding_needed_for;
 ///
-/// assert_eq!(padding_needed_for(0, 8), Ok(0));
-/// assert_eq!(padding_needed_for(1, 8), Ok(7));
-/// assert_eq!(padding_needed_for(u64::MAX, 8), Ok(1));
+/// assert_eq!(padding_needed_for(0, 8)?, 0);
+/// assert_eq!(padding_needed_for(1, 8)?, 7);
+/// assert_eq!(padding_needed_for(u64::MAX, 8)?, 1);
+/// # Ok::<(), lukaripe::Refusal>(())
 /// ```
+///
+/// # Errors
+///
+/// [`Refusal::AlignNotPowerOfTwo`].
 pub fn padding_needed_for(len: u64, align: u64) -> Result<u64> {
     exports::lukaripe_padding_needed_for(len, align).number()
 }
@@ -27,8 +38,15 @@ pub fn padding_needed_for(len: u64, align: u64) -> Result<u64> {
 /// The greatest multiple of `align` that is at most `n`.
 ///
 /// ```
-/// assert_eq!(lukaripe::round_down_to_next_multiple_of_alignment(15, 8), Ok(8));
+/// use lukaripe::round_down_to_next_multiple_of_alignment;
+///
+/// assert_eq!(round_down_to_next_multiple_of_alignment(15, 8)?, 8);
+/// # Ok::<(), lukaripe::Refusal>(())
 /// ```
+///
+/// # Errors
+///
+/// [`Refusal::AlignNotPowerOfTwo`].
 pub fn round_down_to_next_multiple_of_alignment(n: u64, align: u64) -> Result<u64> {
     exports::lukaripe_round_down_to_next_multiple_of_alignment(n, align).number()
 }
@@ -36,8 +54,13 @@ pub fn round_down_to_next_multiple_of_alignment(n: u64, align: u64) -> Result<u6
 /// The larger of two alignments.
 ///
 /// ```
-/// assert_eq!(lukaripe::max(2, 8), Ok(8));
+/// assert_eq!(lukaripe::max(2, 8)?, 8);
+/// # Ok::<(), lukaripe::Refusal>(())
 /// ```
+///
+/// # Errors
+///
+/// [`Refusal::AlignNotPowerOfTwo`] for either.
 pub fn max(a: u64, b: u64) -> Result<u64> {
     exports::lukaripe_max(a, b).number()
 }
@@ -47,9 +70,14 @@ pub fn max(a: u64, b: u64) -> Result<u64> {
 /// ```
 /// use lukaripe::Refusal;
 ///
-/// assert_eq!(lukaripe::min(2, 8), Ok(2));
+/// assert_eq!(lukaripe::min(2, 8)?, 2);
 /// assert_eq!(lukaripe::min(2, 3), Err(Refusal::AlignNotPowerOfTwo));
+/// # Ok::<(), Refusal>(())
 /// ```
+///
+/// # Errors
+///
+/// [`Refusal::AlignNotPowerOfTwo`] for either.
 pub fn min(a: u64, b: u64) -> Result<u64> {
     exports::lukaripe_min(a, b).number()
 }

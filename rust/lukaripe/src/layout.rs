@@ -1,18 +1,34 @@
-use crate::exports::{self, Words};
-use crate::{Result, Trailing};
-use std::num::NonZeroU64;
+//! Whole layouts.
 
-/// A fixed size, or a trailing run of elements.
+use crate::exports::{self, Words};
+#[cfg(doc)]
+use crate::Refusal;
+use crate::{Result, Trailing};
+use core::num::NonZeroU64;
+
+/// A fixed size, or a run of elements at the end.
 #[derive(Clone, Copy, Debug, PartialEq, Eq, Hash)]
 pub enum SizeInfo {
-    Sized { size: u64 },
+    /// The layout of a type whose size is known.
+    Sized {
+        /// The size.
+        size: u64,
+    },
+    /// The layout of a type whose size hangs on the count of its last elements.
     SliceDst(Trailing),
 }
 
 /// The layout of a type.
+///
+/// Any numbers may be put into it. What the functions refuse as a layout is an alignment that is no power of two
+/// ([`Refusal::AlignNotPowerOfTwo`]) and a rounding word of 0 ([`Refusal::RoundingWordZero`]).
+///
+/// An alignment or a packing that is asked for is an `Option<NonZeroU64>`, as [`NonZeroU64::new`] gives it.
 #[derive(Clone, Copy, Debug, PartialEq, Eq, Hash)]
 pub struct Layout {
+    /// The alignment.
     pub align: u64,
+    /// The size, or how sizes are worked out.
     pub size_info: SizeInfo,
     /// The mark: no padding is known between the members.
     pub statically_shallow_unpadded: bool,
@@ -23,112 +39,185 @@ const MARKED: u64 = 1;
 const TRAILING: u64 = 2;
 
 impl Layout {
+    /// The six words of the record, whether or not the layout is refused.
     pub(crate) fn words(self) -> Words<6> {
+        let (sort, [size, offset, elem_size, word]) = match self.size_info {
+            SizeInfo::Sized { size } => (0, [size, 0, 0, 0]),
+            SizeInfo::SliceDst(trailing) => (TRAILING, trailing.words().0),
+        };
         let mark = if self.statically_shallow_unpadded { MARKED } else { 0 };
-        match self.size_info {
-            SizeInfo::Sized { size } => Words([self.align, mark, size, 0, 0, 0]),
-            SizeInfo::SliceDst(t) => {
-                let word = t.size_rounding_align_and_phase.0;
-                Words([self.align, TRAILING + mark, t.size_base, t.offset, t.elem_size, word])
-            }
-        }
+        Words([self.align, sort + mark, size, offset, elem_size, word])
     }
 
-    pub(crate) fn of([align, kind, size, offset, elem_size, word]: [u64; 6]) -> Layout {
+    pub(crate) fn from_words([align, kind, size, rest @ ..]: [u64; 6]) -> Layout {
+        let [offset, elem_size, word] = rest;
         let size_info = if kind & TRAILING == 0 {
             SizeInfo::Sized { size }
         } else {
-            SizeInfo::SliceDst(Trailing::of([offset, elem_size, size, word]))
+            SizeInfo::SliceDst(Trailing::from_words([size, offset, elem_size, word]))
         };
         Layout { align, size_info, statically_shallow_unpadded: kind & MARKED != 0 }
+    }
+
+    /// The size of a fixed layout; none of one that ends in a run of elements.
+    ///
+    /// ```
+    /// use lukaripe::Layout;
+    ///
+    /// assert_eq!(Layout::of::<[u32; 2]>().size(), Some(8));
+    /// assert_eq!(Layout::of_slice::<u32>().size(), None);
+    /// ```
+    pub const fn size(self) -> Option<u64> {
+        match self.size_info {
+            SizeInfo::Sized { size } => Some(size),
+            SizeInfo::SliceDst(_) => None,
+        }
+    }
+
+    /// The run of elements at the end, where there is one.
+    ///
+    /// ```
+    /// use lukaripe::Layout;
+    ///
+    /// let numbers = Layout::of_slice::<u32>().trailing().expect("a slice");
+    /// assert_eq!(numbers.size_for_elems(3)?, 12);
+    /// assert_eq!(Layout::of::<u32>().trailing(), None);
+    /// # Ok::<(), lukaripe::Refusal>(())
+    /// ```
+    pub const fn trailing(self) -> Option<Trailing> {
+        match self.size_info {
+            SizeInfo::Sized { .. } => None,
+            SizeInfo::SliceDst(trailing) => Some(trailing),
+        }
     }
 
     /// The empty layout, with size 0, the given alignment or 1, and the mark.
     ///
     /// ```
-    /// use lukaripe::{Layout, SizeInfo};
+    /// use lukaripe::Layout;
     /// use std::num::NonZeroU64;
     ///
     /// let empty = Layout::new_zst(NonZeroU64::new(4))?;
-    /// assert_eq!((empty.align, empty.size_info), (4, SizeInfo::Sized { size: 0 }));
+    /// assert_eq!(empty.align, 4);
+    /// assert_eq!(empty.size(), Some(0));
     /// assert_eq!(Layout::new_zst(None)?.align, 1);
     /// # Ok::<(), lukaripe::Refusal>(())
     /// ```
+    ///
+    /// # Errors
+    ///
+    /// [`Refusal::AlignNotPowerOfTwo`].
     pub fn new_zst(repr_align: Option<NonZeroU64>) -> Result<Layout> {
-        exports::lukaripe_new_zst(or_zero(repr_align)).answer().map(Layout::of)
+        exports::lukaripe_new_zst(or_zero(repr_align)).answer().map(Layout::from_words)
     }
 
-    /// A type of this size and alignment, without the mark.
+    /// A type of this size and alignment, without the mark: whether it has padding is not known.
     ///
     /// ```
     /// use lukaripe::{Layout, Refusal};
     ///
-    /// assert!(!Layout::for_type(16, 4)?.statically_shallow_unpadded);
+    /// let layout = Layout::for_type(16, 4)?;
+    /// assert_eq!(layout.size(), Some(16));
+    /// assert!(!layout.statically_shallow_unpadded);
     /// assert_eq!(Layout::for_type(6, 4), Err(Refusal::SizeNotMultipleOfAlign));
     /// # Ok::<(), Refusal>(())
     /// ```
+    ///
+    /// # Errors
+    ///
+    /// [`Refusal::AlignNotPowerOfTwo`], then [`Refusal::SizeNotMultipleOfAlign`].
     pub fn for_type(size: u64, align: u64) -> Result<Layout> {
-        exports::lukaripe_for_type(size, align).answer().map(Layout::of)
+        exports::lukaripe_for_type(size, align).answer().map(Layout::from_words)
     }
 
-    /// A type of this size and alignment, with the mark.
+    /// A type of this size and alignment that has no padding, with the mark.
     ///
     /// ```
-    /// assert!(lukaripe::Layout::for_unpadded_type(8, 4)?.statically_shallow_unpadded);
+    /// use lukaripe::Layout;
+    ///
+    /// assert!(Layout::for_unpadded_type(8, 4)?.statically_shallow_unpadded);
     /// # Ok::<(), lukaripe::Refusal>(())
     /// ```
+    ///
+    /// # Errors
+    ///
+    /// [`Refusal::AlignNotPowerOfTwo`], then [`Refusal::SizeNotMultipleOfAlign`].
     pub fn for_unpadded_type(size: u64, align: u64) -> Result<Layout> {
-        exports::lukaripe_for_unpadded_type(size, align).answer().map(Layout::of)
+        exports::lukaripe_for_unpadded_type(size, align).answer().map(Layout::from_words)
     }
 
-    /// A slice of elements of this size and alignment.
+    /// A slice of elements of this size and alignment, with the mark.
     ///
     /// ```
-    /// use lukaripe::{Layout, SizeInfo};
+    /// use lukaripe::Layout;
     ///
-    /// let SizeInfo::SliceDst(words) = Layout::for_slice(8, 8)?.size_info else { unreachable!() };
-    /// assert_eq!(words.size_for_elems(3), Ok(24));
+    /// let words = Layout::for_slice(8, 8)?.trailing().expect("a slice");
+    /// assert_eq!(words.size_for_elems(3)?, 24);
     /// # Ok::<(), lukaripe::Refusal>(())
     /// ```
+    ///
+    /// # Errors
+    ///
+    /// [`Refusal::AlignNotPowerOfTwo`], then [`Refusal::SizeNotMultipleOfAlign`].
     pub fn for_slice(size: u64, align: u64) -> Result<Layout> {
-        exports::lukaripe_for_slice(size, align).answer().map(Layout::of)
+        exports::lukaripe_for_slice(size, align).answer().map(Layout::from_words)
     }
 
-    /// The layout with one member more, whose alignment is at most the packing.
+    /// The layout with one member more, whose alignment is lowered to the packing where one is asked for.
     ///
     /// ```
     /// use lukaripe::{Layout, Refusal};
+    /// use std::num::NonZeroU64;
     ///
-    /// let byte = Layout::for_unpadded_type(1, 1)?;
-    /// let run = Layout::for_slice(1, 1)?;
-    /// assert!(byte.extend(run, None).is_ok());
+    /// let byte = Layout::of::<u8>();
+    /// assert_eq!(byte.extend(Layout::of::<u32>(), None)?.size(), Some(8));
+    /// assert_eq!(byte.extend(Layout::of::<u32>(), NonZeroU64::new(2))?.size(), Some(6));
+    ///
+    /// let run = Layout::of_slice::<u8>();
     /// assert_eq!(run.extend(byte, None), Err(Refusal::MemberAfterTrailing));
     /// # Ok::<(), Refusal>(())
     /// ```
+    ///
+    /// # Errors
+    ///
+    /// [`Refusal::AlignNotPowerOfTwo`] or [`Refusal::RoundingWordZero`] for this layout, then for the member; then
+    /// [`Refusal::PackingNotPowerOfTwo`], [`Refusal::AlignAboveMax`], [`Refusal::MemberAfterTrailing`],
+    /// [`Refusal::RoundingPassesMax`], [`Refusal::MemberPassesMax`].
     pub fn extend(self, field: Layout, repr_packed: Option<NonZeroU64>) -> Result<Layout> {
-        exports::lukaripe_extend(self.words(), field.words(), or_zero(repr_packed)).answer().map(Layout::of)
+        exports::lukaripe_extend(self.words(), field.words(), or_zero(repr_packed)).answer().map(Layout::from_words)
     }
 
     /// The layout with its final padding: each size is rounded up to the alignment.
     ///
     /// ```
-    /// use lukaripe::{Layout, SizeInfo};
+    /// use lukaripe::Layout;
     ///
-    /// let members = Layout::for_unpadded_type(4, 4)?.extend(Layout::for_unpadded_type(1, 1)?, None)?;
-    /// assert_eq!(members.size_info, SizeInfo::Sized { size: 5 });
-    /// assert_eq!(members.pad_to_align()?.size_info, SizeInfo::Sized { size: 8 });
+    /// let members = Layout::of::<u32>().extend(Layout::of::<u8>(), None)?;
+    /// assert_eq!(members.size(), Some(5));
+    /// assert_eq!(members.pad_to_align()?.size(), Some(8));
     /// # Ok::<(), lukaripe::Refusal>(())
     /// ```
+    ///
+    /// # Errors
+    ///
+    /// [`Refusal::AlignNotPowerOfTwo`], [`Refusal::RoundingWordZero`], [`Refusal::RoundingPassesMax`].
     pub fn pad_to_align(self) -> Result<Layout> {
-        exports::lukaripe_pad_to_align(self.words()).answer().map(Layout::of)
+        exports::lukaripe_pad_to_align(self.words()).answer().map(Layout::from_words)
     }
 
-    /// Whether the mark is unset.
+    /// Whether the mark is unset, so that there may be padding between the members.
     ///
     /// ```
-    /// assert_eq!(lukaripe::Layout::for_type(8, 4)?.requires_static_padding(), Ok(true));
+    /// use lukaripe::Layout;
+    ///
+    /// assert!(Layout::for_type(8, 4)?.requires_static_padding()?);
+    /// assert!(!Layout::for_unpadded_type(8, 4)?.requires_static_padding()?);
     /// # Ok::<(), lukaripe::Refusal>(())
     /// ```
+    ///
+    /// # Errors
+    ///
+    /// [`Refusal::AlignNotPowerOfTwo`], [`Refusal::RoundingWordZero`].
     pub fn requires_static_padding(self) -> Result<bool> {
         exports::lukaripe_requires_static_padding(self.words()).decision()
     }
@@ -138,12 +227,16 @@ impl Layout {
     /// ```
     /// use lukaripe::Layout;
     ///
-    /// let run = Layout::for_slice(1, 1)?;
-    /// assert_eq!(run.requires_dynamic_padding(), Ok(false));
-    /// let record = Layout::for_unpadded_type(4, 4)?.extend(run, None)?.pad_to_align()?;
-    /// assert_eq!(record.requires_dynamic_padding(), Ok(true));
+    /// let run = Layout::of_slice::<u8>();
+    /// assert!(!run.requires_dynamic_padding()?);
+    /// let record = Layout::of::<u32>().extend(run, None)?.pad_to_align()?;
+    /// assert!(record.requires_dynamic_padding()?);
     /// # Ok::<(), lukaripe::Refusal>(())
     /// ```
+    ///
+    /// # Errors
+    ///
+    /// [`Refusal::AlignNotPowerOfTwo`], [`Refusal::RoundingWordZero`].
     pub fn requires_dynamic_padding(self) -> Result<bool> {
         exports::lukaripe_requires_dynamic_padding(self.words()).decision()
     }

@@ -1,41 +1,69 @@
 //! Layout arithmetic: sizes, padding, casts and conversions of records that end in a run of elements.
 //!
-//! Each function here calls the proved function of the same name, and refuses what it refuses. All numbers are unsigned
-//! and 64 bits wide.
+//! The work is done by proved functions, which have the same names in C. They take any numbers and any bytes, and
+//! refuse what they cannot use: an error is a [`Refusal`], and of a list of members a [`Refused`], which also says
+//! where. All numbers are unsigned and 64 bits wide.
 //!
 //! ```
-//! use lukaripe::{Refusal, RoundingAlignAndPhase, Trailing};
+//! use lukaripe::{for_repr_c_struct, Cast, CastType, Layout, Refusal};
 //!
-//! // 8 bytes aligned to 4, a u8, and a run of u8.
-//! let record = Trailing {
-//!     offset: 9,
-//!     elem_size: 1,
-//!     size_base: 8,
-//!     size_rounding_align_and_phase: RoundingAlignAndPhase::new(4, 1)?,
-//! };
-//! assert_eq!(record.size_for_elems(3), Ok(12));
-//! assert_eq!(record.size_for_elems(4), Ok(16));
-//! assert_eq!(record.size_for_elems(u64::MAX), Err(Refusal::NoSize));
-//! # Ok::<(), Refusal>(())
+//! // #[repr(C)]
+//! // struct Message { id: [u32; 2], kind: u8, text: [u8] }
+//! let members = [Layout::of::<[u32; 2]>(), Layout::of::<u8>(), Layout::of_slice::<u8>()];
+//! let message = for_repr_c_struct(None, None, &members)?;
+//! assert_eq!(message.align, 4);
+//!
+//! // How large a message is, and how much of it is padding.
+//! let text = message.trailing().expect("the last member is a slice");
+//! assert_eq!(text.offset, 9);
+//! assert_eq!(text.size_for_elems(4)?, 16);
+//! assert_eq!(text.padding_for_elems(4)?, 3);
+//! assert_eq!(text.size_for_elems(u64::MAX), Err(Refusal::NoSize));
+//!
+//! // How many bytes of text a buffer of 30 bytes has room for, and where the message ends.
+//! let cast = message.validate_cast_and_convert_metadata(0x1000, 30, CastType::Prefix)?;
+//! assert_eq!(cast, Cast { count: 19, split: 28 });
+//! # Ok::<(), lukaripe::Refused>(())
 //! ```
+//!
+//! - [`Layout`]: the layout of a type, made of numbers, of a Rust type or of members ([`for_repr_c_struct`]).
+//! - [`Trailing`]: the run of elements at the end of a layout, its sizes and its padding.
+//! - [`Layout::validate_cast_and_convert_metadata`]: whether bytes hold such a record, and with how many elements.
+//! - [`CastParams`]: whether one record may be read as another, and with how many elements; [`convert_and_cast`].
+//! - [`Layout::to_bytes`] and [`Layout::from_bytes`]: layouts as records of 48 bytes.
 
-#[path = "../../exports.rs"]
+#![no_std]
+#![deny(missing_docs)]
+
+extern crate alloc;
+
 mod exports;
 
 mod cast;
+mod compose;
 mod convert;
 mod helpers;
 mod layout;
 mod record;
 mod refusal;
 mod rounding;
+mod scalar;
 mod trailing;
+mod types;
 
 pub use cast::{Cast, CastType};
-pub use convert::{size_sequences_match, CastParams};
+pub use compose::{compose, compose_records, for_repr_c_struct, for_repr_c_struct_records};
+pub use convert::{convert_and_cast, size_sequences_match, Carried, CastParams};
 pub use helpers::{is_power_of_two, max, min, padding_needed_for, round_down_to_next_multiple_of_alignment};
 pub use layout::{Layout, SizeInfo};
-pub use record::{compose, for_repr_c_struct, Refused, RECORD_LENGTH};
-pub use refusal::{Refusal, Result};
+pub use record::RECORD_LENGTH;
+pub use refusal::{Refusal, Refused, Result, UnknownRefusal};
 pub use rounding::RoundingAlignAndPhase;
+pub use scalar::Scalar;
 pub use trailing::Trailing;
+pub use types::NoAllocLayout;
+
+/// The examples of README.md are tested too.
+#[cfg(doctest)]
+#[doc = include_str!("../README.md")]
+struct Readme;

@@ -1,124 +1,188 @@
+//! Why a call is refused.
+
 use crate::exports::Told;
-use std::error::Error;
-use std::fmt;
-use Refusal::*;
+use core::error::Error;
+use core::fmt;
 
-pub type Result<T> = std::result::Result<T, Refusal>;
+/// What a call gives: its answer, or why it is refused.
+pub type Result<T, E = Refusal> = core::result::Result<T, E>;
 
-/// Why a call is refused.
-///
-/// ```
-/// use lukaripe::{padding_needed_for, Refusal};
-///
-/// let refusal = padding_needed_for(1, 3).unwrap_err();
-/// assert_eq!(refusal, Refusal::AlignNotPowerOfTwo);
-/// assert_eq!(refusal.number(), 1);
-/// assert_eq!(refusal.to_string(), "an alignment is 0 or no power of two");
-/// ```
-#[derive(Clone, Copy, Debug, PartialEq, Eq, Hash)]
-#[non_exhaustive]
-pub enum Refusal {
-    AlignNotPowerOfTwo = 1,
-    RoundingWordZero,
-    PhaseNotBelowAlign,
-    SizeNotMultipleOfAlign,
-    PackingNotPowerOfTwo,
-    AlignAboveMax,
-    MemberAfterTrailing,
-    RoundingPassesMax,
-    MemberPassesMax,
-    CastElemSizeZero,
-    AddressPassesMax,
-    CastNotAligned,
-    CastTooSmall,
-    NoExactCount,
-    NoSize,
-    NoRoom,
-    AdvancePassesMax,
-    NoConversion,
-    ConvertedCountPassesMax,
-    RecordLength,
-    Kind,
-    FixedRecord,
-    ScalarCode,
+/// The causes, each with its number and its words.
+macro_rules! refusals {
+    ($($name:ident = $number:literal, $words:literal;)*) => {
+        /// Why a call is refused.
+        ///
+        /// Each cause has a number, the same in C and in the listing program. More causes may come; a number keeps its
+        /// cause.
+        ///
+        /// ```
+        /// use lukaripe::{padding_needed_for, Refusal};
+        ///
+        /// let refusal = padding_needed_for(1, 3).unwrap_err();
+        /// assert_eq!(refusal, Refusal::AlignNotPowerOfTwo);
+        /// assert_eq!(refusal.number(), 1);
+        /// assert_eq!(refusal.to_string(), "an alignment is 0 or no power of two");
+        /// ```
+        #[derive(Clone, Copy, Debug, PartialEq, Eq, Hash)]
+        #[non_exhaustive]
+        pub enum Refusal {
+            $(
+                #[doc = concat!($number, ": ", $words, ".")]
+                $name = $number,
+            )*
+        }
+
+        const ALL: &[Refusal] = &[$(Refusal::$name),*];
+
+        impl fmt::Display for Refusal {
+            fn fmt(&self, out: &mut fmt::Formatter) -> fmt::Result {
+                out.pad(match self {
+                    $(Refusal::$name => $words,)*
+                })
+            }
+        }
+    };
+}
+
+refusals! {
+    AlignNotPowerOfTwo = 1, "an alignment is 0 or no power of two";
+    RoundingWordZero = 2, "the rounding word is 0";
+    PhaseNotBelowAlign = 3, "the phase is not below its alignment";
+    SizeNotMultipleOfAlign = 4, "the size of a type is not a multiple of its alignment";
+    PackingNotPowerOfTwo = 5, "the packing is no power of two";
+    AlignAboveMax = 6, "an alignment or the packing is above 2^29 while a member is added";
+    MemberAfterTrailing = 7, "a member comes after a run of elements";
+    RoundingPassesMax = 8, "rounding up overflows";
+    MemberPassesMax = 9, "the size, offset or base of a member overflows";
+    CastElemSizeZero = 10, "the elements of a cast have size 0";
+    AddressPassesMax = 11, "the sum of address and length overflows";
+    CastNotAligned = 12, "the bytes of a cast are not aligned";
+    CastTooSmall = 13, "the bytes of a cast are too few";
+    NoExactCount = 14, "no count of elements has exactly this size";
+    NoSize = 15, "the size at this count of elements overflows";
+    NoRoom = 16, "there is less room than the size without elements";
+    AdvancePassesMax = 17, "the advance overflows";
+    NoConversion = 18, "the one layout does not convert to the other";
+    ConvertedCountPassesMax = 19, "the converted count overflows";
+    RecordLength = 20, "a record is not 48 bytes long, or a list no multiple of that";
+    Kind = 21, "the kind of a record is above 3";
+    FixedRecord = 22, "a record of a fixed size has a later word that is not 0";
+    ScalarCode = 23, "the code of a scalar is above 8";
 }
 
 impl Refusal {
-    /// Every cause, in the order of the numbers, which start at 1.
-    pub const ALL: [Refusal; 23] = [
-        AlignNotPowerOfTwo,
-        RoundingWordZero,
-        PhaseNotBelowAlign,
-        SizeNotMultipleOfAlign,
-        PackingNotPowerOfTwo,
-        AlignAboveMax,
-        MemberAfterTrailing,
-        RoundingPassesMax,
-        MemberPassesMax,
-        CastElemSizeZero,
-        AddressPassesMax,
-        CastNotAligned,
-        CastTooSmall,
-        NoExactCount,
-        NoSize,
-        NoRoom,
-        AdvancePassesMax,
-        NoConversion,
-        ConvertedCountPassesMax,
-        RecordLength,
-        Kind,
-        FixedRecord,
-        ScalarCode,
-    ];
+    /// Every cause, in the order of the numbers.
+    ///
+    /// ```
+    /// use lukaripe::Refusal;
+    ///
+    /// for refusal in Refusal::all() {
+    ///     println!("{:2} {refusal}", refusal.number());
+    /// }
+    /// assert_eq!(Refusal::all().next(), Some(Refusal::AlignNotPowerOfTwo));
+    /// ```
+    pub fn all() -> impl Iterator<Item = Refusal> {
+        ALL.iter().copied()
+    }
 
-    /// The number of the cause, as the C interface and the listing program have it.
-    pub fn number(self) -> u64 {
+    /// The number of the cause, the same in C and in the listing program. It is never 0.
+    ///
+    /// ```
+    /// use lukaripe::Refusal;
+    ///
+    /// assert_eq!(Refusal::MemberAfterTrailing.number(), 7);
+    /// ```
+    pub const fn number(self) -> u64 {
         self as u64
     }
 
-    pub(crate) fn of(number: u64) -> Refusal {
-        let known = Refusal::ALL.into_iter().find(|cause| cause.number() == number);
-        known.unwrap_or_else(|| panic!("the library refuses by {number}, which this crate does not know"))
-    }
-}
-
-impl fmt::Display for Refusal {
-    fn fmt(&self, out: &mut fmt::Formatter) -> fmt::Result {
-        out.write_str(match self {
-            AlignNotPowerOfTwo => "an alignment is 0 or no power of two",
-            RoundingWordZero => "the rounding word is 0",
-            PhaseNotBelowAlign => "the phase is not below its alignment",
-            SizeNotMultipleOfAlign => "the size of a type is not a multiple of its alignment",
-            PackingNotPowerOfTwo => "the packing is no power of two",
-            AlignAboveMax => "an alignment or the packing is above 2^29 while a member is added",
-            MemberAfterTrailing => "a member comes after a trailing part",
-            RoundingPassesMax => "rounding up passes the greatest number",
-            MemberPassesMax => "the size, offset or base of a member passes the greatest number",
-            CastElemSizeZero => "a cast with element size 0",
-            AddressPassesMax => "address and length pass the greatest number",
-            CastNotAligned => "the cast is not aligned",
-            CastTooSmall => "the cast has too few bytes",
-            NoExactCount => "no count has exactly this size",
-            NoSize => "there is no size at this count",
-            NoRoom => "the room is below the size at count 0",
-            AdvancePassesMax => "the advance passes the greatest number",
-            NoConversion => "there is no conversion",
-            ConvertedCountPassesMax => "the converted count passes the greatest number",
-            RecordLength => "a record is not 48 bytes long, or a list no multiple of them",
-            Kind => "the kind of a record is above 3",
-            FixedRecord => "a fixed record has a later word that is not 0",
-            ScalarCode => "the scalar code is above 8",
-        })
+    /// What the library told, whose numbers are all known here where both are of one version.
+    pub(crate) fn told(number: u64) -> Refusal {
+        Refusal::try_from(number).unwrap_or_else(|unknown| panic!("liblukaripe.a is of another version: {unknown}"))
     }
 }
 
 impl Error for Refusal {}
 
+/// The cause with this number, for numbers that come from data or from C.
+///
+/// ```
+/// use lukaripe::Refusal;
+///
+/// assert_eq!(Refusal::try_from(7)?, Refusal::MemberAfterTrailing);
+/// assert_eq!(Refusal::try_from(0).unwrap_err().to_string(), "no refusal has the number 0");
+/// # Ok::<(), lukaripe::UnknownRefusal>(())
+/// ```
+impl TryFrom<u64> for Refusal {
+    type Error = UnknownRefusal;
+
+    fn try_from(number: u64) -> Result<Refusal, UnknownRefusal> {
+        Refusal::all().find(|cause| cause.number() == number).ok_or(UnknownRefusal { number })
+    }
+}
+
+/// A number that is no refusal's.
+#[derive(Clone, Copy, Debug, PartialEq, Eq, Hash)]
+pub struct UnknownRefusal {
+    /// The number.
+    pub number: u64,
+}
+
+impl fmt::Display for UnknownRefusal {
+    fn fmt(&self, out: &mut fmt::Formatter) -> fmt::Result {
+        write!(out, "no refusal has the number {}", self.number)
+    }
+}
+
+impl Error for UnknownRefusal {}
+
+/// Why a list of members is refused, and where.
+///
+/// A [`Refusal`] becomes one at place 0, so that `?` takes both in a function that composes.
+///
+/// ```
+/// use lukaripe::{for_repr_c_struct, Layout, Refusal, Refused};
+///
+/// fn pair(size: u64, align: u64) -> Result<Layout, Refused> {
+///     let member = Layout::for_type(size, align)?;
+///     for_repr_c_struct(None, None, &[member, member])
+/// }
+///
+/// assert_eq!(pair(8, 4)?.size(), Some(16));
+/// assert_eq!(pair(6, 4), Err(Refused { refusal: Refusal::SizeNotMultipleOfAlign, place: 0 }));
+///
+/// let refused = pair(1 << 63, 1).unwrap_err();
+/// assert_eq!(refused, Refused { refusal: Refusal::MemberPassesMax, place: 1 });
+/// assert_eq!(refused.to_string(), "the size, offset or base of a member overflows (at 1)");
+/// # Ok::<(), Refused>(())
+/// ```
+#[derive(Clone, Copy, Debug, PartialEq, Eq, Hash)]
+pub struct Refused {
+    /// Why.
+    pub refusal: Refusal,
+    /// The index of the member at fault; for the final padding the number of the members; else 0.
+    pub place: u64,
+}
+
+impl fmt::Display for Refused {
+    fn fmt(&self, out: &mut fmt::Formatter) -> fmt::Result {
+        write!(out, "{} (at {})", self.refusal, self.place)
+    }
+}
+
+impl Error for Refused {}
+
+impl From<Refusal> for Refused {
+    fn from(refusal: Refusal) -> Refused {
+        Refused { refusal, place: 0 }
+    }
+}
+
 impl<const N: usize> Told<N> {
     pub(crate) fn answer(self) -> Result<[u64; N]> {
         match self.refusal {
             0 => Ok(self.values),
-            number => Err(Refusal::of(number)),
+            number => Err(Refusal::told(number)),
         }
     }
 }

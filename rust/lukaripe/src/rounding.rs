@@ -1,17 +1,33 @@
+//! The rounding word.
+
 use crate::exports;
+#[cfg(doc)]
+use crate::Refusal;
 use crate::Result;
 
 /// The rounding word: an alignment, a power of two, plus a phase below it. Each word but 0 is exactly one such pair.
+///
+/// Any word may be handed over; 0 is refused where it is used.
 #[derive(Clone, Copy, Debug, PartialEq, Eq, Hash)]
-pub struct RoundingAlignAndPhase(pub u64);
+pub struct RoundingAlignAndPhase(
+    /// The sum of the two.
+    pub u64,
+);
 
 impl RoundingAlignAndPhase {
+    /// The word of an alignment and a phase.
+    ///
     /// ```
     /// use lukaripe::{Refusal, RoundingAlignAndPhase};
     ///
-    /// assert_eq!(RoundingAlignAndPhase::new(8, 4), Ok(RoundingAlignAndPhase(12)));
+    /// assert_eq!(RoundingAlignAndPhase::new(8, 4)?, RoundingAlignAndPhase(12));
     /// assert_eq!(RoundingAlignAndPhase::new(8, 8), Err(Refusal::PhaseNotBelowAlign));
+    /// # Ok::<(), Refusal>(())
     /// ```
+    ///
+    /// # Errors
+    ///
+    /// [`Refusal::AlignNotPowerOfTwo`], then [`Refusal::PhaseNotBelowAlign`].
     pub fn new(align: u64, phase: u64) -> Result<RoundingAlignAndPhase> {
         exports::lukaripe_rounding_new(align, phase).number().map(RoundingAlignAndPhase)
     }
@@ -21,11 +37,19 @@ impl RoundingAlignAndPhase {
     /// ```
     /// use lukaripe::{Refusal, RoundingAlignAndPhase};
     ///
-    /// assert_eq!(RoundingAlignAndPhase(1).components(), Ok((1, 0)));
-    /// assert_eq!(RoundingAlignAndPhase(12).components(), Ok((8, 4)));
-    /// assert_eq!(RoundingAlignAndPhase(u64::MAX).components(), Ok((1 << 63, (1 << 63) - 1)));
+    /// let (align, phase) = RoundingAlignAndPhase(12).components()?;
+    /// assert_eq!(align, 8);
+    /// assert_eq!(phase, 4);
+    ///
+    /// let highest = 1 << 63;
+    /// assert_eq!(RoundingAlignAndPhase(u64::MAX).components()?, (highest, highest - 1));
     /// assert_eq!(RoundingAlignAndPhase(0).components(), Err(Refusal::RoundingWordZero));
+    /// # Ok::<(), Refusal>(())
     /// ```
+    ///
+    /// # Errors
+    ///
+    /// [`Refusal::RoundingWordZero`].
     pub fn components(self) -> Result<(u64, u64)> {
         exports::lukaripe_rounding_components(self.0).answer().map(|[align, phase]| (align, phase))
     }
@@ -33,8 +57,15 @@ impl RoundingAlignAndPhase {
     /// The alignment alone.
     ///
     /// ```
-    /// assert_eq!(lukaripe::RoundingAlignAndPhase(12).align(), Ok(8));
+    /// use lukaripe::RoundingAlignAndPhase;
+    ///
+    /// assert_eq!(RoundingAlignAndPhase::new(8, 4)?.align()?, 8);
+    /// # Ok::<(), lukaripe::Refusal>(())
     /// ```
+    ///
+    /// # Errors
+    ///
+    /// [`Refusal::RoundingWordZero`].
     pub fn align(self) -> Result<u64> {
         exports::lukaripe_rounding_align(self.0).number()
     }

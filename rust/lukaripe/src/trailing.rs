@@ -1,33 +1,65 @@
+//! Layouts that end in a run of elements.
+
 use crate::exports::{self, Words};
+#[cfg(doc)]
+use crate::Refusal;
 use crate::{Result, RoundingAlignAndPhase};
 
-/// A layout that ends in a run of elements. Its size at a count is `size_base` plus the phase and the elements' bytes
-/// rounded up to the alignment of the word. The offset does not enter it.
+/// The run of elements at the end of a layout.
+///
+/// The size at a count is `size_base` plus what is rounded up to the alignment of the rounding word: its phase and the
+/// bytes of the elements. The offset does not enter it.
+///
+/// ```
+/// use lukaripe::{for_repr_c_struct, Layout, RoundingAlignAndPhase, Trailing};
+///
+/// // #[repr(C)]
+/// // struct Message { id: [u32; 2], kind: u8, text: [u8] }
+/// let members = [Layout::of::<[u32; 2]>(), Layout::of::<u8>(), Layout::of_slice::<u8>()];
+/// let text = Trailing {
+///     size_base: 8,
+///     offset: 9,
+///     elem_size: 1,
+///     size_rounding_align_and_phase: RoundingAlignAndPhase::new(4, 1)?,
+/// };
+/// assert_eq!(for_repr_c_struct(None, None, &members)?.trailing(), Some(text));
+/// # Ok::<(), lukaripe::Refused>(())
+/// ```
 #[derive(Clone, Copy, Debug, PartialEq, Eq, Hash)]
 pub struct Trailing {
-    pub offset: u64,
-    pub elem_size: u64,
+    /// What comes before the part that is rounded.
     pub size_base: u64,
+    /// Where the elements start.
+    pub offset: u64,
+    /// The size of one element.
+    pub elem_size: u64,
+    /// How the rest of the size is rounded.
     pub size_rounding_align_and_phase: RoundingAlignAndPhase,
 }
 
 impl Trailing {
     pub(crate) fn words(self) -> Words<4> {
-        Words([self.offset, self.elem_size, self.size_base, self.size_rounding_align_and_phase.0])
+        Words([self.size_base, self.offset, self.elem_size, self.size_rounding_align_and_phase.0])
     }
 
-    pub(crate) fn of([offset, elem_size, size_base, word]: [u64; 4]) -> Trailing {
-        Trailing { offset, elem_size, size_base, size_rounding_align_and_phase: RoundingAlignAndPhase(word) }
+    pub(crate) fn from_words([size_base, offset, elem_size, word]: [u64; 4]) -> Trailing {
+        Trailing { size_base, offset, elem_size, size_rounding_align_and_phase: RoundingAlignAndPhase(word) }
     }
 
     /// The base rounded down to the alignment of the word, plus the phase.
     ///
     /// ```
-    /// # use lukaripe::{RoundingAlignAndPhase, Trailing};
-    /// # let word = RoundingAlignAndPhase(5);
-    /// let record = Trailing { offset: 9, elem_size: 1, size_base: 8, size_rounding_align_and_phase: word };
-    /// assert_eq!(record.size_offset(), Ok(9));
+    /// use lukaripe::{RoundingAlignAndPhase, Trailing};
+    ///
+    /// let word = RoundingAlignAndPhase::new(4, 1)?;
+    /// let text = Trailing { size_base: 8, offset: 9, elem_size: 1, size_rounding_align_and_phase: word };
+    /// assert_eq!(text.size_offset()?, 9);
+    /// # Ok::<(), lukaripe::Refusal>(())
     /// ```
+    ///
+    /// # Errors
+    ///
+    /// [`Refusal::RoundingWordZero`].
     pub fn size_offset(self) -> Result<u64> {
         exports::lukaripe_size_offset(self.words()).number()
     }
@@ -35,40 +67,58 @@ impl Trailing {
     /// The greatest number of trailing bytes whose size is at most `available_bytes`.
     ///
     /// ```
-    /// # use lukaripe::{Refusal, RoundingAlignAndPhase, Trailing};
-    /// # let word = RoundingAlignAndPhase(5);
-    /// let record = Trailing { offset: 9, elem_size: 1, size_base: 8, size_rounding_align_and_phase: word };
-    /// assert_eq!(record.max_trailing_bytes(15), Ok(3));
-    /// assert_eq!(record.max_trailing_bytes(11), Err(Refusal::NoRoom));
+    /// use lukaripe::{Refusal, RoundingAlignAndPhase, Trailing};
+    ///
+    /// let word = RoundingAlignAndPhase::new(4, 1)?;
+    /// let text = Trailing { size_base: 8, offset: 9, elem_size: 1, size_rounding_align_and_phase: word };
+    /// assert_eq!(text.max_trailing_bytes(15)?, 3);
+    /// assert_eq!(text.max_trailing_bytes(11), Err(Refusal::NoRoom));
+    /// # Ok::<(), Refusal>(())
     /// ```
+    ///
+    /// # Errors
+    ///
+    /// [`Refusal::RoundingWordZero`], then [`Refusal::NoRoom`].
     pub fn max_trailing_bytes(self, available_bytes: u64) -> Result<u64> {
         exports::lukaripe_max_trailing_bytes(self.words(), available_bytes).number()
     }
 
-    /// The size at `elems` less the end of the elements, modulo 2^64.
+    /// The padding after `elems` elements: the size less the end of the elements, modulo 2^64.
     ///
     /// ```
-    /// # use lukaripe::{RoundingAlignAndPhase, Trailing};
-    /// # let word = RoundingAlignAndPhase(5);
-    /// let record = Trailing { offset: 9, elem_size: 1, size_base: 8, size_rounding_align_and_phase: word };
-    /// assert_eq!(record.padding_for_elems(0), Ok(3));
-    /// assert_eq!(record.padding_for_elems(3), Ok(0));
-    /// assert_eq!(record.padding_for_elems(4), Ok(3));
+    /// use lukaripe::{RoundingAlignAndPhase, Trailing};
+    ///
+    /// let word = RoundingAlignAndPhase::new(4, 1)?;
+    /// let text = Trailing { size_base: 8, offset: 9, elem_size: 1, size_rounding_align_and_phase: word };
+    /// assert_eq!(text.padding_for_elems(0)?, 3);
+    /// assert_eq!(text.padding_for_elems(3)?, 0);
+    /// assert_eq!(text.padding_for_elems(4)?, 3);
+    /// # Ok::<(), lukaripe::Refusal>(())
     /// ```
+    ///
+    /// # Errors
+    ///
+    /// [`Refusal::RoundingWordZero`].
     pub fn padding_for_elems(self, elems: u64) -> Result<u64> {
         exports::lukaripe_padding_for_elems(self.words(), elems).number()
     }
 
-    /// The size at `elems`.
+    /// The size at `elems` elements.
     ///
     /// ```
-    /// # use lukaripe::{Refusal, RoundingAlignAndPhase, Trailing};
-    /// # let word = RoundingAlignAndPhase(8);
-    /// let base = u64::MAX - 7;
-    /// let last = Trailing { offset: 0, elem_size: 1, size_base: base, size_rounding_align_and_phase: word };
-    /// assert_eq!(last.size_for_elems(0), Ok(base));
-    /// assert_eq!(last.size_for_elems(1), Err(Refusal::NoSize));
+    /// use lukaripe::{Refusal, RoundingAlignAndPhase, Trailing};
+    ///
+    /// let word = RoundingAlignAndPhase::new(4, 1)?;
+    /// let text = Trailing { size_base: 8, offset: 9, elem_size: 1, size_rounding_align_and_phase: word };
+    /// assert_eq!(text.size_for_elems(3)?, 12);
+    /// assert_eq!(text.size_for_elems(4)?, 16);
+    /// assert_eq!(text.size_for_elems(u64::MAX), Err(Refusal::NoSize));
+    /// # Ok::<(), Refusal>(())
     /// ```
+    ///
+    /// # Errors
+    ///
+    /// [`Refusal::RoundingWordZero`], then [`Refusal::NoSize`].
     pub fn size_for_elems(self, elems: u64) -> Result<u64> {
         exports::lukaripe_size_for_elems(self.words(), elems).number()
     }
@@ -76,29 +126,42 @@ impl Trailing {
     /// The layout whose sizes are these with `bytes` more before the rounding, and with another element size.
     ///
     /// ```
-    /// # use lukaripe::{RoundingAlignAndPhase, Trailing};
-    /// # let word = RoundingAlignAndPhase(5);
-    /// let record = Trailing { offset: 9, elem_size: 1, size_base: 8, size_rounding_align_and_phase: word };
-    /// let advanced = record.advance(5, 2)?;
-    /// assert_eq!((advanced.size_base, advanced.elem_size), (12, 2));
-    /// assert_eq!(advanced.size_rounding_align_and_phase.components(), Ok((4, 2)));
+    /// use lukaripe::{RoundingAlignAndPhase, Trailing};
+    ///
+    /// let word = RoundingAlignAndPhase::new(4, 1)?;
+    /// let text = Trailing { size_base: 8, offset: 9, elem_size: 1, size_rounding_align_and_phase: word };
+    /// let advanced = text.advance(5, 2)?;
+    /// assert_eq!(advanced.size_base, 12);
+    /// assert_eq!(advanced.elem_size, 2);
+    /// assert_eq!(advanced.size_rounding_align_and_phase, RoundingAlignAndPhase::new(4, 2)?);
     /// # Ok::<(), lukaripe::Refusal>(())
     /// ```
+    ///
+    /// # Errors
+    ///
+    /// [`Refusal::RoundingWordZero`], then [`Refusal::AdvancePassesMax`].
     pub fn advance(self, bytes: u64, elem_size: u64) -> Result<Trailing> {
-        exports::lukaripe_advance(self.words(), bytes, elem_size).answer().map(Trailing::of)
+        exports::lukaripe_advance(self.words(), bytes, elem_size).answer().map(Trailing::from_words)
     }
 
     /// Whether the two are found to have the same size at every count. A no does not mean that they have not.
     ///
     /// ```
-    /// # use lukaripe::{RoundingAlignAndPhase, Trailing};
-    /// # let layout = |word| Trailing {
-    /// #     offset: 0, elem_size: 4, size_base: 0, size_rounding_align_and_phase: RoundingAlignAndPhase(word)
-    /// # };
-    /// assert_eq!(layout(9).has_same_size_sequence(layout(9)), Ok(true));
-    /// // Phases 1 and 2 at alignment 8, with elements of 4 bytes: equal sizes at every count all the same.
-    /// assert_eq!(layout(9).has_same_size_sequence(layout(10)), Ok(false));
+    /// use lukaripe::{Refusal, RoundingAlignAndPhase, Trailing};
+    ///
+    /// let with_phase = |phase| {
+    ///     let word = RoundingAlignAndPhase::new(8, phase)?;
+    ///     Ok::<_, Refusal>(Trailing { size_base: 0, offset: 0, elem_size: 4, size_rounding_align_and_phase: word })
+    /// };
+    /// assert!(with_phase(1)?.has_same_size_sequence(with_phase(1)?)?);
+    /// // The sizes are equal at every count here too, which is not found.
+    /// assert!(!with_phase(1)?.has_same_size_sequence(with_phase(2)?)?);
+    /// # Ok::<(), Refusal>(())
     /// ```
+    ///
+    /// # Errors
+    ///
+    /// [`Refusal::RoundingWordZero`] for either.
     pub fn has_same_size_sequence(self, other: Trailing) -> Result<bool> {
         exports::lukaripe_has_same_size_sequence(self.words(), other.words()).decision()
     }

@@ -1,36 +1,222 @@
 #!/usr/bin/env python3
-"""Makes a C program of a header: it calls each function on recorded answers and compares, and says what the structs are.
+"""Compares the C header with the crates that it declares, and makes a C program of it.
 
-    header.py HEADER ROWS... >PROGRAM.c
-    PROGRAM says                 a line for each struct, with its size and alignment, and for each refusal, with its number
-    PROGRAM replay <ANSWERS      calls every function; how a line reads is written in rust/differential/recorded.rs
+    header.py functions HEADER        prints the functions that it declares
+    header.py names HEADER REFUSALS EXPORTS...
+                                      structs, functions and refusals must be those of these sources of the crates: the
+                                      same names in the same order, and the same types
+    header.py program HEADER ROWS...  prints a C program that calls each function; ROWS are the files of
+                                      rust/differential/rows, which give each function its number
 
-ROWS are the files of rust/differential/rows, which give each function its number in recorded answers.
+    PROGRAM says                      prints each struct with its size and alignment, each constant, the words of the
+                                      refusals, and the version
+    PROGRAM replay <ANSWERS           every line must be what the function of its number says
+    PROGRAM wrong <LINES              no line may be; how a line reads is written in rust/differential/recorded.rs
 """
 import re
+import subprocess
 import sys
 
+# The structs of the crates, by their names in C.
+STRUCTS = {
+    "Number": "lukaripe_number",
+    "Components": "lukaripe_components",
+    "Trailing": "lukaripe_trailing",
+    "TrailingAnswer": "lukaripe_trailing_answer",
+    "Layout": "lukaripe_layout",
+    "LayoutOut": "lukaripe_layout_answer",
+    "ComposedOut": "lukaripe_composed",
+    "CastOut": "lukaripe_cast",
+    "CastParams": "lukaripe_cast_params",
+    "CastParamsOut": "lukaripe_cast_params_answer",
+    "CarriedOut": "lukaripe_carried",
+}
+TYPES = {"u64": "uint64_t", "bool": "bool"} | STRUCTS
+
+
+def fail(message):
+    sys.exit(f"header.py: {message}")
+
+
+class Declared:
+    """Fields by struct, result and parameters by function, and numbers by constant. A field is a type and a name, and
+    so is a parameter."""
+
+    def __init__(self):
+        self.structs, self.functions, self.constants = {}, {}, {}
+
+    def refusals(self):
+        return {name: number for name, number in self.constants.items() if name.startswith("LUKARIPE_REFUSED_")}
+
+
+# ---- the header ----
+
+
+def preprocessed(header):
+    """The header's own text as the compiler sees it: no comments, no macros, and nothing of what it includes. Strings
+    and attributes are left out too."""
+    text = subprocess.run(["gcc", "-E", "-std=c11", header], check=True, stdout=subprocess.PIPE, text=True).stdout
+    own, lines = False, []
+    for line in text.splitlines():
+        marker = re.match(r'# \d+ "(.*?)"', line)
+        if marker:
+            own = marker[1] == header
+        elif own:
+            lines.append(line)
+    text = re.sub(r'"(\\.|[^"\\])*"', '""', "\n".join(lines))
+    return re.sub(r"__attribute__\s*\(\(.*?\)\)", "", text).replace("_Bool", "bool")
+
+
+def items(text):
+    """The declarations and definitions at the top, each a head and what its braces hold."""
+    head, body, depth = "", "", 0
+    for char in text:
+        depth -= char == "}"
+        if depth > 0:
+            body += char
+        elif char not in "{};":
+            head += char
+        depth += char == "{"
+        # A function's body ends it; of the others, a semicolon.
+        if depth == 0 and (char == ";" or char == "}" and "(" in head):
+            yield " ".join(head.split()), body
+            head, body = "", ""
+
+
+def typed(text):
+    """The type and the name of a field or parameter."""
+    parts = re.fullmatch(r"\s*((?:\w+\s+)*?\w+)\s*(\*?)\s*(\w+)\s*", text)
+    if not parts:
+        fail(f"no type and name: {text}")
+    kind, star, name = parts.groups()
+    return re.sub(r"\bstruct ", "", " ".join(kind.split())) + (" *" if star else ""), name
+
+
+def c_fields(body):
+    fields = []
+    for field in filter(str.strip, body.split(";")):
+        first, *more = field.split(",")
+        kind, name = typed(first)
+        fields += [(kind, name)] + [(kind, other.strip()) for other in more]
+    return fields
+
+
+def declared_in_c(header):
+    declared = Declared()
+    for head, body in items(preprocessed(header)):
+        function = re.fullmatch(r"(.*?)(lukaripe_\w+) ?\((.*)\)", head)
+        if function and "static" not in head.split():
+            result, name, parameters = function.groups()
+            declared.functions[name] = typed(result + "result")[0], [typed(p) for p in parameters.split(",")]
+        elif re.match(r"(typedef )?struct\b", head) and body:
+            declared.structs[head.split()[-1]] = c_fields(body)
+        elif re.match(r"(typedef )?enum\b", head):
+            declared.constants |= re.findall(r"(\w+)\s*=\s*(\d+)", body)
+    return declared
+
+
+# ---- the crates ----
+
+
+def in_c(kind):
+    if kind not in TYPES:
+        fail(f"no C name is known of {kind}")
+    return TYPES[kind]
+
+
+def crate_fields(body):
+    return [(in_c(kind), name) for name, kind in re.findall(r"pub (\w+): (\w+)", body)]
+
+
+def crate_parameters(text):
+    """The C parameters of those of a function: a slice is a pointer and a length."""
+    for name, kind in re.findall(r"(\w+): ([^,]+)", text):
+        if kind.strip().endswith("[u8]"):
+            yield "uint8_t *" if "mut" in kind else "const uint8_t *", name
+            yield "size_t", "len"
+        else:
+            yield in_c(kind.strip()), name
+
+
+def declared_in_crates(sources, refusals):
+    declared = Declared()
+    for source in sources:
+        text = re.sub(r"//.*", "", open(source).read())
+        for name, body in re.findall(r"#\[repr\(C\)\]\s*pub struct (\w+) \{(.*?)\}", text, re.S):
+            declared.structs[in_c(name)] = crate_fields(body)
+        for name, parameters, result in re.findall(r'pub extern "C" fn (\w+)\((.*?)\) -> (\w+)', text, re.S):
+            declared.functions[name] = in_c(result), list(crate_parameters(parameters))
+    for name, number in re.findall(r"pub const (\w+): u64 = (\d+);", open(refusals).read()):
+        declared.constants["LUKARIPE_REFUSED_" + name] = number
+    return declared
+
+
+def shown(value):
+    """A function's result and parameters, a struct's fields, or a number."""
+    if isinstance(value, tuple):
+        return f"{value[0]} ({shown(value[1])})"
+    if isinstance(value, list):
+        return ", ".join(f"{kind} {name}" for kind, name in value).replace("* ", "*")
+    return value
+
+
+def differences(what, crates, header):
+    for name in crates | header:
+        if name not in header:
+            yield f"the header has no {what} {name}"
+        elif name not in crates:
+            yield f"the crates have no {what} {name}"
+        elif crates[name] != header[name]:
+            yield f"{what} {name}\n  in the crates: {shown(crates[name])}\n  in the header: {shown(header[name])}"
+
+
+def names(header, refusals, exports):
+    crates, c = declared_in_crates(exports, refusals), declared_in_c(header)
+    found = [
+        *differences("struct", crates.structs, c.structs),
+        *differences("function", crates.functions, c.functions),
+        *differences("refusal", crates.refusals(), c.refusals()),
+    ]
+    if found:
+        fail("\n".join(["the header and the crates differ", *found]))
+    counts = f"{len(c.structs)} structs, {len(c.functions)} functions, {len(c.refusals())} refusals"
+    print(f"{counts}: named as in the crates")
+
+
+# ---- the program ----
+
 START = r"""
-#include <inttypes.h>
 #include <stdio.h>
 #include <stdlib.h>
 #include <string.h>
 
-/* The line that is read, where the next number stands, and the lines and differences so far. */
+/* The line that is read, where the next number stands, and whether one was missing. */
 static char line[4096];
 static char *at;
-static unsigned lines, differ;
+static bool missing;
+
+/* Bytes to lend; what those that are written to hold before. */
+static uint8_t lent[1024];
+enum { BEFORE = 0xa5 };
 
 static uint64_t next(void) {
-    return strtoull(at, &at, 10);
+    at += *at == ' ';
+    missing |= *at < '0' || *at > '9';
+    return missing ? 0 : strtoull(at, &at, 10);
+}
+
+static size_t next_length(void) {
+    uint64_t len = next();
+    missing |= len > sizeof lent;
+    return missing ? 0 : (size_t)len;
 }
 
 /* Words of 8 bytes, the last one of what is left. */
-static void take_bytes(uint8_t *bytes, size_t len) {
+static void take_bytes(size_t len) {
     uint64_t word = 0;
     for (size_t i = 0; i < len; i++) {
         word = i % 8 == 0 ? next() : word >> 8;
-        bytes[i] = (uint8_t)word;
+        lent[i] = (uint8_t)word;
     }
 }
 
@@ -41,116 +227,149 @@ static uint64_t word_at(const uint8_t *bytes) {
     return word;
 }
 
+static bool untouched(size_t len) {
+    for (size_t i = 0; i < len; i++)
+        if (lent[i] != BEFORE)
+            return false;
+    return true;
+}
+
+/* Whether the rest of the line is the answer. */
 static bool same(const uint64_t *answer, size_t len) {
     bool all = true;
     for (size_t i = 0; i < len; i++)
         all &= next() == answer[i];
-    return all && *at == '\n';
+    return all && !missing && *at == '\n';
 }
 """
 
 MAIN = r"""
-static int replay(void) {
-    unsigned called[FUNCTIONS] = {0};
+static bool agrees(unsigned *called) {
+    at = line;
+    missing = false;
+    uint64_t function = next();
+    if (function < FUNCTIONS)
+        called[function]++;
+    return call(function);
+}
+
+/* Each line must agree, or where they are wrong on purpose none. */
+static int replay(bool wrong) {
+    unsigned called[FUNCTIONS] = {0}, lines = 0, differ = 0, faults = 0;
     while (fgets(line, sizeof line, stdin)) {
-        at = line;
-        uint64_t function = next();
+        bool agree = agrees(called);
         lines++;
-        if (function < FUNCTIONS)
-            called[function]++;
-        if (!call(function)) {
-            differ++;
-            fprintf(stderr, "line %u differs: %s", lines, line);
+        differ += !agree;
+        if (agree == wrong) {
+            faults++;
+            fprintf(stderr, "line %u %s: %s", lines, wrong ? "is found right" : "differs", line);
         }
     }
     for (size_t i = 0; i < sizeof numbers / sizeof *numbers; i++)
         if (!called[numbers[i]]) {
-            differ++;
+            faults++;
             fprintf(stderr, "no line calls function %u\n", numbers[i]);
         }
-    printf("%u lines from C, %u differ\n", lines, differ);
-    return differ != 0;
+    printf("%u %s, %u differ\n", lines, wrong ? "wrong lines" : "lines from C", differ);
+    return faults != 0;
 }
 
 int main(int argc, char **argv) {
-    return argc > 1 && !strcmp(argv[1], "says") ? says() : replay();
+    const char *word = argc > 1 ? argv[1] : "";
+    if (!strcmp(word, "says"))
+        return says();
+    return replay(!strcmp(word, "wrong"));
 }
 """
 
 
-def fields_of(text):
-    """The names in the members of a struct, which are all uint64_t."""
-    names = []
-    for member in filter(None, map(str.strip, text.split(";"))):
-        kind, rest = member.split(None, 1)
-        if kind != "uint64_t":
-            sys.exit(f"header.py: a member is no uint64_t: {member}")
-        names += [name.strip() for name in rest.split(",")]
-    return names
+def numbers_of(kind, place, structs):
+    """The places of the numbers that a value has, in the order of its fields."""
+    if kind not in structs:
+        return [place]
+    return [number for field, name in structs[kind] for number in numbers_of(field, f"{place}.{name}", structs)]
 
 
 def take(parameters, structs):
-    """The statements that take the parameters from the line, in their order, and the name of the bytes written."""
-    code, written = [], None
-    for i, (kind, name) in enumerate(parameters):
-        if kind.endswith("*"):
-            length = parameters[i + 1][1]
-            code += [f"size_t {length} = next();", f"uint8_t {name}[{length} + 1];"]
-            if kind.startswith("const"):
-                code.append(f"take_bytes({name}, {length});")
-            else:
-                code.append(f"memset({name}, 0, {length});")
-                written = name
-        elif kind in structs:
-            code.append(f"{kind} {name};")
-            code += [f"{name}.{field} = next();" for field in structs[kind]]
-        elif kind == "bool":
-            code.append(f"bool {name} = next() != 0;")
-        elif kind != "size_t":
-            code.append(f"{kind} {name} = next();")
-    return code, written
+    """The statements that take the parameters from the line, in their order."""
+    for kind, name in parameters:
+        if kind == "size_t":
+            continue
+        if kind in structs:
+            yield f"{kind} {name};"
+            yield from (f"{number} = next();" for number in numbers_of(kind, name, structs))
+        elif kind == "const uint8_t *":
+            yield "size_t len = next_length();"
+            yield "take_bytes(len);"
+        elif kind == "uint8_t *":
+            yield "size_t len = next_length();"
+            yield "memset(lent, BEFORE, len);"
+        else:
+            yield f"{kind} {name} = next();"
 
 
-def case(result, name, parameters, structs):
-    code, written = take(parameters, structs)
-    code.append(f"{result} r = {name}({', '.join(name for _, name in parameters)});")
-    if result in structs:
-        answer = [f"r.{field}" for field in structs[result]]
-    elif result == "bool":
-        answer = ["0", "r"]
-    else:
-        answer = ["r"] + [f"r ? 0 : word_at({written} + {8 * i})" for i in range(6)]
-    code.append(f"uint64_t answer[] = {{{', '.join(answer)}}};")
-    code.append("return same(answer, sizeof answer / sizeof *answer);")
-    return "".join(f"        {statement}\n" for statement in code)
+def answer(result, writes, structs):
+    """The numbers of the answer, in what was returned or written."""
+    if writes:
+        return ["r"] + [f"r ? 0 : word_at(lent + {8 * word})" for word in range(6)]
+    if result == "bool":
+        return ["0", "r"]
+    return numbers_of(result, "r", structs)
 
 
-def main(header, rows):
-    text = re.sub(r"/\*.*?\*/", "", open(header).read(), flags=re.S)
-    structs = {name: fields_of(fields) for fields, name in re.findall(r"typedef struct \{(.*?)\} (\w+);", text, re.S)}
-    functions = re.findall(r"^(\w+) (lukaripe_\w+)\((.*?)\);", text, re.S | re.M)
+def statements(function, result, parameters, structs):
+    """What calls a function on a line."""
+    writes = any(kind == "uint8_t *" for kind, _ in parameters)
+    handed = ["lent" if kind.endswith("*") else "len" if kind == "size_t" else name for kind, name in parameters]
+    yield from take(parameters, structs)
+    yield f"{result} r = {function}({', '.join(handed)});"
+    if writes:
+        yield "if (r != 0 && !untouched(len))"
+        yield "    return false;"
+    yield f"uint64_t answer[] = {{{', '.join(answer(result, writes, structs))}}};"
+    yield "return same(answer, sizeof answer / sizeof *answer);"
+
+
+def program(header, rows):
+    c = declared_in_c(header)
     table = "".join(open(row).read() for row in rows)
     numbers = {"lukaripe_" + name: number for number, name in re.findall(r'number: (\d+),\s+name: "(\w+)"', table)}
+    if c.functions.keys() - numbers.keys():
+        fail(f"the rows have no {', '.join(c.functions.keys() - numbers.keys())}")
 
     print(f'#include "{header}"' + START)
     print("static bool call(uint64_t function) {\n    switch (function) {")
-    for result, name, parameters in functions:
-        pairs = [re.fullmatch(r"\s*(.*?)\s*(\w+)\s*", parameter).groups() for parameter in parameters.split(",")]
-        print(f"    case {numbers[name]}: {{\n{case(result, name, pairs, structs)}    }}")
+    for name, (result, parameters) in c.functions.items():
+        body = "".join(f"        {line}\n" for line in statements(name, result, parameters, c.structs))
+        print(f"    case {numbers[name]}: {{\n{body}    }}")
     print("    }\n    return false;\n}\n")
 
     print("static int says(void) {")
-    for name, fields in structs.items():
-        print(f'    _Static_assert(sizeof({name}) == {len(fields)} * sizeof(uint64_t), "{name}");')
+    for name in c.structs:
         print(f'    printf("struct {name} %zu %zu\\n", sizeof({name}), _Alignof({name}));')
-    for name in re.findall(r"LUKARIPE_REFUSED_\w+", text):
-        print(f'    printf("refusal {name} %d\\n", {name});')
+    for name in c.constants:
+        print(f'    printf("constant {name} %d\\n", {name});')
+    for name in c.refusals():
+        print(f'    printf("text %d %s\\n", {name}, lukaripe_refusal_text({name}));')
+    print('    printf("version %s\\n", LUKARIPE_VERSION);')
     print("    return 0;\n}\n")
 
-    chosen = [numbers[name] for _, name, _ in functions]
+    chosen = [numbers[name] for name in c.functions]
     print(f"static const unsigned numbers[] = {{{', '.join(chosen)}}};")
     print(f"enum {{ FUNCTIONS = {max(map(int, chosen)) + 1} }};")
     print(MAIN)
 
 
-main(sys.argv[1], sys.argv[2:])
+def main(words):
+    match words:
+        case ["functions", header]:
+            print("\n".join(declared_in_c(header).functions))
+        case ["names", header, refusals, *exports] if exports:
+            names(header, refusals, exports)
+        case ["program", header, *rows] if rows:
+            program(header, rows)
+        case _:
+            fail(__doc__)
+
+
+main(sys.argv[1:])

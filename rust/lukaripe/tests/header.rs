@@ -1,13 +1,15 @@
-//! The C header and this crate agree on the structs and on the numbers of the refusals.
+//! The C header and this crate agree on the sizes of the structs, the numbers of the constants, the words of the
+//! refusals and the version.
 //!
 //! tools/wrapper-test runs this: LUKARIPE_HEADER_SAYS names the file that its C program writes.
 
-#[path = "../../exports.rs"]
+#[path = "../src/exports.rs"]
 mod exports;
 
 use exports::{Told, Trailing};
-use lukaripe::Refusal;
+use lukaripe::{Refusal, Scalar, RECORD_LENGTH};
 use std::collections::BTreeSet;
+use std::fmt::Debug;
 use std::mem::{align_of, size_of};
 use std::{env, fs};
 
@@ -15,24 +17,24 @@ fn of_struct<T>(name: &str) -> String {
     format!("struct lukaripe_{name} {} {}", size_of::<T>(), align_of::<T>())
 }
 
+fn of_constant(name: &str, number: u64) -> String {
+    format!("constant LUKARIPE_{name} {number}")
+}
+
 /// NoRoom is LUKARIPE_REFUSED_NO_ROOM in C.
-fn of_refusal(refusal: Refusal) -> String {
-    let mut name = String::new();
-    for letter in format!("{refusal:?}").chars() {
+fn of_case(group: &str, case: impl Debug, number: u64) -> String {
+    let mut name = group.to_string();
+    for letter in format!("{case:?}").chars() {
         if letter.is_uppercase() {
             name.push('_');
         }
         name.push(letter.to_ascii_uppercase());
     }
-    format!("refusal LUKARIPE_REFUSED{name} {}", refusal.number())
+    of_constant(&name, number)
 }
 
-#[test]
-#[ignore = "tools/wrapper-test runs it"]
-fn agrees_with_the_header() {
-    let file = env::var("LUKARIPE_HEADER_SAYS").expect("LUKARIPE_HEADER_SAYS");
-    let header = fs::read_to_string(file).unwrap();
-    let mut rust = vec![
+fn structs() -> Vec<String> {
+    vec![
         of_struct::<Told<1>>("number"),
         of_struct::<Told<2>>("components"),
         of_struct::<Trailing>("trailing"),
@@ -43,8 +45,41 @@ fn agrees_with_the_header() {
         of_struct::<Told<2>>("cast"),
         of_struct::<exports::CastParams>("cast_params"),
         of_struct::<Told<4>>("cast_params_answer"),
+        of_struct::<exports::Carried>("carried"),
+    ]
+}
+
+/// The kinds have no names in this crate.
+fn constants() -> Vec<String> {
+    let mut constants = vec![
+        of_constant("KIND_FIXED", 0),
+        of_constant("KIND_FIXED_MARKED", 1),
+        of_constant("KIND_TRAILING", 2),
+        of_constant("KIND_TRAILING_MARKED", 3),
+        of_constant("FIXED_TO_FIXED", 0),
+        of_constant("FIXED_TO_TRAILING", 1),
+        of_constant("TRAILING_TO_TRAILING", 2),
+        of_constant("RECORD_LENGTH", RECORD_LENGTH as u64),
     ];
-    rust.extend(Refusal::ALL.map(of_refusal));
-    let header: BTreeSet<&str> = header.lines().collect();
-    assert_eq!(header, rust.iter().map(String::as_str).collect());
+    constants.extend(Refusal::all().map(|refusal| of_case("REFUSED", refusal, refusal.number())));
+    constants.extend(Scalar::all().map(|scalar| of_case("SCALAR", scalar, scalar.code())));
+    constants
+}
+
+/// The words of the refusals, and the version.
+fn texts() -> Vec<String> {
+    let mut texts: Vec<String> = Refusal::all().map(|refusal| format!("text {} {refusal}", refusal.number())).collect();
+    texts.push(format!("version {}", env!("CARGO_PKG_VERSION")));
+    texts
+}
+
+#[test]
+#[ignore = "tools/wrapper-test runs it"]
+fn agrees_with_the_header() {
+    let file = env::var("LUKARIPE_HEADER_SAYS").expect("LUKARIPE_HEADER_SAYS");
+    let header: BTreeSet<String> = fs::read_to_string(file).unwrap().lines().map(String::from).collect();
+    let rust: BTreeSet<String> = structs().into_iter().chain(constants()).chain(texts()).collect();
+    let of_header: Vec<_> = header.difference(&rust).collect();
+    let of_rust: Vec<_> = rust.difference(&header).collect();
+    assert_eq!(of_header, of_rust, "only of the header, and only of this crate");
 }

@@ -4,23 +4,46 @@ use super::{decision, number, told, Inputs};
 use lukaripe::*;
 use std::num::NonZeroU64;
 
-impl Inputs<'_> {
-    fn words(&mut self) -> [u64; 6] {
-        std::array::from_fn(|_| self.number())
-    }
+/// None where the six words are those of no layout, whatever its numbers are.
+fn layout_of([align, kind, size_base, offset, elem_size, word]: [u64; 6]) -> Option<Layout> {
+    let size_rounding_align_and_phase = RoundingAlignAndPhase(word);
+    let size_info = match (kind, offset, elem_size, word) {
+        (0 | 1, 0, 0, 0) => SizeInfo::Sized { size: size_base },
+        (2 | 3, ..) => SizeInfo::SliceDst(Trailing { size_base, offset, elem_size, size_rounding_align_and_phase }),
+        _ => return None,
+    };
+    Some(Layout { align, size_info, statically_shallow_unpadded: kind % 2 == 1 })
+}
 
-    /// None where the six words are those of no layout, whatever its numbers are.
+fn words_of(layout: Layout) -> [u64; 6] {
+    let mark = u64::from(layout.statically_shallow_unpadded);
+    match layout.size_info {
+        SizeInfo::Sized { size } => [layout.align, mark, size, 0, 0, 0],
+        SizeInfo::SliceDst(t) => {
+            let word = t.size_rounding_align_and_phase.0;
+            [layout.align, 2 + mark, t.size_base, t.offset, t.elem_size, word]
+        }
+    }
+}
+
+/// The six words of a record.
+fn words_in(record: &[u8]) -> [u64; 6] {
+    let mut words = record.chunks(8).map(|word| u64::from_le_bytes(word.try_into().unwrap()));
+    std::array::from_fn(|_| words.next().unwrap())
+}
+
+/// The members of a list of records, where each is a layout, whatever its numbers are.
+fn members(list: &[u8]) -> Option<Vec<Layout>> {
+    let records = list.chunks_exact(RECORD_LENGTH);
+    if !records.remainder().is_empty() {
+        return None;
+    }
+    records.map(|record| layout_of(words_in(record))).collect()
+}
+
+impl Inputs<'_> {
     fn layout(&mut self) -> Option<Layout> {
-        let [align, kind, size, offset, elem_size, word] = self.words();
-        let size_rounding_align_and_phase = RoundingAlignAndPhase(word);
-        let size_info = match (kind, offset, elem_size, word) {
-            (0 | 1, 0, 0, 0) => SizeInfo::Sized { size },
-            (2 | 3, ..) => {
-                SizeInfo::SliceDst(Trailing { offset, elem_size, size_base: size, size_rounding_align_and_phase })
-            }
-            _ => return None,
-        };
-        Some(Layout { align, size_info, statically_shallow_unpadded: kind % 2 == 1 })
+        layout_of(std::array::from_fn(|_| self.number()))
     }
 
     fn asked(&mut self) -> Option<NonZeroU64> {
@@ -52,19 +75,16 @@ impl Inputs<'_> {
     }
 }
 
-fn words(layout: Layout) -> [u64; 6] {
-    let mark = u64::from(layout.statically_shallow_unpadded);
-    match layout.size_info {
-        SizeInfo::Sized { size } => [layout.align, mark, size, 0, 0, 0],
-        SizeInfo::SliceDst(t) => {
-            let word = t.size_rounding_align_and_phase.0;
-            [layout.align, 2 + mark, t.size_base, t.offset, t.elem_size, word]
-        }
-    }
+fn layout(answer: Result<Layout>) -> Vec<u64> {
+    told(answer.map(words_of))
 }
 
-fn layout(answer: Result<Layout>) -> Vec<u64> {
-    told(answer.map(words))
+fn decoded(record: &[u8]) -> Vec<u64> {
+    let answer = Layout::decode(record);
+    if let Ok(whole) = record.try_into() {
+        assert_eq!(Layout::from_bytes(whole), answer);
+    }
+    layout(answer)
 }
 
 /// The six words that were written, and nothing on a refusal.
@@ -74,18 +94,35 @@ fn encoded(layout: Layout, len: usize) -> Vec<u64> {
     if answer.is_err() {
         assert_eq!(out, vec![0; len]);
     }
-    told::<6>(answer.map(|()| {
-        let mut words = out.chunks(8).map(|word| u64::from_le_bytes(word.try_into().unwrap()));
-        std::array::from_fn(|_| words.next().unwrap())
-    }))
+    if len == RECORD_LENGTH {
+        assert_eq!(layout.to_bytes().map(Vec::from), answer.map(|()| out.clone()));
+    }
+    told(answer.map(|()| words_in(&out)))
 }
 
-/// The place comes before the words, and stays on a refusal.
-fn composed(answer: std::result::Result<Layout, Refused>) -> Vec<u64> {
+fn scalar(code: u64) -> Vec<u64> {
+    let answer = Layout::scalar_by_code(code);
+    assert_eq!(Scalar::try_from(code).map(Layout::scalar), answer);
+    layout(answer)
+}
+
+type Composition<T> = fn(Option<NonZeroU64>, Option<NonZeroU64>, &[T]) -> Result<Layout, Refused>;
+
+/// The place comes before the words, and stays on a refusal. Members give what their records give.
+fn composed(i: &mut Inputs, of_layouts: Composition<Layout>, of_records: Composition<u8>) -> Vec<u64> {
+    let (align, packed, list) = (i.asked(), i.asked(), i.bytes());
+    let answer = of_records(align, packed, &list);
+    if let Some(members) = members(&list) {
+        assert_eq!(of_layouts(align, packed, &members), answer);
+    }
     match answer {
-        Ok(layout) => [&[0, 0], &words(layout)[..]].concat(),
+        Ok(layout) => [&[0, 0], &words_of(layout)[..]].concat(),
         Err(refused) => [&[refused.refusal.number(), refused.place], &[0; 6][..]].concat(),
     }
+}
+
+fn cast(answer: Result<Cast>) -> Vec<u64> {
+    told(answer.map(|cast| [cast.count, cast.split]))
 }
 
 fn cast_params(answer: Result<CastParams>) -> Vec<u64> {
@@ -94,6 +131,10 @@ fn cast_params(answer: Result<CastParams>) -> Vec<u64> {
         CastParams::SizedToUnsized { dst_meta } => [1, 0, 0, dst_meta],
         CastParams::UnsizedToUnsized { offset_delta_elems, elem_multiple } => [2, offset_delta_elems, elem_multiple, 0],
     }))
+}
+
+fn carried(answer: Carried) -> Vec<u64> {
+    [cast_params(answer.computed), number(answer.count), cast(answer.first), cast(answer.second)].concat()
 }
 
 pub fn call(function: u64, i: &mut Inputs) -> Option<Vec<u64>> {
@@ -106,19 +147,20 @@ pub fn call(function: u64, i: &mut Inputs) -> Option<Vec<u64>> {
         20 => layout(i.layout()?.pad_to_align()),
         21 => decision(i.layout()?.requires_static_padding()),
         22 => decision(i.layout()?.requires_dynamic_padding()),
-        23 => layout(Layout::decode(&i.bytes())),
+        23 => decoded(&i.bytes()),
         24 => encoded(i.layout()?, i.number() as usize),
-        25 => layout(Layout::scalar(i.number())),
-        26 => composed(compose(i.asked(), i.asked(), &i.bytes())),
-        27 => composed(for_repr_c_struct(i.asked(), i.asked(), &i.bytes())),
-        28 => {
-            let cast = i.layout()?.validate_cast_and_convert_metadata(i.number(), i.number(), i.cast_type());
-            told(cast.map(|cast| [cast.count, cast.split]))
-        }
+        25 => scalar(i.number()),
+        26 => composed(i, compose, compose_records),
+        27 => composed(i, for_repr_c_struct, for_repr_c_struct_records),
+        28 => cast(i.layout()?.validate_cast_and_convert_metadata(i.number(), i.number(), i.cast_type())),
         29 => number(i.layout()?.metadata_for_exact_size(i.number())),
         30 => decision(size_sequences_match(i.trailing(), i.trailing(), i.number())),
         31 => cast_params(CastParams::try_compute(i.layout()?, i.layout()?)),
         32 => number(i.params().cast_metadata(i.number())),
+        33 => {
+            let (src, dst) = (i.layout()?, i.layout()?);
+            carried(convert_and_cast(src, dst, i.number(), i.number(), i.number(), i.number()))
+        }
         _ => panic!("no function {function}"),
     })
 }
