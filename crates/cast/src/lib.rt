@@ -1,4 +1,5 @@
-// Casts, after zerocopy's validate_cast_and_convert_metadata: how many elements the bytes at an address hold, and where they split.
+// Casts, after zerocopy's validate_cast_and_convert_metadata: how many elements the bytes at an address hold, and where they
+// split.
 ghost use mathlib.Core.Path.{_≡_};
 ghost use mathlib.Core.List.{[], _∷_};
 ghost use Prim.Native.Nat.{_+_, _^_, _≤_, _<_};
@@ -10,7 +11,8 @@ ghost use Rattle.trailing.specs.View.{trailingOf};
 ghost use Rattle.layout.specs.Layout.{trailing, noWord, layoutCauses};
 ghost use Rattle.layout.specs.Extend.{IsTrailing};
 ghost use Rattle.layout.specs.View.{infoOf, layoutOf};
-ghost use Rattle.cast.specs.Cast.{prefix, testedAddress, splitAt, isElemZero, elemZero, tooSmall, bytesCauses, castCauses, greatestGrant, castFor, GrantMeans, countIn};
+ghost use Rattle.cast.specs.Cast.{prefix, testedAddress, splitAt, isElemZero, elemZero, tooSmall, bytesCauses};
+ghost use Rattle.cast.specs.Cast.{castCauses, greatestGrant, castFor, GrantMeans, countIn};
 ghost use Rattle.cast.specs.Exact.{noExact, exactCauses, exactFor, ExactIn};
 ghost use Rattle.cast.specs.View.{sideOf, castSays};
 use layout::Check;
@@ -72,7 +74,10 @@ fn fit_elems(
     max_slice_bytes: u64,
     size_align: u64,
 ) -> CastAnswer
-    requires { ⌜ (0 < tail .«elem_size») × AlignOf (trailingOf tail .word) «size_align» × GreatestIn 64 (trailingOf tail) len «max_slice_bytes» ⌝ }
+    requires { ⌜
+        (0 < tail .«elem_size») × AlignOf (trailingOf tail .word) «size_align» × GreatestIn 64 (trailingOf tail) len
+        «max_slice_bytes»
+        ⌝ }
     ensures { λ r. ⌜ castSays r ≡ answered (greatestGrant 64 (trailing (trailingOf tail)) prefix len) ⌝ }
 {
     let elem_size = tail.elem_size;
@@ -89,7 +94,10 @@ fn fit_elems(
 
 fn fit_trailing(tail: TrailingSliceLayout, len: u64) -> CastAnswer
     requires { ⌜ (0 < trailingOf tail .word) × (0 < tail .«elem_size») ⌝ }
-    ensures { λ r. ⌜ castSays r ≡ unless (tooSmall 64 (trailing (trailingOf tail)) len ∷ []) (greatestGrant 64 (trailing (trailingOf tail)) prefix len) ⌝ }
+    ensures { λ r. ⌜
+        castSays r ≡ unless (tooSmall 64 (trailing (trailingOf tail)) len ∷ [])
+        (greatestGrant 64 (trailing (trailingOf tail)) prefix len)
+        ⌝ }
 {
     let Answer::Number(max_slice_bytes) = tail.max_trailing_bytes(len) else {
         return CastAnswer::Refused(refusal::CAST_TOO_SMALL);
@@ -104,7 +112,10 @@ fn fit_trailing(tail: TrailingSliceLayout, len: u64) -> CastAnswer
 // The cast of a layout that passed its check: the alignment is judged before the size.
 fn cast_checked(layout: DstLayout, addr: u64, len: u64, cast_type: CastType) -> CastAnswer
     requires { ⌜ None (layoutCauses 64 (layoutOf layout)) ⌝ }
-    ensures { λ r. ⌜ castSays r ≡ unless (bytesCauses 64 (layoutOf layout) (sideOf «cast_type») addr len) (greatestGrant 64 (layoutOf layout .info) (sideOf «cast_type») len) ⌝ }
+    ensures { λ r. ⌜
+        castSays r ≡ unless (bytesCauses 64 (layoutOf layout) (sideOf «cast_type») addr len)
+        (greatestGrant 64 (layoutOf layout .info) (sideOf «cast_type») len)
+        ⌝ }
 {
     let size_info = layout.size_info;
     if elem_size_zero(size_info) {
@@ -148,7 +159,10 @@ pub fn validate_cast_and_convert_metadata(
     cast_type: CastType,
 ) -> CastAnswer
     ensures answer { λ r. ⌜ castSays r ≡ castFor 64 (layoutOf layout) (sideOf «cast_type») addr «bytes_len» ⌝ }
-    ensures meaning { λ r. ⌜ Meets (castCauses 64 (layoutOf layout) (sideOf «cast_type») addr «bytes_len») (GrantMeans 64 (layoutOf layout .info) (sideOf «cast_type») «bytes_len») (castSays r) ⌝ }
+    ensures meaning { λ r. ⌜
+        Meets (castCauses 64 (layoutOf layout) (sideOf «cast_type») addr «bytes_len»)
+        (GrantMeans 64 (layoutOf layout .info) (sideOf «cast_type») «bytes_len») (castSays r)
+        ⌝ }
 {
     match layout.check() {
         Check::Accepted => cast_checked(layout, addr, bytes_len, cast_type),
@@ -190,7 +204,9 @@ fn exact_checked(layout: DstLayout, size: u64) -> Answer
 // The greatest count whose size is exactly size.
 pub fn metadata_for_exact_size(layout: DstLayout, size: u64) -> Answer
     ensures answer { λ r. ⌜ numberSays r ≡ exactFor 64 (layoutOf layout) size ⌝ }
-    ensures meaning { λ r. ⌜ Meets (exactCauses 64 (layoutOf layout) size) (ExactIn 64 (layoutOf layout .info) size) (numberSays r) ⌝ }
+    ensures meaning { λ r. ⌜
+        Meets (exactCauses 64 (layoutOf layout) size) (ExactIn 64 (layoutOf layout .info) size) (numberSays r)
+        ⌝ }
 {
     match layout.check() {
         Check::Accepted => exact_checked(layout, size),

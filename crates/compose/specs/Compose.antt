@@ -1,4 +1,5 @@
--- The composition of a member list (document 01, `for_repr_c_struct`; the Reference's rule layout.repr.c.struct.size-field-offset). Assumes nothing.
+-- The composition of a member list (document 01, `for_repr_c_struct`; the Reference's rule
+-- layout.repr.c.struct.size-field-offset). Assumes nothing.
 use mathlib.Core.Bool.{cond}
 use mathlib.Core.List.{List, [], _∷_}
 use Prim.Native.Nat.{ℕ, zero, suc, _-_, _*_, _/_, _%_}

@@ -1,4 +1,5 @@
--- Conversions (document 01, module 6): when a value of one layout may be read as another, and the count it then has. Assumes nothing.
+-- Conversions (document 01, module 6): when a value of one layout may be read as another, and the count it then has. Assumes
+-- nothing.
 use mathlib.Core.Path.{_≡_}
 use mathlib.Core.Bool.{Bool, true, false, cond, _&&_}
 use mathlib.Core.List.{List, [], _∷_, _++_}
@@ -12,7 +13,8 @@ use Rattle.layout.specs.Layout.{Info, fixed, trailing, Layout, layoutCauses}
 use Rattle.cast.specs.Exact.{ExactCount, exactFor}
 use Rattle.convert.specs.Match.{Comparison, Matches, matchTest}
 
--- what an accepted conversion is: fixed to fixed; fixed to trailing, with the exact count; trailing to trailing, with the shift d and the multiple k
+-- what an accepted conversion is: fixed to fixed; fixed to trailing, with the exact count; trailing to trailing, with the
+-- shift d and the multiple k
 pub data Params : Type 0 where
   sizedToSized : Params
   sizedToUnsized : (count : ℕ) → Params
@@ -119,7 +121,8 @@ pub record IsMultiple (s t : Trailing) (k : ℕ) : Type 0 where
 pub data KindsConvert (w : ℕ) (same : Comparison) : Info → Info → Params → Type 0 where
   fixedToFixed : {a : ℕ} → KindsConvert w same (fixed a) (fixed a) sizedToSized
   fixedToTrailing : {a n : ℕ} {t : Trailing} → ExactCount w t a n → KindsConvert w same (fixed a) (trailing t) (sizedToUnsized n)
-  trailingToTrailing : {s t : Trailing} {d k : ℕ} → IsMultiple s t k → IsShift w same s t d → KindsConvert w same (trailing s) (trailing t) (unsizedToUnsized d k)
+  trailingToTrailing : {s t : Trailing} {d k : ℕ} → IsMultiple s t k → IsShift w same s t d
+      → KindsConvert w same (trailing s) (trailing t) (unsizedToUnsized d k)
 
 -- document 01's rules give the conversion q from s to t
 pub record Converts (w : ℕ) (same : Comparison) (s t : Layout) (q : Params) : Type 0 where

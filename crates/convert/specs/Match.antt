@@ -1,4 +1,5 @@
--- When two trailing layouts have the same sizes, the counts of one being shifted counts of the other (document 01, module 6). Assumes nothing.
+-- When two trailing layouts have the same sizes, the counts of one being shifted counts of the other (document 01, module 6).
+-- Assumes nothing.
 use mathlib.Core.Path.{_≡_}
 use mathlib.Core.Bool.{Bool, true, _&&_}
 use mathlib.Core.List.{List, [], _∷_}

@@ -13,7 +13,8 @@ use Rattle.trailing.specs.Sequence.{sameSequence}
 use Rattle.trailing.specs.Calls.{paddingForElems, sizeFor, sameFor}
 use Rattle.layout.specs.Layout.{Layout, fixed, trailing}
 use Rattle.cast.specs.Cast.{Side, prefix, suffix, Grant, castFor}
-use Rattle.convert.specs.Convert.{Params, sizedToSized, sizedToUnsized, unsizedToUnsized, Shift, by, missing, byOffset, matchedShift, computeFor, metadataFor}
+use Rattle.convert.specs.Convert.{Params, sizedToSized, sizedToUnsized, unsizedToUnsized, Shift, by, missing}
+use Rattle.convert.specs.Convert.{byOffset, matchedShift, computeFor, metadataFor}
 
 -- the calls of the table
 pub data Call : Type 0 where

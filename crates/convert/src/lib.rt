@@ -10,7 +10,10 @@ ghost use mathlib.Core.List.{[], _∷_};
 ghost use Rattle.layout.specs.Layout.{fixed, trailing, noWord, layoutCauses, FitsWidth};
 ghost use Rattle.layout.specs.View.{infoOf, layoutOf};
 ghost use Rattle.convert.specs.Match.{matchTest, matchFor, FoundMatch};
-ghost use Rattle.convert.specs.Convert.{Params, byOffset, bySize, matchedShift, shiftOf, trailingRules, kindRules, conversionOf, reasonNumber, noConversion, paramsOf, unsizedToUnsized, Converts, computeCauses, computeFor, converted, metadataCauses, metadataFor};
+ghost use Rattle.convert.specs.Convert.{Params, byOffset, bySize, matchedShift, shiftOf, trailingRules};
+ghost use Rattle.convert.specs.Convert.{kindRules, conversionOf, reasonNumber, noConversion, paramsOf};
+ghost use Rattle.convert.specs.Convert.{unsizedToUnsized, Converts, computeCauses, computeFor, converted};
+ghost use Rattle.convert.specs.Convert.{metadataCauses, metadataFor};
 ghost use Rattle.convert.specs.View.{paramsIn, reasonIn, shiftIn, computedIn, computeSays};
 use layout::Check;
 use layout::DstLayout;
@@ -91,7 +94,10 @@ pub fn size_sequences_match(
     dst_base: u64,
 ) -> Decision
     ensures answer { λ r. ⌜ decisionSays r ≡ matchFor 64 (sameSequence 64) (trailingOf src) (trailingOf dst) «dst_base» ⌝ }
-    ensures meaning { λ r. ⌜ Meets (sameCauses (trailingOf src) (trailingOf dst)) (FoundMatch 64 (sameSequence 64) (trailingOf src) (trailingOf dst) «dst_base») (decisionSays r) ⌝ }
+    ensures meaning { λ r. ⌜
+        Meets (sameCauses (trailingOf src) (trailingOf dst))
+        (FoundMatch 64 (sameSequence 64) (trailingOf src) (trailingOf dst) «dst_base») (decisionSays r)
+        ⌝ }
 {
     let src_word = src.size_rounding_align_and_phase;
     if src_word.0 == 0 {
@@ -179,7 +185,9 @@ fn compute_unsized(
     dst: TrailingSliceLayout,
 ) -> Computed
     requires { ⌜ (0 < trailingOf src .word) × (0 < trailingOf dst .word) ⌝ }
-    ensures { λ r. ⌜ computedIn r ≡ trailingRules 64 (sameSequence 64) (trailingOf src) (layoutOf «dst_layout») (trailingOf dst) ⌝ }
+    ensures { λ r. ⌜
+        computedIn r ≡ trailingRules 64 (sameSequence 64) (trailingOf src) (layoutOf «dst_layout») (trailingOf dst)
+        ⌝ }
 {
     let dst_elem_size = dst.elem_size;
     if dst_elem_size == 0 {
@@ -202,7 +210,10 @@ fn compute_unsized(
 }
 
 fn compute_from_sized(src_size: u64, dst_layout: DstLayout) -> Computed
-    ensures { λ r. ⌜ computedIn r ≡ kindRules 64 (sameSequence 64) (fixed «src_size») (layoutOf «dst_layout») (infoOf («dst_layout» .«size_info»)) ⌝ }
+    ensures { λ r. ⌜
+        computedIn r ≡ kindRules 64 (sameSequence 64) (fixed «src_size») (layoutOf «dst_layout»)
+        (infoOf («dst_layout» .«size_info»))
+        ⌝ }
 {
     let size_info = dst_layout.size_info;
     match size_info {
@@ -224,7 +235,10 @@ fn compute_from_sized(src_size: u64, dst_layout: DstLayout) -> Computed
 
 fn compute_from_unsized(src: TrailingSliceLayout, dst_layout: DstLayout) -> Computed
     requires { ⌜ (0 < trailingOf src .word) × (noWord (infoOf («dst_layout» .«size_info»)) .means → ⊥) ⌝ }
-    ensures { λ r. ⌜ computedIn r ≡ kindRules 64 (sameSequence 64) (trailing (trailingOf src)) (layoutOf «dst_layout») (infoOf («dst_layout» .«size_info»)) ⌝ }
+    ensures { λ r. ⌜
+        computedIn r ≡ kindRules 64 (sameSequence 64) (trailing (trailingOf src)) (layoutOf «dst_layout»)
+        (infoOf («dst_layout» .«size_info»))
+        ⌝ }
 {
     let size_info = dst_layout.size_info;
     match size_info {
@@ -235,7 +249,9 @@ fn compute_from_unsized(src: TrailingSliceLayout, dst_layout: DstLayout) -> Comp
 
 // The conversion between two layouts that passed their checks, or why there is none.
 fn compute(src_layout: DstLayout, dst_layout: DstLayout) -> Computed
-    requires { ⌜ (noWord (infoOf («src_layout» .«size_info»)) .means → ⊥) × (noWord (infoOf («dst_layout» .«size_info»)) .means → ⊥) ⌝ }
+    requires { ⌜
+        (noWord (infoOf («src_layout» .«size_info»)) .means → ⊥) × (noWord (infoOf («dst_layout» .«size_info»)) .means → ⊥)
+        ⌝ }
     ensures { λ r. ⌜ computedIn r ≡ conversionOf 64 (sameSequence 64) (layoutOf «src_layout») (layoutOf «dst_layout») ⌝ }
 {
     if src_layout.align < dst_layout.align {
@@ -266,7 +282,10 @@ fn reason_number(reason: Reason) -> u64
 
 fn compute_answer(src_layout: DstLayout, dst_layout: DstLayout) -> ComputeAnswer
     requires { ⌜ None (layoutCauses 64 (layoutOf «src_layout»)) × None (layoutCauses 64 (layoutOf «dst_layout»)) ⌝ }
-    ensures { λ r. ⌜ computeSays r ≡ unless (noConversion 64 (sameSequence 64) (layoutOf «src_layout») (layoutOf «dst_layout») ∷ []) (paramsOf (conversionOf 64 (sameSequence 64) (layoutOf «src_layout») (layoutOf «dst_layout»))) ⌝ }
+    ensures { λ r. ⌜
+        computeSays r ≡ unless (noConversion 64 (sameSequence 64) (layoutOf «src_layout») (layoutOf «dst_layout») ∷ [])
+        (paramsOf (conversionOf 64 (sameSequence 64) (layoutOf «src_layout») (layoutOf «dst_layout»)))
+        ⌝ }
 {
     match compute(src_layout, dst_layout) {
         Computed::Accepted(params) => ComputeAnswer::Params(params),
@@ -278,8 +297,14 @@ fn compute_answer(src_layout: DstLayout, dst_layout: DstLayout) -> ComputeAnswer
 // says is known of every u64 inside a function; a caller's proof, which needs it for the conversion guarantee, has it from here.
 pub fn try_compute(src_layout: DstLayout, dst_layout: DstLayout) -> ComputeAnswer
     ensures answer { λ r. ⌜ computeSays r ≡ computeFor 64 (sameSequence 64) (layoutOf «src_layout») (layoutOf «dst_layout») ⌝ }
-    ensures meaning { λ r. ⌜ Meets (computeCauses 64 (sameSequence 64) (layoutOf «src_layout») (layoutOf «dst_layout»)) (Converts 64 (sameSequence 64) (layoutOf «src_layout») (layoutOf «dst_layout»)) (computeSays r) ⌝ }
-    ensures fits { λ r. ⌜ ((q : Params) → computeSays r ≡ answered q → FitsWidth 64 (layoutOf «src_layout») × FitsWidth 64 (layoutOf «dst_layout»)) ⌝ }
+    ensures meaning { λ r. ⌜
+        Meets (computeCauses 64 (sameSequence 64) (layoutOf «src_layout») (layoutOf «dst_layout»))
+        (Converts 64 (sameSequence 64) (layoutOf «src_layout») (layoutOf «dst_layout»)) (computeSays r)
+        ⌝ }
+    ensures fits { λ r. ⌜
+        ((q : Params) → computeSays r ≡ answered q → FitsWidth 64 (layoutOf «src_layout») × FitsWidth 64
+        (layoutOf «dst_layout»))
+        ⌝ }
 {
     match src_layout.check() {
         Check::Accepted => match dst_layout.check() {
@@ -307,7 +332,10 @@ fn add_scaled_metadata(base: u64, metadata: u64, multiple: u64) -> Answer
 // The count of the target that src_meta of the source becomes.
 pub fn cast_metadata(params: CastParamsInner, src_meta: u64) -> Answer
     ensures answer { λ r. ⌜ numberSays r ≡ metadataFor 64 (paramsIn params) «src_meta» ⌝ }
-    ensures meaning { λ r. ⌜ Meets (metadataCauses 64 (paramsIn params) «src_meta») (λ n. n ≡ converted (paramsIn params) «src_meta») (numberSays r) ⌝ }
+    ensures meaning { λ r. ⌜
+        Meets (metadataCauses 64 (paramsIn params) «src_meta») (λ n. n ≡ converted (paramsIn params) «src_meta»)
+        (numberSays r)
+        ⌝ }
 {
     match params {
         CastParamsInner::UnsizedToUnsized {

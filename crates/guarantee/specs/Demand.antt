@@ -1,4 +1,5 @@
--- Demand 3, the conversion guarantee: an accepted conversion loses no byte, and casts after it grant what they must. Assumes nothing.
+-- Demand 3, the conversion guarantee: an accepted conversion loses no byte, and casts after it grant what they must. Assumes
+-- nothing.
 use mathlib.Core.Path.{_≡_}
 use Prim.Native.Nat.{ℕ, _+_, _%_, _≤_}
 use Rattle.util.specs.Width.{M}
@@ -46,7 +47,8 @@ pub record Kept (w : ℕ) (s t : Layout) (q : Params) (n addr len more : ℕ) (r
   pub first : Hold w s t n addr len → CastKeeps w t len (converted q n) (r .first)
   pub second : (h : Hold w s t n addr len) → len ≤ more → addr + more ≤ M w → CastKeeps w t more (first h .count) (r .second)
 
--- demand 3 of what the calls gave: wherever the rules accept the conversion, and the count has a size under the first layout that w
+-- demand 3 of what the calls gave: wherever the rules accept the conversion, and the count has a size under the first layout
+-- that w
 -- bits hold
 abbrev pub Demand3Of : ℕ → Comparison → Layout → Layout → (n addr len more : ℕ) → Answers → Type 0
 Demand3Of w same s t n addr len more r =
@@ -66,7 +68,8 @@ answersOf w same s t n addr len more = record {
   second = castFor w t prefix addr more;
 }
 
--- demand 3: so it is of these, whatever two layouts, whose numbers w bits hold, and whatever count, address and lengths are handed over
+-- demand 3: so it is of these, whatever two layouts, whose numbers w bits hold, and whatever count, address and lengths are
+-- handed over
 abbrev pub Demand3 : ℕ → Comparison → Type 0
 Demand3 w same =
     (s t : Layout) (n addr len more : ℕ) → FitsWidth w s → FitsWidth w t

@@ -19,7 +19,7 @@ pub record Layout : Type 0 where
   pub info : Info
   pub mark : Bool
 
--- a fixed layout has one count, 0, and its size; a trailing one has a size at every count
+-- a fixed layout has one count, 0; every number is a count of a trailing one, though its size there may pass M
 abbrev pub IsCount : Info → ℕ → Type 0
 IsCount (fixed s) n = n ≡ 0
 IsCount (trailing t) n = Unit {0}

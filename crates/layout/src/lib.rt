@@ -10,7 +10,9 @@ ghost use Rattle.util.specs.Refusal.{answered, refused, unless, Meets};
 ghost use Rattle.util.specs.View.{numberSays};
 ghost use Rattle.trailing.specs.View.{trailingOf};
 ghost use Rattle.layout.specs.Layout.{trailing, layoutCauses, checkFor, FitsWidth};
-ghost use Rattle.layout.specs.Extend.{memberAlign, placedAt, extended, badPacking, aboveGreatest, roundUpCauses, roundUpFor, LeastPlace, memberPasses, placeCauses, stepCauses, extendCauses, extendFor, Extended, IsTrailing};
+ghost use Rattle.layout.specs.Extend.{memberAlign, placedAt, extended, badPacking, aboveGreatest, roundUpCauses};
+ghost use Rattle.layout.specs.Extend.{roundUpFor, LeastPlace, memberPasses, placeCauses, stepCauses};
+ghost use Rattle.layout.specs.Extend.{extendCauses, extendFor, Extended, IsTrailing};
 ghost use Rattle.layout.specs.View.{infoOf, layoutOf, sizedOf, layoutSays, infoSays, checkSays};
 use trailing::TrailingSliceLayout;
 use util::Answer;
@@ -54,7 +56,7 @@ pub enum Check {
     Refused(u64),
 }
 
-// The greatest alignment of the members and the packing of a composed layout.
+// The greatest alignment, of the layout itself and of its member, and the greatest packing, while a member is added.
 pub const CURRENT_MAX_ALIGN: u64 = 1 << 29;
 
 // len rounded up to a multiple of align, where that does not pass the greatest number.
@@ -111,7 +113,10 @@ fn packed_align(align: u64, repr_packed: u64) -> Answer
 
 // The base is not rounded, so that the place is added to it as it is to the offset.
 fn place_trailing(tail: TrailingSliceLayout, place: u64) -> SizeInfoAnswer
-    ensures { λ r. ⌜ infoSays r ≡ unless (memberPasses 64 place (trailing (trailingOf tail)) ∷ []) (placedAt place (trailing (trailingOf tail))) ⌝ }
+    ensures { λ r. ⌜
+        infoSays r ≡ unless (memberPasses 64 place (trailing (trailingOf tail)) ∷ [])
+        (placedAt place (trailing (trailingOf tail)))
+        ⌝ }
 {
     let word = tail.size_rounding_align_and_phase;
     if u64::MAX - place < tail.offset {
@@ -160,7 +165,9 @@ fn larger(a: u64, b: u64) -> u64
 
 // The size of a layout whose last member stands at place.
 fn place_member(size_info: SizeInfo, place: u64) -> SizeInfoAnswer
-    ensures { λ r. ⌜ infoSays r ≡ unless (memberPasses 64 place (infoOf «size_info») ∷ []) (placedAt place (infoOf «size_info»)) ⌝ }
+    ensures { λ r. ⌜
+        infoSays r ≡ unless (memberPasses 64 place (infoOf «size_info») ∷ []) (placedAt place (infoOf «size_info»))
+        ⌝ }
 {
     match size_info {
         SizeInfo::Sized { size } => {
@@ -191,7 +198,14 @@ fn step_mark(unpadded: bool, field_unpadded: bool, preceding_size: u64, place: u
 
 fn extend_at(own: SizedLayout, field: DstLayout, field_align: u64, place: u64) -> LayoutAnswer
     requires { ⌜ PowerOfTwo (own .align) × PowerOfTwo «field_align» ⌝ }
-    ensures { λ r. ⌜ layoutSays r ≡ unless (memberPasses 64 place (infoOf (field .«size_info»)) ∷ []) (record { align = max (own .align) «field_align»; info = placedAt place (infoOf (field .«size_info»)); mark = own .«statically_shallow_unpadded» && (field .«statically_shallow_unpadded» && eqb place (own .size)) }) ⌝ }
+    ensures { λ r. ⌜
+        layoutSays r ≡ unless (memberPasses 64 place (infoOf (field .«size_info»)) ∷ [])
+        (record {
+          align = max (own .align) «field_align»;
+          info = placedAt place (infoOf (field .«size_info»));
+          mark = own .«statically_shallow_unpadded» && (field .«statically_shallow_unpadded» && eqb place (own .size));
+        })
+        ⌝ }
 {
     let field_info = field.size_info;
     let unpadded = step_mark(
@@ -213,7 +227,10 @@ fn extend_at(own: SizedLayout, field: DstLayout, field_align: u64, place: u64) -
 // The step where the member's alignment is field_align, which is its own lowered by the packing.
 fn extend_aligned(own: SizedLayout, field: DstLayout, field_align: u64) -> LayoutAnswer
     requires { ⌜ PowerOfTwo (own .align) × PowerOfTwo «field_align» ⌝ }
-    ensures { λ r. ⌜ ((packing : ℕ) → «field_align» ≡ memberAlign (field .align) packing → layoutSays r ≡ unless (placeCauses 64 (sizedOf own) (layoutOf field) packing) (extended (sizedOf own) (layoutOf field) packing)) ⌝ }
+    ensures { λ r. ⌜
+        ((packing : ℕ) → «field_align» ≡ memberAlign (field .align) packing → layoutSays r ≡ unless
+        (placeCauses 64 (sizedOf own) (layoutOf field) packing) (extended (sizedOf own) (layoutOf field) packing))
+        ⌝ }
 {
     match round_up_to_power(own.size, field_align) {
         Answer::Number(place) => extend_at(own, field, field_align, place),
@@ -224,7 +241,10 @@ fn extend_aligned(own: SizedLayout, field: DstLayout, field_align: u64) -> Layou
 // The step of two layouts that are accepted.
 fn extend_checked(own: SizedLayout, field: DstLayout, repr_packed: u64) -> LayoutAnswer
     requires { ⌜ PowerOfTwo (own .align) × PowerOfTwo (field .align) ⌝ }
-    ensures { λ r. ⌜ layoutSays r ≡ unless (stepCauses 64 (sizedOf own) (layoutOf field) «repr_packed») (extended (sizedOf own) (layoutOf field) «repr_packed») ⌝ }
+    ensures { λ r. ⌜
+        layoutSays r ≡ unless (stepCauses 64 (sizedOf own) (layoutOf field) «repr_packed»)
+        (extended (sizedOf own) (layoutOf field) «repr_packed»)
+        ⌝ }
 {
     if bad_packing(repr_packed) {
         return LayoutAnswer::Refused(refusal::PACKING_NOT_POWER_OF_TWO);
@@ -241,7 +261,10 @@ fn extend_checked(own: SizedLayout, field: DstLayout, repr_packed: u64) -> Layou
 // `extend` of a layout with a size: a composition keeps its three words at hand, where a whole layout would go by memory.
 pub fn extend_sized(own: SizedLayout, field: DstLayout, repr_packed: u64) -> LayoutAnswer
     ensures answer { λ r. ⌜ layoutSays r ≡ extendFor 64 (sizedOf own) (layoutOf field) «repr_packed» ⌝ }
-    ensures meaning { λ r. ⌜ Meets (extendCauses 64 (sizedOf own) (layoutOf field) «repr_packed») (Extended (sizedOf own) (layoutOf field) «repr_packed») (layoutSays r) ⌝ }
+    ensures meaning { λ r. ⌜
+        Meets (extendCauses 64 (sizedOf own) (layoutOf field) «repr_packed»)
+        (Extended (sizedOf own) (layoutOf field) «repr_packed») (layoutSays r)
+        ⌝ }
 {
     if util::is_power_of_two(own.align) {
         match field.check() {
@@ -302,7 +325,10 @@ impl DstLayout {
     // The layout with one member more, which stands at the least place that aligns it; no padding follows it.
     pub fn extend(self, field: DstLayout, repr_packed: u64) -> LayoutAnswer
         ensures answer { λ r. ⌜ layoutSays r ≡ extendFor 64 (layoutOf self) (layoutOf field) «repr_packed» ⌝ }
-        ensures meaning { λ r. ⌜ Meets (extendCauses 64 (layoutOf self) (layoutOf field) «repr_packed») (Extended (layoutOf self) (layoutOf field) «repr_packed») (layoutSays r) ⌝ }
+        ensures meaning { λ r. ⌜
+            Meets (extendCauses 64 (layoutOf self) (layoutOf field) «repr_packed»)
+            (Extended (layoutOf self) (layoutOf field) «repr_packed») (layoutSays r)
+            ⌝ }
     {
         let size_info = self.size_info;
         match size_info {

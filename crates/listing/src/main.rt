@@ -2,7 +2,8 @@
 use libc::STDIN_FILENO;
 use libc::STDOUT_FILENO;
 
-// Whether the input went on to its end, or filled the buffer. A read that failed has stopped read_full as the end does; at the end
+// Whether the input went on to its end, or filled the buffer. A read that failed has stopped read_full as the end does; at
+// the end
 // one more read gives 0 bytes.
 fn is_at_end(n: usize, room: usize) -> bool {
     if n == room {

@@ -28,7 +28,9 @@ token n c = decimal n ++ (c ∷ [])
 
 -- the six words of a layout: alignment, kind, size or base, o, e, word
 unfoldable pub wordsLine : Words → List ℕ
-wordsLine r = token (r .align) space ++ token (r .kind) space ++ token (r .size) space ++ token (r .offset) space ++ token (r .elem) space ++ token (r .word) newline
+wordsLine r =
+    token (r .align) space ++ token (r .kind) space ++ token (r .size) space
+    ++ token (r .offset) space ++ token (r .elem) space ++ token (r .word) newline
 
 -- `refused ` and `at `
 abbrev pub refusedText : List ℕ

@@ -6,7 +6,8 @@ ghost use lib.Seq.{sets};
 ghost use Rattle.io.specs.Counts.{Counts};
 ghost use Rattle.record.specs.View.{wordsIn};
 ghost use Rattle.compose.specs.View.{composeSays};
-ghost use Rattle.listing_line.specs.Line.{digitsOf, token, wordsLine, refusedText, atText, refusedLine, listFor, lineLength, lineInto};
+ghost use Rattle.listing_line.specs.Line.{digitsOf, token, wordsLine, refusedText, atText, refusedLine, listFor};
+ghost use Rattle.listing_line.specs.Line.{lineLength, lineInto};
 use compose::ComposeAnswer;
 use record::Words;
 use util::refusal;
@@ -23,7 +24,9 @@ const PLACES: usize = 20;
 // n in decimal from at on, in at most places digits: the place behind them.
 fn digits(out: &mut [u8], at: usize, n: u64, places: usize) -> usize
     requires { ⌜ (n < 10 ^ places) × (0 < places) × (at + places ≤ length (now out)) ⌝ }
-    ensures { λ r. ⌜ (r ≡ at + length (digitsOf places n)) × (now (out .exit) ≡ sets (now (out .entry)) at (digitsOf places n)) ⌝ }
+    ensures { λ r. ⌜
+        (r ≡ at + length (digitsOf places n)) × (now (out .exit) ≡ sets (now (out .entry)) at (digitsOf places n))
+        ⌝ }
 {
     if n < 10 {
         out[at] = 48 + n as u8;
@@ -48,7 +51,9 @@ fn put_token(out: &mut [u8], at: usize, n: u64, c: u8) -> usize
 // Six words as one line: its length.
 fn put_words(out: &mut [u8], w: Words) -> usize
     requires { ⌜ 126 ≤ length (now out) ⌝ }
-    ensures { λ r. ⌜ (r ≡ length (wordsLine (wordsIn w))) × (now (out .exit) ≡ sets (now (out .entry)) 0 (wordsLine (wordsIn w))) ⌝ }
+    ensures { λ r. ⌜
+        (r ≡ length (wordsLine (wordsIn w))) × (now (out .exit) ≡ sets (now (out .entry)) 0 (wordsLine (wordsIn w)))
+        ⌝ }
     ensures { λ r. ⌜ r ≤ 126 ⌝ }
 {
     let p1 = put_token(out, 0, w.align, b' ');
@@ -85,7 +90,9 @@ fn put_at_text(out: &mut [u8], at: usize)
 // A refusal as one line: its length.
 fn put_refusal(out: &mut [u8], number: u64, place: u64) -> usize
     requires { ⌜ 126 ≤ length (now out) ⌝ }
-    ensures { λ r. ⌜ (r ≡ length (refusedLine number place)) × (now (out .exit) ≡ sets (now (out .entry)) 0 (refusedLine number place)) ⌝ }
+    ensures { λ r. ⌜
+        (r ≡ length (refusedLine number place)) × (now (out .exit) ≡ sets (now (out .entry)) 0 (refusedLine number place))
+        ⌝ }
     ensures { λ r. ⌜ r ≤ 126 ⌝ }
 {
     put_refused_text(out);

@@ -1,4 +1,5 @@
--- Layouts made of numbers (document 01, module 4; the Reference's rules layout.properties.align and layout.properties.size). Assumes nothing.
+-- Layouts made of numbers (document 01, module 4; the Reference's rules layout.properties.align and layout.properties.size).
+-- Assumes nothing.
 use mathlib.Core.Path.{_≡_}
 use mathlib.Core.Bool.{Bool, true, cond, not}
 use mathlib.Core.List.{List, [], _∷_}

@@ -39,7 +39,11 @@ paddedMark a (fixed s) mark = mark && eqb (up s a) s
 paddedMark a (trailing t) mark = mark
 
 unfoldable pub padded : ℕ → Layout → Layout
-padded w l = record { align = l .align; info = paddedInfo w (l .align) (l .info); mark = paddedMark (l .align) (l .info) (l .mark) }
+padded w l = record {
+  align = l .align;
+  info = paddedInfo w (l .align) (l .info);
+  mark = paddedMark (l .align) (l .info) (l .mark);
+}
 
 -- the number that rounding up must not take past M
 abbrev pub paddingNeeds : ℕ → ℕ → Info → ℕ
@@ -53,7 +57,8 @@ padCauses w l = layoutCauses w l ++ (roundingPasses w (paddingNeeds w (l .align)
 unfoldable pub padFor : ℕ → Layout → Outcome Layout
 padFor w l = unless (padCauses w l) (padded w l)
 
--- u is the trailing layout t padded to a: where A is below a, the new base is the greatest multiple of a in the fixed part f, and the
+-- u is the trailing layout t padded to a: where A is below a, the new base is the greatest multiple of a in the fixed part f,
+-- and the
 -- new phase the rest of it; otherwise the base is rounded up to a. The offset and the element size stay.
 pub record PaddedTo (w a : ℕ) (t u : Trailing) : Type 0 where
   pub offset : u .offset ≡ t .offset
@@ -92,7 +97,8 @@ DynamicPadding w (trailing t) = (HasSize w t 0 → ⊥) ⊎ ((sizeAt w t 0 ≡ t
 
 abbrev pub dynamicPadding : ℕ → Info → Bool
 dynamicPadding w (fixed s) = false
-dynamicPadding w (trailing t) = ltb (M w) (sizeAt w t 0) || (not (eqb (sizeAt w t 0) (t .offset)) || not (eqb (t .elem % A w t) 0))
+dynamicPadding w (trailing t) =
+    ltb (M w) (sizeAt w t 0) || (not (eqb (sizeAt w t 0) (t .offset)) || not (eqb (t .elem % A w t) 0))
 
 unfoldable pub dynamicFor : ℕ → Layout → Outcome Bool
 dynamicFor w l = unless (layoutCauses w l) (dynamicPadding w (l .info))

@@ -13,7 +13,9 @@ ghost use Rattle.trailing.specs.View.{trailingOf};
 ghost use Rattle.layout.specs.Layout.{trailing, noWord, layoutCauses};
 ghost use Rattle.layout.specs.Extend.{roundingPasses};
 ghost use Rattle.layout.specs.View.{infoOf, layoutOf, layoutSays, infoSays};
-ghost use Rattle.padding.specs.Pad.{fixedPart, coarser, finer, paddedTail, paddedInfo, paddedMark, padded, paddingNeeds, padCauses, padFor, Padded, staticFor, DynamicPadding, dynamicPadding, dynamicFor};
+ghost use Rattle.padding.specs.Pad.{fixedPart, coarser, finer, paddedTail, paddedInfo, paddedMark, padded};
+ghost use Rattle.padding.specs.Pad.{paddingNeeds, padCauses, padFor, Padded, staticFor, DynamicPadding};
+ghost use Rattle.padding.specs.Pad.{dynamicPadding, dynamicFor};
 use layout::Check;
 use layout::DstLayout;
 use layout::LayoutAnswer;
@@ -35,7 +37,10 @@ fn pad_coarser(
     align: u64,
 ) -> SizeInfoAnswer
     requires { ⌜ PowerOfTwo align × IsWord (tail .«size_rounding_align_and_phase» .0) «size_align» «size_phase» ⌝ }
-    ensures { λ r. ⌜ infoSays r ≡ unless (roundingPasses 64 (fixedPart 64 (trailingOf tail)) ∷ []) (trailing (coarser 64 align (trailingOf tail))) ⌝ }
+    ensures { λ r. ⌜
+        infoSays r ≡ unless (roundingPasses 64 (fixedPart 64 (trailingOf tail)) ∷ [])
+        (trailing (coarser 64 align (trailingOf tail)))
+        ⌝ }
 {
     match layout::round_up(tail.size_base, size_align) {
         Answer::Number(rounded_base) => {
@@ -59,7 +64,9 @@ fn pad_coarser(
 // Padding to an alignment that divides that of the rounding word: what the word rounds is a multiple of it already.
 fn pad_finer(tail: TrailingSliceLayout, align: u64) -> SizeInfoAnswer
     requires { ⌜ PowerOfTwo align ⌝ }
-    ensures { λ r. ⌜ infoSays r ≡ unless (roundingPasses 64 (up (tail .«size_base») align) ∷ []) (trailing (finer align (trailingOf tail))) ⌝ }
+    ensures { λ r. ⌜
+        infoSays r ≡ unless (roundingPasses 64 (up (tail .«size_base») align) ∷ []) (trailing (finer align (trailingOf tail)))
+        ⌝ }
 {
     let word = tail.size_rounding_align_and_phase;
     match layout::round_up(tail.size_base, align) {
@@ -75,7 +82,10 @@ fn pad_finer(tail: TrailingSliceLayout, align: u64) -> SizeInfoAnswer
 
 fn pad_trailing(tail: TrailingSliceLayout, align: u64) -> SizeInfoAnswer
     requires { ⌜ PowerOfTwo align × (0 < tail .«size_rounding_align_and_phase» .0) ⌝ }
-    ensures { λ r. ⌜ infoSays r ≡ unless (roundingPasses 64 (paddingNeeds 64 align (trailing (trailingOf tail))) ∷ []) (trailing (paddedTail 64 align (trailingOf tail))) ⌝ }
+    ensures { λ r. ⌜
+        infoSays r ≡ unless (roundingPasses 64 (paddingNeeds 64 align (trailing (trailingOf tail))) ∷ [])
+        (trailing (paddedTail 64 align (trailingOf tail)))
+        ⌝ }
 {
     let word = tail.size_rounding_align_and_phase;
     match word.components() {
@@ -143,7 +153,10 @@ fn dynamic_padding(size_info: SizeInfo) -> Decision
 
 fn pad_checked(layout: DstLayout) -> LayoutAnswer
     requires { ⌜ None (layoutCauses 64 (layoutOf layout)) ⌝ }
-    ensures { λ r. ⌜ layoutSays r ≡ unless (roundingPasses 64 (paddingNeeds 64 (layout .align) (infoOf (layout .«size_info»))) ∷ []) (padded 64 (layoutOf layout)) ⌝ }
+    ensures { λ r. ⌜
+        layoutSays r ≡ unless (roundingPasses 64 (paddingNeeds 64 (layout .align) (infoOf (layout .«size_info»))) ∷ [])
+        (padded 64 (layoutOf layout))
+        ⌝ }
 {
     let align = layout.align;
     let size_info = layout.size_info;
@@ -182,7 +195,9 @@ pub fn pad_to_align(layout: DstLayout) -> LayoutAnswer
 // Whether padding between the members is not ruled out. A yes does not mean that there is some.
 pub fn requires_static_padding(layout: DstLayout) -> Decision
     ensures answer { λ r. ⌜ decisionSays r ≡ staticFor 64 (layoutOf layout) ⌝ }
-    ensures meaning { λ r. ⌜ Meets (layoutCauses 64 (layoutOf layout)) (Tells (layoutOf layout .mark ≡ false)) (decisionSays r) ⌝ }
+    ensures meaning { λ r. ⌜
+        Meets (layoutCauses 64 (layoutOf layout)) (Tells (layoutOf layout .mark ≡ false)) (decisionSays r)
+        ⌝ }
 {
     match layout.check() {
         Check::Accepted => {
@@ -196,7 +211,9 @@ pub fn requires_static_padding(layout: DstLayout) -> Decision
 // Whether padding after the elements is not ruled out at every count. A yes does not mean that a count needs some.
 pub fn requires_dynamic_padding(layout: DstLayout) -> Decision
     ensures answer { λ r. ⌜ decisionSays r ≡ dynamicFor 64 (layoutOf layout) ⌝ }
-    ensures meaning { λ r. ⌜ Meets (layoutCauses 64 (layoutOf layout)) (Tells (DynamicPadding 64 (infoOf (layout .«size_info»)))) (decisionSays r) ⌝ }
+    ensures meaning { λ r. ⌜
+        Meets (layoutCauses 64 (layoutOf layout)) (Tells (DynamicPadding 64 (infoOf (layout .«size_info»)))) (decisionSays r)
+        ⌝ }
 {
     let size_info = layout.size_info;
     match layout.check() {

@@ -35,7 +35,9 @@ wordsAt s i = record {
 }
 
 abbrev pub recordBytes : Words → List ℕ
-recordBytes r = wordBytes (r .align) ++ wordBytes (r .kind) ++ wordBytes (r .size) ++ wordBytes (r .offset) ++ wordBytes (r .elem) ++ wordBytes (r .word)
+recordBytes r =
+    wordBytes (r .align) ++ wordBytes (r .kind) ++ wordBytes (r .size)
+    ++ wordBytes (r .offset) ++ wordBytes (r .elem) ++ wordBytes (r .word)
 
 -- the kind: 0 fixed, 1 fixed with the mark, 2 trailing, 3 trailing with the mark
 abbrev pub greatestKind : ℕ
@@ -63,7 +65,9 @@ wordsOf l = infoWords (l .align) (kindOf (l .info) (l .mark)) (l .info)
 
 -- the layout of words that are not refused
 abbrev pub wordsInfo : Words → Info
-wordsInfo r = cond (isFixedKind (r .kind)) (fixed (r .size)) (trailing (record { offset = r .offset; elem = r .elem; base = r .size; word = r .word }))
+wordsInfo r =
+    cond (isFixedKind (r .kind)) (fixed (r .size))
+    (trailing (record { offset = r .offset; elem = r .elem; base = r .size; word = r .word }))
 
 abbrev pub wordsLayout : Words → Layout
 wordsLayout r = record { align = r .align; info = wordsInfo r; mark = isMarkedKind (r .kind) }

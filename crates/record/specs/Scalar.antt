@@ -1,4 +1,5 @@
--- Scalars by code (document 01, module 7; the Reference's rules layout.primitive.size and layout.primitive.align). Assumes nothing.
+-- Scalars by code (document 01, module 7; the Reference's rules layout.primitive.size and layout.primitive.align). Assumes
+-- nothing.
 use mathlib.Core.Bool.{true}
 use mathlib.Core.List.{List, [], _∷_}
 use Prim.Native.Nat.{ℕ, _<_}

@@ -1,4 +1,5 @@
--- The functions of trailing layouts (document 01, module 3): their refusals, what each gives at w bits, and what that means. Assumes nothing.
+-- The functions of trailing layouts (document 01, module 3): their refusals, what each gives at w bits, and what that means.
+-- Assumes nothing.
 use mathlib.Core.Path.{_≡_}
 use mathlib.Core.Bool.{Bool}
 use mathlib.Core.List.{List, [], _∷_}

@@ -9,7 +9,12 @@ use Rattle.trailing.specs.declared.AdvanceAnswer.{AdvanceAnswer}
 use Rattle.trailing.specs.declared.AdvanceAnswer.the-variants as Advance
 
 abbrev pub trailingOf : TrailingSliceLayout → Trailing
-trailingOf l = record { offset = l .offset; elem = l .«elem_size»; base = l .«size_base»; word = l .«size_rounding_align_and_phase» .0 }
+trailingOf l = record {
+  offset = l .offset;
+  elem = l .«elem_size»;
+  base = l .«size_base»;
+  word = l .«size_rounding_align_and_phase» .0;
+}
 
 abbrev pub sizeSays : SizeAnswer → Outcome ℕ
 sizeSays (Size.Size n) = answered n

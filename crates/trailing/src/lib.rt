@@ -8,7 +8,9 @@ ghost use Rattle.util.specs.Refusal.{answered, Meets};
 ghost use Rattle.util.specs.View.{numberSays, decisionSays};
 ghost use Rattle.rounding.specs.Word.{IsWord, wordCauses};
 ghost use Rattle.trailing.specs.Sequence.{sameStart, sameStride, sameSequence};
-ghost use Rattle.trailing.specs.Calls.{sizeOffsetFor, GreatestIn, SizeOffset, maxTrailingCauses, maxTrailingFor, paddingForElems, PaddingAt, sizeCauses, sizeFor, advanceCauses, advanceFor, Advanced, sameCauses, sameFor, FoundSame};
+ghost use Rattle.trailing.specs.Calls.{sizeOffsetFor, GreatestIn, SizeOffset, maxTrailingCauses, maxTrailingFor};
+ghost use Rattle.trailing.specs.Calls.{paddingForElems, PaddingAt, sizeCauses, sizeFor, advanceCauses};
+ghost use Rattle.trailing.specs.Calls.{advanceFor, Advanced, sameCauses, sameFor, FoundSame};
 ghost use Rattle.trailing.specs.Size.{sizeAt, HasSize};
 ghost use Rattle.trailing.specs.View.{trailingOf, sizeSays, advanceSays};
 use rounding::ComponentsAnswer;
@@ -59,8 +61,9 @@ fn trailing_remainder(elems: u64, elem: u64, align: u64) -> u64
     util::wrapping_mul(elems, elem_remainder) & size_mask
 }
 
-// Whether elements of e bytes add the same to two layouts at every count. The larger of two alignments is a multiple of the
-// smaller, so that a multiple of it is one of both.
+// The part of the comparison that looks past the sizes at 0: the element size is a multiple of the larger alignment, or both
+// alignments and both phases are equal. Either is enough for equal sizes at every count, and neither is needed. The larger of
+// two alignments is a multiple of the smaller, so that a multiple of it is one of both.
 fn same_stride(elem: u64, align: u64, phase: u64, align2: u64, phase2: u64) -> bool
     requires { ⌜ PowerOfTwo align × PowerOfTwo align2 ⌝ }
     ensures { λ r. ⌜ r ≡ sameStride elem align phase align2 phase2 ⌝ }
@@ -127,7 +130,10 @@ impl TrailingSliceLayout {
     // The greatest number of trailing bytes whose size is at most available_bytes.
     pub fn max_trailing_bytes(self, available_bytes: u64) -> Answer
         ensures answer { λ r. ⌜ numberSays r ≡ maxTrailingFor 64 (trailingOf self) «available_bytes» ⌝ }
-        ensures meaning { λ r. ⌜ Meets (maxTrailingCauses 64 (trailingOf self) «available_bytes») (GreatestIn 64 (trailingOf self) «available_bytes») (numberSays r) ⌝ }
+        ensures meaning { λ r. ⌜
+            Meets (maxTrailingCauses 64 (trailingOf self) «available_bytes»)
+            (GreatestIn 64 (trailingOf self) «available_bytes») (numberSays r)
+            ⌝ }
     {
         let word = self.size_rounding_align_and_phase;
         match word.components() {
@@ -157,7 +163,9 @@ impl TrailingSliceLayout {
     // The size at elems less the end of the elements, modulo 2^64.
     pub fn padding_for_elems(self, elems: u64) -> Answer
         ensures answer { λ r. ⌜ numberSays r ≡ paddingForElems 64 (trailingOf self) elems ⌝ }
-        ensures meaning { λ r. ⌜ Meets (wordCauses (trailingOf self .word)) (PaddingAt 64 (trailingOf self) elems) (numberSays r) ⌝ }
+        ensures meaning { λ r. ⌜
+            Meets (wordCauses (trailingOf self .word)) (PaddingAt 64 (trailingOf self) elems) (numberSays r)
+            ⌝ }
     {
         let word = self.size_rounding_align_and_phase;
         match word.components() {
@@ -170,7 +178,10 @@ impl TrailingSliceLayout {
 
     // The size where the trailing bytes are at most what fits: the end of the elements and the padding after it.
     fn size_at(self, align: u64, phase: u64, elems: u64, bytes: u64) -> SizeAnswer
-        requires { ⌜ IsWord (self .«size_rounding_align_and_phase» .0) align phase × (bytes ≡ elems * self .«elem_size») × HasSize 64 (trailingOf self) elems ⌝ }
+        requires { ⌜
+            IsWord (self .«size_rounding_align_and_phase» .0) align phase × (bytes ≡ elems * self .«elem_size») × HasSize 64
+            (trailingOf self) elems
+            ⌝ }
         ensures { λ r. ⌜ sizeSays r ≡ answered (sizeAt 64 (trailingOf self) elems) ⌝ }
     {
         match self.padding_for_elems_at(align, phase, elems) {
@@ -202,7 +213,9 @@ impl TrailingSliceLayout {
     // The size at elems.
     pub fn size_for_elems(self, elems: u64) -> SizeAnswer
         ensures answer { λ r. ⌜ sizeSays r ≡ sizeFor 64 (trailingOf self) elems ⌝ }
-        ensures meaning { λ r. ⌜ Meets (sizeCauses 64 (trailingOf self) elems) (λ s. s ≡ sizeAt 64 (trailingOf self) elems) (sizeSays r) ⌝ }
+        ensures meaning { λ r. ⌜
+            Meets (sizeCauses 64 (trailingOf self) elems) (λ s. s ≡ sizeAt 64 (trailingOf self) elems) (sizeSays r)
+            ⌝ }
     {
         let word = self.size_rounding_align_and_phase;
         match word.components() {
@@ -238,7 +251,9 @@ impl TrailingSliceLayout {
     // The layout advanced by bytes, with another element size: its sizes are the old ones with that many bytes more.
     pub fn advance(self, bytes: u64, elem_size: u64) -> AdvanceAnswer
         ensures answer { λ r. ⌜ advanceSays r ≡ advanceFor 64 (trailingOf self) bytes «elem_size» ⌝ }
-        ensures meaning { λ r. ⌜ Meets (advanceCauses 64 (trailingOf self) bytes) (Advanced 64 (trailingOf self) bytes «elem_size») (advanceSays r) ⌝ }
+        ensures meaning { λ r. ⌜
+            Meets (advanceCauses 64 (trailingOf self) bytes) (Advanced 64 (trailingOf self) bytes «elem_size») (advanceSays r)
+            ⌝ }
     {
         let word = self.size_rounding_align_and_phase;
         match word.components() {
@@ -271,7 +286,10 @@ impl TrailingSliceLayout {
         align2: u64,
         phase2: u64,
     ) -> bool
-        requires { ⌜ IsWord (self .«size_rounding_align_and_phase» .0) align phase × IsWord (other .«size_rounding_align_and_phase» .0) align2 phase2 ⌝ }
+        requires { ⌜
+            IsWord (self .«size_rounding_align_and_phase» .0) align phase × IsWord (other .«size_rounding_align_and_phase» .0)
+            align2 phase2
+            ⌝ }
         ensures { λ r. ⌜ r ≡ sameSequence 64 (trailingOf self) (trailingOf other) ⌝ }
     {
         let elem = self.elem_size;
@@ -288,7 +306,10 @@ impl TrailingSliceLayout {
     // Whether the two layouts are found to have the same size at every count. A no does not mean that they have not.
     pub fn has_same_size_sequence(self, other: TrailingSliceLayout) -> Decision
         ensures answer { λ r. ⌜ decisionSays r ≡ sameFor 64 (trailingOf self) (trailingOf other) ⌝ }
-        ensures meaning { λ r. ⌜ Meets (sameCauses (trailingOf self) (trailingOf other)) (FoundSame 64 (trailingOf self) (trailingOf other)) (decisionSays r) ⌝ }
+        ensures meaning { λ r. ⌜
+            Meets (sameCauses (trailingOf self) (trailingOf other)) (FoundSame 64 (trailingOf self) (trailingOf other))
+            (decisionSays r)
+            ⌝ }
     {
         let word = self.size_rounding_align_and_phase;
         let other_word = other.size_rounding_align_and_phase;
