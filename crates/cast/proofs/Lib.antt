@@ -3,4 +3,3 @@ pub mod Grants
 pub mod Exact
 pub mod Told
 pub mod Only
-pub mod At32

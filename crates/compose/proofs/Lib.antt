@@ -1,3 +1,2 @@
 -- Laws of compositions, over any width.
 pub mod Compositions
-pub mod At32

@@ -7,7 +7,7 @@ ghost use Rattle.layout.specs.Extend.{extendFor};
 ghost use Rattle.layout.specs.View.{layoutOf, layoutSays};
 ghost use Rattle.padding.specs.Pad.{padFor, staticFor, dynamicFor};
 ghost use Rattle.record.specs.Record.{wordsFor, decodeFor, encodeWordsFor, encodedWordsInto};
-ghost use Rattle.record.specs.Scalar.{target64, scalarFor};
+ghost use Rattle.scalar.specs.Scalar.{target64, scalarFor};
 ghost use Rattle.record.specs.View.{wordsIn};
 ghost use Rattle.compose.specs.Compose.{composeFor, structFor};
 ghost use Rattle.compose.specs.View.{composeSays};
@@ -258,7 +258,7 @@ pub extern "C" fn lukaripe_encode(layout: Layout, out: &mut [u8]) -> u64
 pub extern "C" fn lukaripe_scalar(code: u64) -> LayoutOut
     ensures { λ r. ⌜ r ≡ layoutOut (scalarFor target64 code) ⌝ }
 {
-    layout_out(record::scalar(code))
+    layout_out(scalar::scalar(code))
 }
 
 // The layout of a member list before its closing padding.

@@ -3,4 +3,3 @@ pub mod Passes
 pub mod Layouts
 pub mod Steps
 pub mod Only
-pub mod At32

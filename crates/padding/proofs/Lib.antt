@@ -3,4 +3,3 @@ pub mod Padding
 pub mod Settled
 pub mod Marks
 pub mod Only
-pub mod At32

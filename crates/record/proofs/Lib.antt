@@ -1,7 +1,5 @@
--- Laws of records and scalars, over any width.
+-- Laws of records, over any width.
 pub mod LittleEndian
 pub mod Records
-pub mod Scalars
 pub mod RoundTrips
 pub mod Only
-pub mod At32

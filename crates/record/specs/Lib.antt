@@ -1,4 +1,3 @@
 pub mod Bytes
 pub mod Record
-pub mod Scalar
 pub mod View

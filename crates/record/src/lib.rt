@@ -1,9 +1,9 @@
-// Records of layouts, and scalars by code.
+// Records of layouts.
 ghost use mathlib.Core.Path.{_≡_};
 ghost use mathlib.Core.Bool.{cond, _&&_};
 ghost use Prim.Native.Nat.{_+_, _≤_, _<_};
 ghost use lib.Dec.{eqb};
-ghost use lib.ListN.{length, getD};
+ghost use lib.ListN.{length};
 ghost use lib.Seq.{sets};
 ghost use Rattle.util.specs.Refusal.{Meets};
 ghost use Rattle.layout.specs.View.{layoutOf, layoutSays};
@@ -11,7 +11,6 @@ ghost use Rattle.record.specs.Bytes.{wordAt, wordBytes};
 ghost use Rattle.record.specs.Record.{wordsAt, recordBytes, wordsOf, wordsCauses, recordCauses, wordsFor};
 ghost use Rattle.record.specs.Record.{decodeFor, Decodes};
 ghost use Rattle.record.specs.Record.{encodeFor, encodedInto, encodeWordsFor, encodedWordsInto};
-ghost use Rattle.record.specs.Scalar.{target64, scalarCauses, scalarLayout, scalarFor};
 ghost use Rattle.record.specs.View.{wordsIn, encodeSays};
 use layout::DstLayout;
 use layout::LayoutAnswer;
@@ -255,32 +254,4 @@ pub fn encode(l: DstLayout, out: &mut [u8]) -> EncodeAnswer
     ensures bytes { λ _. ⌜ now (out .exit) ≡ encodedInto 64 (layoutOf l) (now (out .entry)) ⌝ }
 {
     encode_words(words_from_layout(l), out)
-}
-
-// The sizes of the scalars by code, which are their alignments too.
-const SCALAR_SIZES: [u64; 9] = [1, 2, 4, 8, 4, 8, 4, 1, 8];
-
-pub const GREATEST_SCALAR_CODE: u64 = 8;
-
-fn scalar_size(code: usize) -> u64
-    requires { ⌜ code < 9 ⌝ }
-    ensures { λ r. ⌜ r ≡ getD (target64 .sizes) code 0 ⌝ }
-{
-    SCALAR_SIZES[code]
-}
-
-// The layout of a scalar.
-pub fn scalar(code: u64) -> LayoutAnswer
-    ensures answer { λ r. ⌜ layoutSays r ≡ scalarFor target64 code ⌝ }
-    ensures meaning { λ r. ⌜ Meets (scalarCauses code) (λ l. l ≡ scalarLayout target64 code) (layoutSays r) ⌝ }
-{
-    if code > GREATEST_SCALAR_CODE {
-        return LayoutAnswer::Refused(refusal::SCALAR_CODE);
-    }
-    let size = scalar_size(code as usize);
-    LayoutAnswer::Layout(DstLayout {
-        align: size,
-        size_info: SizeInfo::Sized { size },
-        statically_shallow_unpadded: true,
-    })
 }

@@ -2,4 +2,3 @@
 pub mod Words
 pub mod Told
 pub mod Only
-pub mod At32

@@ -3,4 +3,3 @@ pub mod Sequences
 pub mod Calls
 pub mod Told
 pub mod Only
-pub mod At32

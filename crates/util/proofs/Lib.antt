@@ -8,4 +8,3 @@ pub mod Products
 pub mod Told
 pub mod Tables
 pub mod Only
-pub mod At32

@@ -1,4 +1,4 @@
--- The laws of this crate at 32 bits: each holds at any width. Assumes nothing.
+-- The laws of `guarantee` at 32 bits: each holds at any width. Assumes nothing.
 use mathlib.Core.Path.{_≡_}
 use Prim.Native.Nat.{_^_, _<_}
 use lib.Dec.{lit<}

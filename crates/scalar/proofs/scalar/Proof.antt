@@ -1,12 +1,12 @@
--- `record::scalar` meets its contract. Assumes nothing.
+-- `scalar::scalar` meets its contract. Assumes nothing.
 use borrow.Author.Tests.{lt-ltb, le-ltb}
 use Rattle.util.specs.Refusal.{unless}
 use Rattle.util.proofs.Refusals.{told}
-use Rattle.record.specs.Scalar.{target64, scalarFor}
-use Rattle.record.proofs.Scalars.{scalar-meets}
+use Rattle.scalar.specs.Scalar.{target64, scalarFor}
+use Rattle.scalar.proofs.Scalars.{scalar-meets}
 use borrow.Author.Needs.{needs}
-use Rattle.record.proofs.scalar.Statement.{statement}
-use Rattle.record.proofs.scalar.Tie as tie
+use Rattle.scalar.proofs.scalar.Statement.{statement}
+use Rattle.scalar.proofs.scalar.Tie as tie
 
 returns : tie.Need-returns
 unfolding scalarFor unless

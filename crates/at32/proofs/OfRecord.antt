@@ -1,4 +1,4 @@
--- The laws of this crate at 32 bits: each holds at any width. Assumes nothing.
+-- The laws of `record` at 32 bits: each holds at any width. Assumes nothing.
 use mathlib.Core.Path.{_≡_}
 use mathlib.Core.Bool.{true, false, Bool}
 use mathlib.Core.List.{List, [], _∷_}

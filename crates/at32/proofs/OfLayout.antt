@@ -1,4 +1,4 @@
--- The laws of this crate at 32 bits: each holds at any width. Assumes nothing.
+-- The laws of `layout` at 32 bits: each holds at any width. Assumes nothing.
 use mathlib.Core.Path.{_≡_}
 use mathlib.Core.List.{[], _∷_}
 use Prim.Native.Nat.{ℕ, _≤_, _<_, _^_}

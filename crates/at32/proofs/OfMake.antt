@@ -1,11 +1,11 @@
--- The laws of this crate at 32 bits: each holds at any width. Assumes nothing.
+-- The laws of `make` at 32 bits: each holds at any width. Assumes nothing.
 use mathlib.Core.Path.{_≡_}
 use mathlib.Core.Bool.{Bool}
 use Prim.Native.Nat.{ℕ, _^_, _<_}
 use Rattle.util.specs.Refusal.{Meets, Decided}
 use Rattle.util.specs.Helpers.{alignCauses}
 use Rattle.make.specs.Make.{asked, emptyLayout, newZstFor, typeCauses, typeLayout, typeFor, sliceLayout, sliceFor}
 use Rattle.make.proofs.Made as Made
 
 pub zst-meets : (a : ℕ) → asked a < 2 ^ 32 → Meets (alignCauses 32 (asked a)) (λ l. l ≡ emptyLayout a) (newZstFor 32 a)
 zst-meets = Made.zst-meets 32

@@ -1,11 +1,11 @@
--- The laws of this crate at 32 bits: each holds at any width. Assumes nothing.
+-- The laws of `rounding` at 32 bits: each holds at any width. Assumes nothing.
 use mathlib.Core.Path.{_≡_}
 use Prim.Native.Nat.{ℕ, _+_, _-_, _*_, _%_, _^_, _≤_, _<_}
 use lib.Count.{leadingZeros}
 use Rattle.util.specs.Power.{PowerOfTwo}
 use Rattle.util.specs.Refusal.{answered, Meets}
 use Rattle.rounding.specs.Word.{IsWord, highestBit, alignOf, phaseOf, newCauses, wordCauses, newFor, componentsFor, alignFor, PartsOf, AlignOf}
 use Rattle.rounding.proofs.Words as Words
 
 pub highest : (n : ℕ) → 0 < n → n < 2 ^ 32 → IsWord n (highestBit 32 n) (n - highestBit 32 n)
 highest = Words.highest 32

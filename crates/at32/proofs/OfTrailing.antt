@@ -1,29 +1,29 @@
--- The laws of this crate at 32 bits: each holds at any width. Assumes nothing.
+-- The laws of `trailing` at 32 bits: each holds at any width. Assumes nothing.
 use mathlib.Core.Path.{_≡_}
 use Prim.Native.Nat.{ℕ, _+_, _-_, _*_, _%_, _^_, _≤_, _<_}
 use lib.Bits.{bitAnd}
 use Rattle.util.specs.Power.{PowerOfTwo}
 use Rattle.util.specs.Round.{down, padding, up}
 use Rattle.trailing.specs.Size.{Trailing, A, p, sizeAt, HasSize, sizeWith, sizeOffset}
 use Rattle.trailing.specs.Count.{GreatestCount, countWithin}
 use Rattle.trailing.specs.Calls.{PaddingAt, paddingAt, sizeOffsetFor, SizeOffset, maxTrailingCauses, maxTrailingFor, GreatestIn, paddingForElems, sizeCauses, sizeFor, advanceCauses, advanced, advanceFor, Advanced, sameCauses, sameFor, FoundSame}
 use Rattle.util.specs.Refusal.{Tells, answered, refused, Meets}
 use Rattle.trailing.specs.Sequence.{EqualSizes, SameStart, sameStart, SameSequence, sameSequence}
 use Rattle.util.specs.Width.{M}
 use Rattle.rounding.specs.Word.{IsWord, wordCauses}
 use Rattle.util.specs.View.{numberSays}
 use Rattle.util.specs.declared.Answer.{Answer}
 use Rattle.util.specs.declared.Answer.the-variants as Answer
 use Rattle.trailing.specs.View.{trailingOf, sizeSays, advanceSays}
 use Rattle.trailing.specs.declared.TrailingSliceLayout.{TrailingSliceLayout}
 use Rattle.trailing.specs.declared.AdvanceAnswer.{AdvanceAnswer}
 use Rattle.trailing.specs.declared.AdvanceAnswer.the-variants as Advance
 use Rattle.trailing.specs.declared.SizeAnswer.{SizeAnswer}
 use Rattle.trailing.specs.declared.SizeAnswer.the-variants as Size
 use Rattle.trailing.proofs.Sizes as Sizes
 use Rattle.trailing.proofs.Sequences as Sequences
 use Rattle.trailing.proofs.Calls as Calls
 use Rattle.trailing.proofs.Told as Told
 
 pub greatest-count : (t : Trailing) (L : ℕ) → 0 < A 32 t → 0 < t .elem → sizeAt 32 t 0 ≤ L → GreatestCount 32 t L (countWithin 32 t L)
 greatest-count = Sizes.greatest-count 32

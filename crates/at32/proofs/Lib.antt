@@ -1,0 +1,11 @@
+-- The public laws of each crate at 32 bits.
+mod OfUtil
+mod OfRounding
+mod OfTrailing
+mod OfLayout
+mod OfPadding
+mod OfMake
+mod OfRecord
+mod OfCompose
+mod OfCast
+mod OfGuarantee

@@ -1,0 +1,2 @@
+-- Laws of scalars, over any target.
+pub mod Scalars
