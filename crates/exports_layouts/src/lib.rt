@@ -63,7 +63,7 @@ pub fn layout_in(l: Layout) -> LayoutAnswer
     })
 }
 
-// `extend`, of which the compiler inlines the way of a layout with a size.
+// `extend`, by the functions of its two kinds, which the compiler inlines: a call would lend both layouts by memory.
 fn with_member(l: DstLayout, m: DstLayout, repr_packed: u64) -> LayoutAnswer
     ensures { λ r. ⌜ layoutSays r ≡ extendFor 64 (layoutOf l) (layoutOf m) «repr_packed» ⌝ }
 {
@@ -78,7 +78,13 @@ fn with_member(l: DstLayout, m: DstLayout, repr_packed: u64) -> LayoutAnswer
             m,
             repr_packed,
         ),
-        SizeInfo::SliceDst(_) => l.extend(m, repr_packed),
+        SizeInfo::SliceDst(tail) => LayoutAnswer::Refused(layout::extend_trailing(
+            l.align,
+            tail,
+            l.statically_shallow_unpadded,
+            m,
+            repr_packed,
+        )),
     }
 }
 

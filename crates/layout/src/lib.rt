@@ -276,6 +276,27 @@ pub fn extend_sized(own: SizedLayout, field: DstLayout, repr_packed: u64) -> Lay
     }
 }
 
+// `extend` of a trailing layout, which is always refused: the number.
+pub fn extend_trailing(
+    align: u64,
+    tail: TrailingSliceLayout,
+    unpadded: bool,
+    field: DstLayout,
+    repr_packed: u64,
+) -> u64
+    ensures { λ r. ⌜
+        refused r ≡ extendFor 64 (record { align = align; info = trailing (trailingOf tail); mark = unpadded })
+        (layoutOf field) «repr_packed»
+        ⌝ }
+{
+    let own = DstLayout {
+        align,
+        size_info: SizeInfo::SliceDst(tail),
+        statically_shallow_unpadded: unpadded,
+    };
+    own.after_trailing(field, repr_packed)
+}
+
 impl DstLayout {
     // Whether the layout is one: its alignment is a power of two and its rounding word, if it has one, is not 0.
     pub fn check(self) -> Check

@@ -9,17 +9,17 @@ enum-known-size-info c = search needs
 extend-sized-requires : tie.Need-extend-sized-requires
 extend-sized-requires c κs = search needs
 
-enum-told : tie.Need-enum-told
-enum-told c = search needs
+enum-known-size-info-2 : tie.Need-enum-known-size-info-2
+enum-known-size-info-2 c = search needs
 
-extend-requires : tie.Need-extend-requires
-extend-requires c κs = search needs
+extend-trailing-requires : tie.Need-extend-trailing-requires
+extend-trailing-requires c κs = search needs
 
 returns : tie.Need-returns
 returns c = simp (c .before .before .size-info .given .1) (c .extend-sized .ensures .0)
 
 returns-2 : tie.Need-returns-2
-returns-2 c = c .extend .ensures .0
+returns-2 c = simp (c .before .before .size-info2 .given .1) (c .extend-trailing .ensures)
 
 pub with-member-spec : {M : Type 1} → statement M
 with-member-spec =
@@ -27,7 +27,7 @@ with-member-spec =
     (tie.spec
     enum-known-size-info
     extend-sized-requires
-    enum-told
-    extend-requires
+    enum-known-size-info-2
+    extend-trailing-requires
     returns
     returns-2)
