@@ -8,4 +8,6 @@ mod OfMake
 mod OfRecord
 mod OfCompose
 mod OfCast
+mod OfShift
+mod OfConvert
 mod OfGuarantee

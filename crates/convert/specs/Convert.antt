@@ -1,17 +1,17 @@
 -- Conversions (document 01, module 6): when a value of one layout may be read as another, and the count it then has. Assumes
 -- nothing.
 use mathlib.Core.Path.{_≡_}
-use mathlib.Core.Bool.{Bool, true, false, cond, _&&_}
+use mathlib.Core.Bool.{Bool, true, false, cond}
 use mathlib.Core.List.{List, [], _∷_, _++_}
-use mathlib.Core.Logic.{_⊎_}
-use Prim.Native.Nat.{ℕ, _+_, _-_, _*_, _/_, _%_, _≤_, _<_}
-use lib.Dec.{eqb, leb, ltb}
+use Prim.Native.Nat.{ℕ, _+_, _*_, _/_, _%_, _≤_, _<_}
+use lib.Dec.{eqb, ltb}
 use Rattle.util.specs.Width.{M}
 use Rattle.util.specs.Refusal.{Outcome, answered, refused, Cause, unless}
-use Rattle.trailing.specs.Size.{Trailing, sizeAt, HasSize, sizeOffset}
+use Rattle.trailing.specs.Size.{Trailing}
 use Rattle.layout.specs.Layout.{Info, fixed, trailing, Layout, layoutCauses}
 use Rattle.cast.specs.Exact.{ExactCount, exactFor}
-use Rattle.convert.specs.Match.{Comparison, Matches, matchTest}
+use Rattle.shift.specs.Match.{Comparison}
+use Rattle.shift.specs.Shift.{Shift, by, missing, shiftOf, IsShift, IsMultiple}
 
 -- what an accepted conversion is: fixed to fixed; fixed to trailing, with the exact count; trailing to trailing, with the
 -- shift d and the multiple k
@@ -39,39 +39,6 @@ pub data Conversion : Type 0 where
   accepted : Params → Conversion
   none : NoConversion → Conversion
 
--- a shift that there is, or not
-pub data Shift : Type 0 where
-  by : ℕ → Shift
-  missing : Shift
-
--- the first way: the difference of the size offsets in whole target elements
-abbrev pub byOffset : ℕ → Trailing → Trailing → Shift
-byOffset w s t =
-    cond (leb (sizeOffset w t) (sizeOffset w s) && eqb ((sizeOffset w s - sizeOffset w t) % t .elem) 0)
-    (by ((sizeOffset w s - sizeOffset w t) / t .elem))
-    missing
-
--- the second way: the target's exact count of the source's size at 0, where that exists
-abbrev pub answeredBy : Outcome ℕ → Shift
-answeredBy (answered d) = by d
-answeredBy (refused k) = missing
-
-abbrev pub bySize : ℕ → Trailing → Layout → Shift
-bySize w s l = cond (leb (sizeAt w s 0) (M w)) (answeredBy (exactFor w l (sizeAt w s 0))) missing
-
--- a shift at which the two match
-abbrev pub matchedShift : ℕ → Comparison → Trailing → Trailing → Shift → Shift
-matchedShift w same s t (by d) = cond (matchTest w same s t d) (by d) missing
-matchedShift w same s t missing = missing
-
-abbrev pub orElse : Shift → Shift → Shift
-orElse (by d) other = by d
-orElse missing other = other
-
--- the shift from s to the trailing part t of the layout l: by the first way, else by the second
-unfoldable pub shiftOf : ℕ → Comparison → Trailing → Layout → Trailing → Shift
-shiftOf w same s l t = orElse (matchedShift w same s t (byOffset w s t)) (matchedShift w same s t (bySize w s l))
-
 abbrev pub withShift : ℕ → Shift → Conversion
 withShift k (by d) = accepted (unsizedToUnsized d k)
 withShift k missing = none noShift
@@ -97,25 +64,6 @@ kindRules w same (trailing s) l (trailing t) = trailingRules w same s l t
 -- document 01's rules: no conversion if the source alignment is lower
 unfoldable pub conversionOf : ℕ → Comparison → Layout → Layout → Conversion
 conversionOf w same s t = cond (ltb (s .align) (t .align)) (none sourceAlignLower) (kindRules w same (s .info) t (t .info))
-
--- the rules as statements: d is the shift of the first way; of the second, where the first gives none that matches
-pub record FirstWay (w : ℕ) (same : Comparison) (s t : Trailing) (d : ℕ) : Type 0 where
-  pub offsets : sizeOffset w s ≡ sizeOffset w t + d * t .elem
-  pub match : Matches w same s t d
-
-pub record SecondWay (w : ℕ) (same : Comparison) (s t : Trailing) (d : ℕ) : Type 0 where
-  pub notFirst : (c : ℕ) → FirstWay w same s t c → ⊥
-  pub start : HasSize w s 0
-  pub exact : ExactCount w t (sizeAt w s 0) d
-  pub match : Matches w same s t d
-
-abbrev pub IsShift : ℕ → Comparison → Trailing → Trailing → ℕ → Type 0
-IsShift w same s t d = FirstWay w same s t d ⊎ SecondWay w same s t d
-
-pub record IsMultiple (s t : Trailing) (k : ℕ) : Type 0 where
-  pub target : 0 < t .elem
-  pub least : 1 ≤ k
-  pub multiple : s .elem ≡ k * t .elem
 
 -- what the kinds of source and target ask
 pub data KindsConvert (w : ℕ) (same : Comparison) : Info → Info → Params → Type 0 where

@@ -1,4 +1,2 @@
-pub mod Match
 pub mod Convert
 pub mod View
-pub mod Stars

@@ -6,8 +6,6 @@ use Rattle.convert.specs.declared.CastParamsInner.{CastParamsInner}
 use Rattle.convert.specs.declared.CastParamsInner.the-variants as Inner
 use Rattle.convert.specs.declared.Reason.{Reason}
 use Rattle.convert.specs.declared.Reason.the-variants as Why
-use Rattle.convert.specs.declared.Shift as Code
-use Rattle.convert.specs.declared.Shift.the-variants as Shift
 use Rattle.convert.specs.declared.Computed.{Computed}
 use Rattle.convert.specs.declared.Computed.the-variants as Computed
 use Rattle.convert.specs.declared.ComputeAnswer.{ComputeAnswer}
@@ -27,10 +25,6 @@ reasonIn Why.TargetElemZero = Convert.targetElemZero
 reasonIn Why.SourceElemSmaller = Convert.sourceElemSmaller
 reasonIn Why.NoWholeMultiple = Convert.noWholeMultiple
 reasonIn Why.NoShift = Convert.noShift
-
-abbrev pub shiftIn : Code.Shift → Convert.Shift
-shiftIn (Shift.By d) = Convert.by d
-shiftIn Shift.Missing = Convert.missing
 
 abbrev pub computedIn : Computed → Conversion
 computedIn (Computed.Accepted q) = Convert.accepted (paramsIn q)

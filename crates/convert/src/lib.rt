@@ -1,28 +1,24 @@
 // Conversions, after zerocopy's CastParams: whether a value of one layout may be read as another, and the count it then has.
 ghost use mathlib.Core.Path.{_≡_};
-ghost use Prim.Native.Nat.{_+_, _<_};
 ghost use Rattle.util.specs.Refusal.{answered, None, Meets, unless};
-ghost use Rattle.util.specs.View.{numberSays, decisionSays};
+ghost use Rattle.util.specs.View.{numberSays};
 ghost use Rattle.trailing.specs.Sequence.{sameSequence};
-ghost use Rattle.trailing.specs.Calls.{sameCauses};
 ghost use Rattle.trailing.specs.View.{trailingOf};
 ghost use mathlib.Core.List.{[], _∷_};
-ghost use Rattle.layout.specs.Layout.{fixed, trailing, noWord, layoutCauses, FitsWidth};
+ghost use Rattle.layout.specs.Layout.{fixed, trailing, layoutCauses, FitsWidth};
 ghost use Rattle.layout.specs.View.{infoOf, layoutOf};
-ghost use Rattle.convert.specs.Match.{matchTest, matchFor, FoundMatch};
-ghost use Rattle.convert.specs.Convert.{Params, byOffset, bySize, matchedShift, shiftOf, trailingRules};
-ghost use Rattle.convert.specs.Convert.{kindRules, conversionOf, reasonNumber, noConversion, paramsOf};
+ghost use Rattle.convert.specs.Convert.{Params, trailingRules, kindRules, conversionOf, reasonNumber};
+ghost use Rattle.convert.specs.Convert.{noConversion, paramsOf};
 ghost use Rattle.convert.specs.Convert.{unsizedToUnsized, Converts, computeCauses, computeFor, converted};
 ghost use Rattle.convert.specs.Convert.{metadataCauses, metadataFor};
-ghost use Rattle.convert.specs.View.{paramsIn, reasonIn, shiftIn, computedIn, computeSays};
+ghost use Rattle.convert.specs.View.{paramsIn, reasonIn, computedIn, computeSays};
 use layout::Check;
 use layout::DstLayout;
 use layout::SizeInfo;
-use trailing::AdvanceAnswer;
-use trailing::SizeAnswer;
+use shift::Shift;
+use shift::ShiftAnswer;
 use trailing::TrailingSliceLayout;
 use util::Answer;
-use util::Decision;
 use util::Product;
 use util::refusal;
 
@@ -64,127 +60,17 @@ pub enum ComputeAnswer {
     Refused(u64),
 }
 
-// A shift in whole target elements, or none.
-pub enum Shift {
-    By(u64),
-    Missing,
-}
-
-// Whether the target, advanced by dst_base of its elements and given the source's, is found to have the source's sizes.
-fn sequences_match(src: TrailingSliceLayout, dst: TrailingSliceLayout, dst_base: u64) -> bool
-    requires { ⌜ (0 < trailingOf src .word) × (0 < trailingOf dst .word) ⌝ }
-    ensures { λ r. ⌜ r ≡ matchTest 64 (sameSequence 64) (trailingOf src) (trailingOf dst) «dst_base» ⌝ }
-{
-    let Product::Fits(base_bytes) = util::checked_mul(dst_base, dst.elem_size) else {
-        return false;
-    };
-    let AdvanceAnswer::Layout(shifted_dst) = dst.advance(base_bytes, src.elem_size) else {
-        return false;
-    };
-    match src.has_same_size_sequence(shifted_dst) {
-        Decision::Is(same) => same,
-        Decision::Refused(_) => false,
-    }
-}
-
-// The same of any two layouts.
-pub fn size_sequences_match(
-    src: TrailingSliceLayout,
-    dst: TrailingSliceLayout,
-    dst_base: u64,
-) -> Decision
-    ensures answer { λ r. ⌜ decisionSays r ≡ matchFor 64 (sameSequence 64) (trailingOf src) (trailingOf dst) «dst_base» ⌝ }
-    ensures meaning { λ r. ⌜
-        Meets (sameCauses (trailingOf src) (trailingOf dst))
-        (FoundMatch 64 (sameSequence 64) (trailingOf src) (trailingOf dst) «dst_base») (decisionSays r)
-        ⌝ }
-{
-    let src_word = src.size_rounding_align_and_phase;
-    if src_word.0 == 0 {
-        return Decision::Refused(refusal::ROUNDING_WORD_ZERO);
-    }
-    let dst_word = dst.size_rounding_align_and_phase;
-    if dst_word.0 == 0 {
-        return Decision::Refused(refusal::ROUNDING_WORD_ZERO);
-    }
-    Decision::Is(sequences_match(src, dst, dst_base))
-}
-
-// The first way: the difference of the size offsets in whole target elements.
-fn exact_offset_delta_elems(src: TrailingSliceLayout, dst: TrailingSliceLayout) -> Shift
-    requires { ⌜ (0 < trailingOf src .word) × (0 < trailingOf dst .word) × (0 < trailingOf dst .elem) ⌝ }
-    ensures { λ r. ⌜ shiftIn r ≡ byOffset 64 (trailingOf src) (trailingOf dst) ⌝ }
-{
-    let Answer::Number(src_offset) = src.size_offset() else {
-        return Shift::Missing;
-    };
-    let Answer::Number(dst_offset) = dst.size_offset() else {
-        return Shift::Missing;
-    };
-    if src_offset < dst_offset {
-        return Shift::Missing;
-    }
-    let delta = src_offset - dst_offset;
-    let dst_elem_size = dst.elem_size;
-    if delta % dst_elem_size == 0 {
-        Shift::By(delta / dst_elem_size)
-    } else {
-        Shift::Missing
-    }
-}
-
-// The second way: the target's exact count of the source's size at 0.
-fn offset_delta_by_size(src: TrailingSliceLayout, dst_layout: DstLayout) -> Shift
-    requires { ⌜ 0 < trailingOf src .word ⌝ }
-    ensures { λ r. ⌜ shiftIn r ≡ bySize 64 (trailingOf src) (layoutOf «dst_layout») ⌝ }
-{
-    let SizeAnswer::Size(src_zero_size) = src.size_for_elems(0) else {
-        return Shift::Missing;
-    };
-    match cast::metadata_for_exact_size(dst_layout, src_zero_size) {
-        Answer::Number(elems) => Shift::By(elems),
-        Answer::Refused(_) => Shift::Missing,
-    }
-}
-
-// A shift at which the sequences match.
-fn matching_shift(src: TrailingSliceLayout, dst: TrailingSliceLayout, shift: Shift) -> Shift
-    requires { ⌜ (0 < trailingOf src .word) × (0 < trailingOf dst .word) ⌝ }
-    ensures { λ r. ⌜ shiftIn r ≡ matchedShift 64 (sameSequence 64) (trailingOf src) (trailingOf dst) (shiftIn shift) ⌝ }
-{
-    match shift {
-        Shift::By(elems) => {
-            if sequences_match(src, dst, elems) {
-                Shift::By(elems)
-            } else {
-                Shift::Missing
-            }
-        }
-        Shift::Missing => Shift::Missing,
-    }
-}
-
-fn offset_delta_elems(
-    src: TrailingSliceLayout,
-    dst_layout: DstLayout,
-    dst: TrailingSliceLayout,
-) -> Shift
-    requires { ⌜ (0 < trailingOf src .word) × (0 < trailingOf dst .word) × (0 < trailingOf dst .elem) ⌝ }
-    ensures { λ r. ⌜ shiftIn r ≡ shiftOf 64 (sameSequence 64) (trailingOf src) (layoutOf «dst_layout») (trailingOf dst) ⌝ }
-{
-    match matching_shift(src, dst, exact_offset_delta_elems(src, dst)) {
-        Shift::By(elems) => Shift::By(elems),
-        Shift::Missing => matching_shift(src, dst, offset_delta_by_size(src, dst_layout)),
-    }
-}
-
 // Trailing to trailing.
 fn compute_unsized(
+    src_layout: DstLayout,
     src: TrailingSliceLayout,
     dst_layout: DstLayout,
     dst: TrailingSliceLayout,
 ) -> Computed
-    requires { ⌜ (0 < trailingOf src .word) × (0 < trailingOf dst .word) ⌝ }
+    requires { ⌜
+        None (layoutCauses 64 (layoutOf «src_layout»)) × (infoOf («src_layout» .«size_info») ≡ trailing (trailingOf src))
+        × None (layoutCauses 64 (layoutOf «dst_layout»)) × (infoOf («dst_layout» .«size_info») ≡ trailing (trailingOf dst))
+        ⌝ }
     ensures { λ r. ⌜
         computedIn r ≡ trailingRules 64 (sameSequence 64) (trailingOf src) (layoutOf «dst_layout») (trailingOf dst)
         ⌝ }
@@ -200,7 +86,10 @@ fn compute_unsized(
     if src_elem_size % dst_elem_size != 0 {
         return Computed::None(Reason::NoWholeMultiple);
     }
-    match offset_delta_elems(src, dst_layout, dst) {
+    let ShiftAnswer::Shift(shift) = shift::offset_delta_elems(src_layout, dst_layout) else {
+        return Computed::None(Reason::NoShift);
+    };
+    match shift {
         Shift::By(elems) => Computed::Accepted(CastParamsInner::UnsizedToUnsized {
             offset_delta_elems: elems,
             elem_multiple: src_elem_size / dst_elem_size,
@@ -233,8 +122,15 @@ fn compute_from_sized(src_size: u64, dst_layout: DstLayout) -> Computed
     }
 }
 
-fn compute_from_unsized(src: TrailingSliceLayout, dst_layout: DstLayout) -> Computed
-    requires { ⌜ (0 < trailingOf src .word) × (noWord (infoOf («dst_layout» .«size_info»)) .means → ⊥) ⌝ }
+fn compute_from_unsized(
+    src_layout: DstLayout,
+    src: TrailingSliceLayout,
+    dst_layout: DstLayout,
+) -> Computed
+    requires { ⌜
+        None (layoutCauses 64 (layoutOf «src_layout»)) × (infoOf («src_layout» .«size_info») ≡ trailing (trailingOf src))
+        × None (layoutCauses 64 (layoutOf «dst_layout»))
+        ⌝ }
     ensures { λ r. ⌜
         computedIn r ≡ kindRules 64 (sameSequence 64) (trailing (trailingOf src)) (layoutOf «dst_layout»)
         (infoOf («dst_layout» .«size_info»))
@@ -243,15 +139,13 @@ fn compute_from_unsized(src: TrailingSliceLayout, dst_layout: DstLayout) -> Comp
     let size_info = dst_layout.size_info;
     match size_info {
         SizeInfo::Sized { size: _ } => Computed::None(Reason::TrailingToFixed),
-        SizeInfo::SliceDst(dst) => compute_unsized(src, dst_layout, dst),
+        SizeInfo::SliceDst(dst) => compute_unsized(src_layout, src, dst_layout, dst),
     }
 }
 
 // The conversion between two layouts that passed their checks, or why there is none.
 fn compute(src_layout: DstLayout, dst_layout: DstLayout) -> Computed
-    requires { ⌜
-        (noWord (infoOf («src_layout» .«size_info»)) .means → ⊥) × (noWord (infoOf («dst_layout» .«size_info»)) .means → ⊥)
-        ⌝ }
+    requires { ⌜ None (layoutCauses 64 (layoutOf «src_layout»)) × None (layoutCauses 64 (layoutOf «dst_layout»)) ⌝ }
     ensures { λ r. ⌜ computedIn r ≡ conversionOf 64 (sameSequence 64) (layoutOf «src_layout») (layoutOf «dst_layout») ⌝ }
 {
     if src_layout.align < dst_layout.align {
@@ -260,7 +154,7 @@ fn compute(src_layout: DstLayout, dst_layout: DstLayout) -> Computed
     let size_info = src_layout.size_info;
     match size_info {
         SizeInfo::Sized { size } => compute_from_sized(size, dst_layout),
-        SizeInfo::SliceDst(src) => compute_from_unsized(src, dst_layout),
+        SizeInfo::SliceDst(src) => compute_from_unsized(src_layout, src, dst_layout),
     }
 }
 

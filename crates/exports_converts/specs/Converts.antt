@@ -5,12 +5,9 @@ use lib.Dec.{eqb}
 use Rattle.util.specs.Refusal.{Outcome, answered, refused}
 use Rattle.cast.specs.Cast.{Side, prefix, suffix, Grant}
 use Rattle.convert.specs.Convert.{Params, sizedToSized, sizedToUnsized, unsizedToUnsized}
-use Rattle.guarantee.specs.Demand.{Answers}
-use Rattle.exports_numbers.specs.Numbers.{numberOut}
 use Rattle.exports_converts.specs.declared.CastOut.{CastOut}
 use Rattle.exports_converts.specs.declared.CastParams.{CastParams}
 use Rattle.exports_converts.specs.declared.CastParamsOut.{CastParamsOut}
-use Rattle.exports_converts.specs.declared.CarriedOut.{CarriedOut}
 
 abbrev pub castOut : Outcome Grant → CastOut
 castOut (answered g) = record { refusal = 0; count = g .count; split = g .split }
@@ -38,18 +35,3 @@ paramsNumbers (unsizedToUnsized d k) = record { kind = 2; «offset_delta_elems»
 abbrev pub paramsOut : Outcome Params → CastParamsOut
 paramsOut (answered q) = record { refusal = 0; params = paramsNumbers q }
 paramsOut (refused k) = record { refusal = k; params = noParams }
-
--- the four answers of `convert_and_cast`; a layout that is refused refuses all four
-abbrev pub carriedOut : Outcome Answers → CarriedOut
-carriedOut (answered r) = record {
-  computed = paramsOut (r .computed);
-  count = numberOut (r .count);
-  first = castOut (r .first);
-  second = castOut (r .second);
-}
-carriedOut (refused k) = record {
-  computed = paramsOut (refused k);
-  count = numberOut (refused k);
-  first = castOut (refused k);
-  second = castOut (refused k);
-}

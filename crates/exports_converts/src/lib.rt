@@ -1,27 +1,21 @@
 // The functions of casts and conversions for C and Rust: no logic of their own. include/lukaripe.h is their C side.
 ghost use mathlib.Core.Path.{_≡_};
-ghost use Rattle.util.specs.Refusal.{answered, refused};
 ghost use Rattle.trailing.specs.Sequence.{sameSequence};
 ghost use Rattle.cast.specs.Cast.{castFor};
 ghost use Rattle.cast.specs.Exact.{exactFor};
 ghost use Rattle.cast.specs.View.{sideOf, castSays};
-ghost use Rattle.convert.specs.Match.{matchFor};
 ghost use Rattle.convert.specs.Convert.{computeFor, metadataFor};
 ghost use Rattle.convert.specs.View.{paramsIn, computeSays};
-ghost use Rattle.guarantee.specs.Demand.{answersOf};
-ghost use Rattle.guarantee.specs.View.{answersIn};
-ghost use Rattle.exports_numbers.specs.Numbers.{numberOut, decisionOut, trailingIn};
+ghost use Rattle.exports_numbers.specs.Numbers.{numberOut};
 ghost use Rattle.exports_layouts.specs.Layouts.{withLayout};
 ghost use Rattle.exports_converts.specs.Converts.{castOut, sideGiven, paramsGiven, paramsNumbers, noParams};
-ghost use Rattle.exports_converts.specs.Converts.{paramsOut, carriedOut};
+ghost use Rattle.exports_converts.specs.Converts.{paramsOut};
 use cast::CastAnswer;
 use cast::CastType;
 use convert::CastParamsInner;
 use convert::ComputeAnswer;
 use exports_layouts::Layout;
 use exports_numbers::Number;
-use exports_numbers::Trailing;
-use guarantee::Carried;
 use layout::LayoutAnswer;
 use util::Answer;
 
@@ -46,15 +40,8 @@ pub struct CastParamsOut {
     pub params: CastParams,
 }
 
-#[repr(C)]
-pub struct CarriedOut {
-    pub computed: CastParamsOut,
-    pub count: Number,
-    pub first: CastOut,
-    pub second: CastOut,
-}
-
-fn cast_out(a: CastAnswer) -> CastOut
+// A granted cast, or the refusal.
+pub fn cast_out(a: CastAnswer) -> CastOut
     ensures { λ r. ⌜ r ≡ castOut (castSays a) ⌝ }
 {
     match a {
@@ -107,7 +94,8 @@ fn no_params() -> CastParams
     }
 }
 
-fn params_out(a: ComputeAnswer) -> CastParamsOut
+// The parameters of a conversion, or the refusal.
+pub fn params_out(a: ComputeAnswer) -> CastParamsOut
     ensures { λ r. ⌜ r ≡ paramsOut (computeSays a) ⌝ }
 {
     match a {
@@ -185,22 +173,6 @@ pub extern "C" fn lukaripe_metadata_for_exact_size(layout: Layout, size: u64) ->
     }
 }
 
-// Whether the target, shifted, is found to have the sizes of the source.
-#[no_mangle]
-pub extern "C" fn lukaripe_size_sequences_match(
-    src: Trailing,
-    dst: Trailing,
-    dst_base: u64,
-) -> Number
-    ensures { λ r. ⌜ r ≡ decisionOut (matchFor 64 (sameSequence 64) (trailingIn src) (trailingIn dst) «dst_base») ⌝ }
-{
-    exports_numbers::decision_out(convert::size_sequences_match(
-        exports_numbers::trailing_in(src),
-        exports_numbers::trailing_in(dst),
-        dst_base,
-    ))
-}
-
 // How counts of one layout are converted to another.
 #[no_mangle]
 pub extern "C" fn lukaripe_try_compute(src: Layout, dst: Layout) -> CastParamsOut
@@ -221,58 +193,4 @@ pub extern "C" fn lukaripe_cast_metadata(params: CastParams, src_meta: u64) -> N
     ensures { λ r. ⌜ r ≡ numberOut (metadataFor 64 (paramsGiven params) «src_meta») ⌝ }
 {
     exports_numbers::number_out(convert::cast_metadata(params_in(params), src_meta))
-}
-
-// What the four calls of a conversion and of two casts gave.
-fn carried_out(r: Carried) -> CarriedOut
-    ensures { λ c. ⌜ c ≡ carriedOut (answered (answersIn r)) ⌝ }
-{
-    let computed = r.computed;
-    let count = r.count;
-    let first = r.first;
-    let second = r.second;
-    CarriedOut {
-        computed: params_out(computed),
-        count: exports_numbers::number_out(count),
-        first: cast_out(first),
-        second: cast_out(second),
-    }
-}
-
-// A layout that is refused refuses all four.
-fn none_carried(refusal: u64) -> CarriedOut
-    ensures { λ c. ⌜ c ≡ carriedOut (refused refusal) ⌝ }
-{
-    CarriedOut {
-        computed: params_out(ComputeAnswer::Refused(refusal)),
-        count: exports_numbers::number_out(Answer::Refused(refusal)),
-        first: cast_out(CastAnswer::Refused(refusal)),
-        second: cast_out(CastAnswer::Refused(refusal)),
-    }
-}
-
-// Converts src_meta elements, and casts bytes at addr to the target over two lengths.
-#[no_mangle]
-pub extern "C" fn lukaripe_convert_and_cast(
-    src: Layout,
-    dst: Layout,
-    src_meta: u64,
-    addr: u64,
-    bytes_len: u64,
-    more_len: u64,
-) -> CarriedOut
-    ensures { λ r. ⌜
-        r ≡ carriedOut (withLayout 64 src (λ l. withLayout 64 dst (λ m.
-        answered (answersOf 64 (sameSequence 64) l m «src_meta» addr «bytes_len» «more_len»))))
-        ⌝ }
-{
-    match exports_layouts::layout_in(src) {
-        LayoutAnswer::Layout(l) => match exports_layouts::layout_in(dst) {
-            LayoutAnswer::Layout(m) => {
-                carried_out(guarantee::convert_and_cast(l, m, src_meta, addr, bytes_len, more_len))
-            }
-            LayoutAnswer::Refused(refusal) => none_carried(refusal),
-        },
-        LayoutAnswer::Refused(refusal) => none_carried(refusal),
-    }
 }

@@ -19,11 +19,12 @@ use Rattle.layout.specs.Layout.{Info, fixed, trailing, Layout, IsCount, sizeIn,
 use Rattle.cast.specs.Cast.{prefix, Grant, countIn, IsElemZero, bytesCauses, castCauses, castFor}
 use Rattle.cast.proofs.Grants.{align-pos, greatest-in, cast-decided}
 use Rattle.cast.proofs.Exact.{count-mono}
-use Rattle.convert.specs.Match.{Comparison, Sound, Matches}
-use Rattle.convert.specs.Convert.{Params, sizedToSized, sizedToUnsized, unsizedToUnsized, KindsConvert, IsShift}
+use Rattle.shift.specs.Match.{Comparison, Sound, Matches}
+use Rattle.shift.specs.Shift.{IsShift}
+use Rattle.shift.proofs.Matching.{same-sound, match-sizes}
+use Rattle.convert.specs.Convert.{Params, sizedToSized, sizedToUnsized, unsizedToUnsized, KindsConvert}
 use Rattle.convert.specs.Convert.{fixedToFixed, fixedToTrailing, trailingToTrailing, Conversion, noConversion, computeCauses, paramsOf}
 use Rattle.convert.specs.Convert.{computeFor, converted, metadataFor}
-use Rattle.convert.proofs.Matching.{same-sound, match-sizes}
 use Rattle.convert.proofs.Conversions.{conversion-complete, compute-decided}
 use Rattle.guarantee.specs.Demand.{Answers, Accepts, Hold, CastKeeps, Kept, Demand3, countAfter, answersOf}
 

@@ -1,9 +1,9 @@
 // A function for each recorded function: it takes the inputs from the line and tells the answer as a line has it.
 // The number of a function and the order of its inputs are those of rust/differential/recorded.rs and its rows.
-use exports_converts::CarriedOut;
 use exports_converts::CastOut;
 use exports_converts::CastParams;
 use exports_converts::CastParamsOut;
+use exports_guarantee::CarriedOut;
 use exports_layouts::Layout;
 use exports_numbers::Number;
 use exports_numbers::Trailing;
@@ -122,7 +122,7 @@ fn matched(line: &[u64; WIDTH]) -> Number {
         elem_size: line[7],
         word: line[8],
     };
-    exports_converts::lukaripe_size_sequences_match(src, dst, line[9])
+    exports_shift::lukaripe_size_sequences_match(src, dst, line[9])
 }
 
 fn converted(line: &[u64; WIDTH]) -> Number {
@@ -145,7 +145,7 @@ fn cast(line: &[u64; WIDTH]) -> CastOut {
 }
 
 fn carried(line: &[u64; WIDTH]) -> CarriedOut {
-    exports_converts::lukaripe_convert_and_cast(
+    exports_guarantee::lukaripe_convert_and_cast(
         first(line),
         second(line),
         line[13],

@@ -1,9 +1,7 @@
 -- `convert::compute` meets its contract. Assumes nothing.
-use mathlib.Core.Path.{sym, ap, _∙_, subst}
+use mathlib.Core.Path.{sym, ap, _∙_}
 use borrow.Author.Tests.{lt-ltb, le-ltb}
-use native.Mathlib.Omega.{arith}
 use Rattle.trailing.specs.Sequence.{sameSequence}
-use Rattle.layout.specs.Layout.{noWord}
 use Rattle.layout.specs.declared.SizeInfo.{SizeInfo}
 use Rattle.layout.specs.View.{infoOf, layoutOf}
 use Rattle.convert.specs.Convert.{kindRules, conversionOf}
@@ -31,8 +29,7 @@ enum-known-size-info-2 c = search needs
 compute-from-unsized-requires : tie.Need-compute-from-unsized-requires
 compute-from-unsized-requires c κs =
     let k = c .before .before .before .before .before .before in
-    let w = subst (λ (i : SizeInfo). noWord (infoOf i) .means → ⊥) (c .before .size-info2 .given .1) (k .pre .0) in
-    (omega (arith, w), k .pre .1)
+    (k .pre .0, ap infoOf (c .before .size-info2 .given .1), k .pre .1)
 
 returns-2 : tie.Need-returns-2
 unfolding conversionOf

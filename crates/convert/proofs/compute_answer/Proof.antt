@@ -9,7 +9,7 @@ use Rattle.convert.proofs.compute_answer.Statement.{statement}
 use Rattle.convert.proofs.compute_answer.Tie as tie
 
 compute-requires : tie.Need-compute-requires
-compute-requires c κs = (c .pre .0 .1 .0, c .pre .1 .1 .0)
+compute-requires c κs = search needs
 
 enum-known-params : tie.Need-enum-known-params
 enum-known-params c = search needs

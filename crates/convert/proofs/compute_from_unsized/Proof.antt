@@ -1,9 +1,8 @@
 -- `convert::compute_from_unsized` meets its contract. Assumes nothing.
-use mathlib.Core.Path.{sym, ap, _∙_, subst}
-use native.Mathlib.Omega.{arith}
+use mathlib.Core.Path.{sym, ap, _∙_}
 use Rattle.trailing.specs.Sequence.{sameSequence}
 use Rattle.trailing.specs.View.{trailingOf}
-use Rattle.layout.specs.Layout.{trailing, noWord}
+use Rattle.layout.specs.Layout.{trailing}
 use Rattle.layout.specs.declared.SizeInfo.{SizeInfo}
 use Rattle.layout.specs.View.{infoOf, layoutOf}
 use Rattle.convert.specs.Convert.{kindRules}
@@ -20,8 +19,7 @@ enum-known-size-info c = search needs
 compute-unsized-requires : tie.Need-compute-unsized-requires
 compute-unsized-requires c κs =
     let k = c .before .before .before in
-    let w = subst (λ (i : SizeInfo). noWord (infoOf i) .means → ⊥) (c .before .size-info .given .1) (k .pre .1) in
-    (k .pre .0, omega (arith, w))
+    (k .pre .0, k .pre .1, k .pre .2, ap infoOf (c .before .size-info .given .1))
 
 returns : tie.Need-returns
 returns c = let k = c .before .before in ap (λ (i : SizeInfo). kindRules 64 (sameSequence 64) (trailing (trailingOf (k .args .src))) (layoutOf (k .args .dst-layout)) (infoOf i)) (sym (c .enum-told .given .1))

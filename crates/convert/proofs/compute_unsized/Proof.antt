@@ -2,9 +2,13 @@
 use mathlib.Core.Path.{sym, ap, _∙_}
 use Prim.Native.Nat.{_/_, _%_}
 use borrow.Author.Tests.{eq-eqb, ne-eqb, lt-ltb, le-ltb}
+use native.Mathlib.Omega.{arith}
+use Rattle.trailing.specs.Sequence.{sameSequence}
 use Rattle.trailing.specs.View.{trailingOf}
+use Rattle.layout.specs.View.{layoutOf}
+use Rattle.shift.specs.View.{shiftIn}
+use Rattle.shift.proofs.Told.{shift-told, shift-kept}
 use Rattle.convert.specs.Convert.{withShift}
-use Rattle.convert.specs.View.{shiftIn}
 use borrow.Author.Needs.{needs}
 use Rattle.convert.proofs.compute_unsized.Statement.{statement}
 use Rattle.convert.proofs.compute_unsized.Tie as tie
@@ -36,30 +40,43 @@ returns-3 c =
 offset-delta-elems-requires : tie.Need-offset-delta-elems-requires
 offset-delta-elems-requires c κs = search needs
 
-enum-known-elems : tie.Need-enum-known-elems
-enum-known-elems c = search needs
-
-div-t14 : tie.Need-div-t14
-div-t14 c = search needs
+enum-known-shift : tie.Need-enum-known-shift
+enum-known-shift c = search needs
 
 enum-told : tie.Need-enum-told
 enum-told c = search needs
 
 returns-4 : tie.Need-returns-4
 returns-4 c =
-    let k = c .before .before .before .before .before .before .before in
-    let s = trailingOf (k .args .src) in
-    let t = trailingOf (k .args .dst) in
-    simp (ne-eqb (t .elem) 0 (c .before .before .before .before .before .before .if1 .left), le-ltb (s .elem) (t .elem) (c .before .before .before .before .before .if2 .left), eq-eqb (s .elem % t .elem) 0 (c .before .before .before .before .if3 .left))
-    (ap (withShift (s .elem / t .elem)) (sym (ap shiftIn (c .before .elems .given .1)) ∙ c .before .before .before .offset-delta-elems .ensures))
-
-returns-5 : tie.Need-returns-5
-returns-5 c =
     let k = c .before .before .before .before .before .before in
     let s = trailingOf (k .args .src) in
     let t = trailingOf (k .args .dst) in
-    simp (ne-eqb (t .elem) 0 (c .before .before .before .before .before .if1 .left), le-ltb (s .elem) (t .elem) (c .before .before .before .before .if2 .left), eq-eqb (s .elem % t .elem) 0 (c .before .before .before .if3 .left))
-    (ap (withShift (s .elem / t .elem)) (sym (ap shiftIn (c .enum-told .given .1)) ∙ c .before .before .offset-delta-elems .ensures))
+    absurd (shift-kept 64 (sameSequence 64) (layoutOf (k .args .src-layout)) (layoutOf (k .args .dst-layout)) s t (c .before .before .offset-delta-elems .result) (omega arith) (omega arith) (k .pre .0) (k .pre .2) (k .pre .1) (k .pre .3) (omega arith) (c .before .before .offset-delta-elems .ensures .0) (c .enum-told .given .1))
+
+enum-known-shift-2 : tie.Need-enum-known-shift-2
+enum-known-shift-2 c = search needs
+
+div-t17 : tie.Need-div-t17
+div-t17 c = search needs
+
+enum-told-2 : tie.Need-enum-told-2
+enum-told-2 c = search needs
+
+returns-5 : tie.Need-returns-5
+returns-5 c =
+    let k = c .before .before .before .before .before .before .before .before .before .before in
+    let s = trailingOf (k .args .src) in
+    let t = trailingOf (k .args .dst) in
+    simp (ne-eqb (t .elem) 0 (c .before .before .before .before .before .before .before .before .before .if1 .left), le-ltb (s .elem) (t .elem) (c .before .before .before .before .before .before .before .before .if2 .left), eq-eqb (s .elem % t .elem) 0 (c .before .before .before .before .before .before .before .if3 .left))
+    (ap (withShift (s .elem / t .elem)) (sym (ap shiftIn (c .before .shift2 .given .1)) ∙ shift-told 64 (sameSequence 64) (layoutOf (k .args .src-layout)) (layoutOf (k .args .dst-layout)) s t (c .before .before .before .before .before .before .offset-delta-elems .result) (omega arith) (omega arith) (k .pre .0) (k .pre .2) (k .pre .1) (k .pre .3) (omega arith) (c .before .before .before .before .before .before .offset-delta-elems .ensures .0) (c .before .before .before .before .shift .given .1)))
+
+returns-6 : tie.Need-returns-6
+returns-6 c =
+    let k = c .before .before .before .before .before .before .before .before .before in
+    let s = trailingOf (k .args .src) in
+    let t = trailingOf (k .args .dst) in
+    simp (ne-eqb (t .elem) 0 (c .before .before .before .before .before .before .before .before .if1 .left), le-ltb (s .elem) (t .elem) (c .before .before .before .before .before .before .before .if2 .left), eq-eqb (s .elem % t .elem) 0 (c .before .before .before .before .before .before .if3 .left))
+    (ap (withShift (s .elem / t .elem)) (sym (ap shiftIn (c .enum-told2 .given .1)) ∙ shift-told 64 (sameSequence 64) (layoutOf (k .args .src-layout)) (layoutOf (k .args .dst-layout)) s t (c .before .before .before .before .before .offset-delta-elems .result) (omega arith) (omega arith) (k .pre .0) (k .pre .2) (k .pre .1) (k .pre .3) (omega arith) (c .before .before .before .before .before .offset-delta-elems .ensures .0) (c .before .before .before .shift .given .1)))
 
 pub compute-unsized-spec : {M : Type 1} → statement M
 compute-unsized-spec =
@@ -70,8 +87,11 @@ compute-unsized-spec =
     rem-if3
     returns-3
     offset-delta-elems-requires
-    enum-known-elems
-    div-t14
+    enum-known-shift
     enum-told
     returns-4
-    returns-5)
+    enum-known-shift-2
+    div-t17
+    enum-told-2
+    returns-5
+    returns-6)

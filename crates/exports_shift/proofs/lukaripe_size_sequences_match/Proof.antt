@@ -1,0 +1,37 @@
+-- `exports_shift::lukaripe_size_sequences_match` meets its contract. Assumes nothing.
+use mathlib.Core.Path.{ap, ap₂, _∙_}
+use Rattle.trailing.specs.Size.{Trailing}
+use Rattle.trailing.specs.Sequence.{sameSequence}
+use Rattle.shift.specs.Match.{matchFor}
+use Rattle.exports_numbers.specs.Numbers.{decisionOut}
+use borrow.Author.Needs.{needs}
+use Rattle.exports_shift.proofs.lukaripe_size_sequences_match.Statement.{statement}
+use Rattle.exports_shift.proofs.lukaripe_size_sequences_match.Tie as tie
+
+trailing-in-requires : tie.Need-trailing-in-requires
+trailing-in-requires c κs = search needs
+
+trailing-in-requires-2 : tie.Need-trailing-in-requires-2
+trailing-in-requires-2 c κs = search needs
+
+size-sequences-match-requires : tie.Need-size-sequences-match-requires
+size-sequences-match-requires c κs = search needs
+
+decision-out-requires : tie.Need-decision-out-requires
+decision-out-requires c κs = search needs
+
+returns : tie.Need-returns
+returns c =
+    let d = c .before .before .before .before .args .dst-base in
+    c .decision-out .ensures
+    ∙ ap decisionOut (c .before .size-sequences-match .ensures .0 ∙ ap₂ (λ (s t : Trailing). matchFor 64 (sameSequence 64) s t d) (c .before .before .before .trailing-in .ensures) (c .before .before .trailing-in2 .ensures))
+
+pub lukaripe-size-sequences-match-spec : {M : Type 1} → statement M
+lukaripe-size-sequences-match-spec =
+    tie.close
+    (tie.spec
+    trailing-in-requires
+    trailing-in-requires-2
+    size-sequences-match-requires
+    decision-out-requires
+    returns)

@@ -1,0 +1,47 @@
+-- `shift::size_sequences_match` meets its contract. Assumes nothing.
+use mathlib.Core.Path.{ap, _∙_}
+use native.Mathlib.Omega.{arith}
+use borrow.Author.Tests.{eq-eqb, ne-eqb}
+use Rattle.util.specs.Refusal.{answered, unless}
+use Rattle.util.proofs.Refusals.{told}
+use Rattle.trailing.specs.Sequence.{sameSequence}
+use Rattle.trailing.specs.View.{trailingOf}
+use Rattle.shift.specs.Match.{matchFor}
+use Rattle.shift.proofs.Matching.{same-sound, match-meets}
+use borrow.Author.Needs.{needs}
+use Rattle.shift.proofs.size_sequences_match.Statement.{statement}
+use Rattle.shift.proofs.size_sequences_match.Tie as tie
+
+returns : tie.Need-returns
+unfolding matchFor unless
+returns c =
+    let k = c .before .before .before in
+    let s = trailingOf (k .args .src) in
+    let t = trailingOf (k .args .dst) in
+    let d = k .args .dst-base in
+    told (match-meets 64 (sameSequence 64) s t d (same-sound 64) (omega arith) (omega arith)) (simp (eq-eqb (s .word) 0 (c .if1 .taken)))
+
+returns-2 : tie.Need-returns-2
+unfolding matchFor unless
+returns-2 c =
+    let k = c .before .before .before .before .before .before in
+    let s = trailingOf (k .args .src) in
+    let t = trailingOf (k .args .dst) in
+    let d = k .args .dst-base in
+    told (match-meets 64 (sameSequence 64) s t d (same-sound 64) (omega arith) (omega arith)) (simp (ne-eqb (s .word) 0 (c .before .before .before .if1 .left), eq-eqb (t .word) 0 (c .if2 .taken)))
+
+sequences-match-requires : tie.Need-sequences-match-requires
+sequences-match-requires c κs = search needs
+
+returns-3 : tie.Need-returns-3
+unfolding matchFor unless
+returns-3 c =
+    let k = c .before .before .before .before .before .before .before in
+    let s = trailingOf (k .args .src) in
+    let t = trailingOf (k .args .dst) in
+    let d = k .args .dst-base in
+    told (match-meets 64 (sameSequence 64) s t d (same-sound 64) (omega arith) (omega arith)) (ap answered (c .sequences-match .ensures) ∙ simp (ne-eqb (s .word) 0 (c .before .before .before .before .if1 .left), ne-eqb (t .word) 0 (c .before .if2 .left)))
+
+pub size-sequences-match-spec : {M : Type 1} → statement M
+size-sequences-match-spec =
+    tie.close (tie.spec returns returns-2 sequences-match-requires returns-3)

@@ -1,0 +1,3 @@
+pub mod Match
+pub mod Shift
+pub mod View

@@ -1,0 +1,15 @@
+-- What the types of this crate are, over numbers: document 01's number and values for each case of an answer. Assumes nothing.
+use Rattle.util.specs.Refusal.{Outcome, answered, refused}
+use Rattle.shift.specs.Shift.{Shift, by, missing}
+use Rattle.shift.specs.declared.Shift as Code
+use Rattle.shift.specs.declared.Shift.the-variants as Found
+use Rattle.shift.specs.declared.ShiftAnswer.{ShiftAnswer}
+use Rattle.shift.specs.declared.ShiftAnswer.the-variants as Answer
+
+abbrev pub shiftIn : Code.Shift → Shift
+shiftIn (Found.By d) = by d
+shiftIn Found.Missing = missing
+
+abbrev pub shiftSays : ShiftAnswer → Outcome Shift
+shiftSays (Answer.Shift d) = answered (shiftIn d)
+shiftSays (Answer.Refused k) = refused k

@@ -1,0 +1,28 @@
+-- The starred cases hold: each row but one is computed from the definitions, and that one is shown at every count. Assumes nothing.
+use mathlib.Core.Path.{_≡_, ap}
+use mathlib.Core.List.{List, [], _∷_}
+use Prim.Native.Nat.{ℕ, _+_, _*_, _/_, _%_}
+use native.Mathlib.Omega.{arith}
+use Rattle.util.specs.Power.{powerOfTwo}
+use Rattle.util.specs.Round.{up, down, padding}
+use Rattle.util.specs.Refusal.{unless}
+use Rattle.util.specs.Helpers.{paddingFor}
+use Rattle.rounding.specs.Word.{highestBit, componentsFor}
+use Rattle.trailing.specs.Size.{sizeWith, sizeAt}
+use Rattle.trailing.specs.Count.{bytesWithin, countWithin}
+use Rattle.trailing.specs.Sequence.{sameSequence}
+use Rattle.trailing.specs.Calls.{paddingForElems, sizeFor, advanced, sameFor}
+use Rattle.cast.specs.Cast.{castFor}
+use Rattle.cast.specs.Exact.{exactFor}
+use Rattle.shift.specs.Match.{matchTest}
+use Rattle.shift.specs.Shift.{shiftOf}
+use Rattle.convert.specs.Convert.{conversionOf, computeFor, metadataFor}
+use Rattle.stars.specs.Stars.{tail, said, Claim, computed, stars}
+
+sizes-alike : (n : ℕ) → _≡_ {A = List ℕ} (sizeAt 64 (tail 0 9 4 0) n ∷ []) (sizeAt 64 (tail 0 10 4 0) n ∷ [])
+unfolding sizeWith up highestBit
+sizes-alike n = ap (λ (x : ℕ). x ∷ []) (omega arith)
+
+pub stars-hold : Claim 64 stars
+unfolding powerOfTwo up down padding unless paddingFor highestBit componentsFor sizeWith bytesWithin countWithin sameSequence paddingForElems sizeFor advanced sameFor castFor exactFor matchTest shiftOf conversionOf computeFor metadataFor
+stars-hold n = ap (λ (x : List ℕ). x ∷ said n computed) (sizes-alike n)
