@@ -11,15 +11,12 @@ use Rattle.layout.specs.Extend.{roundingPasses, LeastPlace, roundUpCauses, roun
 use Rattle.layout.specs.declared.Check.{Check}
 use Rattle.layout.specs.declared.Check.the-variants as Check
 use Rattle.layout.specs.View.{checkSays}
-use Rattle.layout.specs.Layout.{Layout, layoutCauses, FitsWidth, checkFor, fixed, Info, noWord}
+use Rattle.layout.specs.Layout.{Layout, layoutCauses, FitsWidth, checkFor, fixed}
 use mathlib.Core.Bool.{Bool, _||_, true, false}
-use Rattle.util.specs.Helpers.{alignCauses}
 use mathlib.Core.Logic.{_⊎_}
 use lib.Dec.{eqb}
 use Rattle.util.specs.Power.{PowerOfTwo, powerOfTwo}
 use Rattle.util.specs.Round.{up}
-use Rattle.trailing.specs.Size.{Trailing, A, sizeAt}
-use Rattle.rounding.specs.Word.{alignOf, alignFor}
 use Rattle.layout.proofs.Passes as Passes
 use Rattle.layout.proofs.Layouts as Layouts
 use Rattle.layout.proofs.Steps as Steps

@@ -3,20 +3,13 @@ use mathlib.Core.Path.{_≡_}
 use mathlib.Core.List.{[], _∷_}
 use Prim.Native.Nat.{ℕ, _≤_, _<_, _^_}
 use Rattle.util.specs.Width.{M}
-use Rattle.util.specs.Refusal.{answered, refused, unless, Meets, Decided, Tells, None}
-use Rattle.util.specs.View.{numberSays}
-use Rattle.util.specs.declared.Answer.{Answer}
+use Rattle.util.specs.Refusal.{answered, Meets, Decided, Tells, None}
 use Rattle.util.specs.declared.Answer.the-variants as Answer
-use Rattle.layout.specs.Extend.{roundingPasses, LeastPlace, roundUpCauses, roundUpFor, memberAlign, extended, badPacking, memberPasses, placeCauses, stepCauses, extendCauses, extendFor, Extended}
-use Rattle.layout.specs.declared.Check.{Check}
 use Rattle.layout.specs.declared.Check.the-variants as Check
-use Rattle.layout.specs.View.{checkSays}
-use Rattle.layout.specs.Layout.{Layout, layoutCauses, FitsWidth, checkFor, fixed, Info, noWord}
-use mathlib.Core.Bool.{Bool, _||_, true, false}
-use Rattle.util.specs.Helpers.{alignCauses}
+use Rattle.layout.specs.Layout.{Layout, layoutCauses, Info, noWord}
+use mathlib.Core.Bool.{_||_, false}
 use mathlib.Core.Logic.{_⊎_}
-use lib.Dec.{eqb}
-use Rattle.util.specs.Power.{PowerOfTwo, powerOfTwo}
+use Rattle.util.specs.Power.{PowerOfTwo}
 use Rattle.util.specs.Round.{up}
 use Rattle.trailing.specs.Size.{Trailing, A, sizeAt}
 use Rattle.padding.specs.Pad.{coarser, paddedTail, padded, padCauses, padFor, Padded, paddedInfo, paddingNeeds, staticFor, DynamicPadding, dynamicPadding, dynamicFor}

@@ -1,14 +1,13 @@
 -- The laws of `record` at 32 bits: each holds at any width. Assumes nothing.
 use mathlib.Core.Path.{_≡_}
-use mathlib.Core.Bool.{true, false, Bool}
+use mathlib.Core.Bool.{Bool}
 use mathlib.Core.List.{List, [], _∷_}
 use Prim.Native.Nat.{ℕ, _^_, _<_, _+_, _-_, _*_, _/_, _%_, _≤_}
-use lib.ListN.{length, take, drop}
-use lib.Seq.{sets}
-use Rattle.util.specs.Refusal.{answered, refused, unless, None, Meets, Decided}
-use Rattle.layout.specs.Layout.{fixed, trailing, Layout, checkFor, Info, layoutCauses}
+use lib.ListN.{length}
+use Rattle.util.specs.Refusal.{answered, unless, None, Meets, Decided}
+use Rattle.layout.specs.Layout.{Layout, checkFor, Info, layoutCauses}
 use Rattle.record.specs.Bytes.{wordAt}
-use Rattle.record.specs.Record.{Words, wordsAt, recordBytes, wordsOf, wordsLayout, laterWord, wordsCauses, recordCauses, wordsFor, decodeFor, Decodes, encodeFor, encodeWordsFor, encodedInto}
+use Rattle.record.specs.Record.{Words, wordsAt, recordBytes, wordsOf, wordsLayout, wordsCauses, recordCauses, wordsFor, decodeFor, Decodes, encodeFor, encodeWordsFor, encodedInto}
 use Rattle.record.proofs.RoundTrips.{Fits, AllBytes}
 use Rattle.record.proofs.Records as Records
 use Rattle.record.proofs.RoundTrips as RoundTrips

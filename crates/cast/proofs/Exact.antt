@@ -1,21 +1,20 @@
 -- The exact count of a size, over any width w. Assumes nothing.
-use mathlib.Core.Path.{_≡_, refl, sym, ap, _∙_, subst}
-use mathlib.Core.Bool.{Bool, true, false, not}
+use mathlib.Core.Path.{_≡_, sym, ap, _∙_, subst}
+use mathlib.Core.Bool.{Bool}
 use mathlib.Core.List.{[], _∷_, _++_}
 use mathlib.Core.Logic.{inl, inr}
 use Prim.Native.Nat.{ℕ, _+_, _-_, _*_, _%_, _^_, _≤_, _<_}
 use native.Mathlib.Nat.{zero-mod, mul-le-mul-right}
 use native.Mathlib.Omega.{arith}
-use Rattle.util.specs.Width.{M}
-use Rattle.util.specs.Refusal.{Outcome, answered, refused, Tells, holds, fails, None, First, Meets, answers, refuses, Decided}
+use Rattle.util.specs.Refusal.{Outcome, answered, Tells, holds, fails, None, First, Meets, answers, refuses}
 use Rattle.util.proofs.Refusals.{known, answered-means, tells-eq, tells-le, tells-not, tells-as, meets, clear}
 use Rattle.util.proofs.Tables.{none-both, both-none, decided-both}
-use Rattle.trailing.specs.Size.{Trailing, A, p, sizeWith, sizeAt}
+use Rattle.trailing.specs.Size.{Trailing, A, p, sizeAt}
 use Rattle.trailing.specs.Count.{GreatestCount, countWithin}
 use Rattle.trailing.proofs.Sizes.{size-mono, greatest-count, one-count}
 use Rattle.layout.specs.Layout.{Info, fixed, trailing, Layout, noWord, layoutCauses}
 use Rattle.layout.proofs.Layouts.{layout-decided}
-use Rattle.cast.specs.Cast.{prefix, castCauses, Grant, castFor, GrantMeans, countIn}
+use Rattle.cast.specs.Cast.{prefix, castCauses, Grant, GrantMeans, countIn}
 use Rattle.cast.specs.Exact.{splitIs, hasExact, ExactCount, ExactIn, noExact, exactCauses, exactFor}
 use Rattle.cast.proofs.Grants.{align-pos, cast-meets}
 

@@ -1,12 +1,9 @@
 -- Greatest counts and their sizes, of any layout, over any width w. Assumes nothing.
 use mathlib.Core.Path.{_≡_, refl, sym, ap, _∙_, subst}
-use mathlib.Core.Bool.{Bool}
 use mathlib.Core.List.{[], _∷_, _++_}
 use Prim.Native.Nat.{ℕ, _+_, _-_, _*_, _/_, _%_, _^_, _≤_, _<_}
-use lib.Dec.{ltb}
 use native.Mathlib.Nat.{div-add-mod', mod-le}
 use native.Mathlib.Omega.{arith}
-use Rattle.util.specs.Power.{PowerOfTwo}
 use Rattle.util.specs.Round.{up, down}
 use Rattle.util.specs.Refusal.{unless, Outcome, answered, Tells, fails, None, Meets, Decided}
 use Rattle.util.proofs.Refusals.{known, answered-means, yes, told-true, tells-eq, tells-le, tells-lt, tells-not, tells-as, meets, clear}
@@ -17,12 +14,12 @@ use Rattle.util.proofs.Helpers.{power}
 use Rattle.rounding.specs.Word.{IsWord}
 use Rattle.rounding.proofs.Words.{parts-of, at-parts, not-zero, align-power}
 use Rattle.trailing.specs.Size.{Trailing, A, p, sizeWith, sizeAt}
-use Rattle.trailing.specs.Count.{GreatestBytes, bytesWithin, GreatestCount, countWithin}
+use Rattle.trailing.specs.Count.{GreatestBytes, bytesWithin}
 use Rattle.trailing.proofs.Sizes.{size-within, size-mono, size-ge, greatest-bytes, greatest-count}
 use Rattle.layout.specs.Layout.{Info, fixed, trailing, Layout, IsCount, sizeIn, noWord, layoutCauses}
 use Rattle.padding.specs.Pad.{PaddedInfo, Padded}
 use Rattle.layout.proofs.Layouts.{layout-decided}
-use Rattle.cast.specs.Cast.{Side, prefix, suffix, testedAddress, splitAt, Greatest, countIn, elemZero, addressPasses, notAligned, tooSmall, bytesCauses, castCauses, Grant, greatestGrant, castFor, GrantMeans}
+use Rattle.cast.specs.Cast.{Side, suffix, testedAddress, Greatest, countIn, elemZero, tooSmall, bytesCauses, castCauses, Grant, greatestGrant, castFor, GrantMeans}
 
 -- the alignment of a rounding word that is not 0
 pub align-pos : (w : ℕ) (t : Trailing) → 0 < w → (t .word ≡ 0 → ⊥) → 0 < A w t

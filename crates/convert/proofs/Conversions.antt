@@ -1,9 +1,8 @@
 -- Document 01's rules of conversion as computed and as statements, over any width and comparison. Assumes nothing.
 use mathlib.Core.Path.{_≡_, refl, sym, ap, _∙_, subst}
-use mathlib.Core.Bool.{Bool, true, false, cond}
+use mathlib.Core.Bool.{Bool, cond}
 use mathlib.Core.List.{[], _∷_, _++_}
 use Prim.Native.Nat.{ℕ, _+_, _*_, _/_, _%_, _^_, _≤_, _<_}
-use lib.Dec.{eqb, ltb}
 use borrow.Author.Tests.{eq-eqb, ne-eqb, le-ltb}
 use native.Mathlib.Nat.{lt-of-mul-lt-mul-right, mul-le-mul-right, mul-mod-left}
 use native.Mathlib.Omega.{arith}

@@ -22,7 +22,7 @@ use Rattle.cast.proofs.Exact.{count-mono}
 use Rattle.shift.specs.Match.{Comparison, Sound, Matches}
 use Rattle.shift.specs.Shift.{IsShift}
 use Rattle.shift.proofs.Matching.{same-sound, match-sizes}
-use Rattle.convert.specs.Convert.{Params, sizedToSized, sizedToUnsized, unsizedToUnsized, KindsConvert}
+use Rattle.convert.specs.Convert.{Params, KindsConvert}
 use Rattle.convert.specs.Convert.{fixedToFixed, fixedToTrailing, trailingToTrailing, Conversion, noConversion, computeCauses, paramsOf}
 use Rattle.convert.specs.Convert.{computeFor, converted, metadataFor}
 use Rattle.convert.proofs.Conversions.{conversion-complete, compute-decided}

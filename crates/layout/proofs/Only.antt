@@ -1,12 +1,12 @@
 -- Each meaning of the functions of layouts is had by one answer at most. Assumes nothing.
 use mathlib.Core.Path.{_≡_, sym, ap, _∙_, subst}
-use mathlib.Core.Bool.{Bool, true}
+use mathlib.Core.Bool.{true}
 use Prim.Native.Nat.{ℕ}
 use native.Mathlib.Omega.{arith}
 use Rattle.util.specs.Refusal.{Tells}
 use Rattle.util.proofs.Refusals.{agree}
 use Rattle.util.proofs.Only.{one-larger}
-use Rattle.layout.specs.Layout.{Info, fixed, Layout}
+use Rattle.layout.specs.Layout.{fixed, Layout}
 use Rattle.layout.specs.Extend.{memberAlign, placedAt, LeastPlace, Extended}
 
 pub one-place : {s a q r : ℕ} → LeastPlace s a q → LeastPlace s a r → q ≡ r

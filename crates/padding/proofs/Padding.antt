@@ -5,9 +5,9 @@ use mathlib.Core.List.{[], _∷_}
 use Prim.Native.Nat.{ℕ, zero, suc, _+_, _-_, _*_, _%_, _^_, _≤_, _<_}
 use native.Mathlib.Nat.{mod-lt}
 use native.Mathlib.Omega.{arith}
-use lib.Dec.{eqb, leb, ltb}
+use lib.Dec.{eqb, ltb}
 use lib.Bits.{bitAnd}
-use borrow.Author.Tests.{leb-false, ltb-true, ltb-false}
+use borrow.Author.Tests.{ltb-true, ltb-false}
 use Rattle.util.specs.Width.{M}
 use Rattle.util.specs.Power.{PowerOfTwo}
 use Rattle.util.specs.Round.{up, down}
@@ -17,7 +17,7 @@ use Rattle.util.proofs.Powers.{positive, double, power-divides, through}
 use Rattle.util.proofs.Rounding.{down-is, down-mod, up-multiple, up-ge, up-near, up-is, up-least, up-shift, up-whole, down-multiple}
 use Rattle.util.proofs.Masks.{mask-mod}
 use Rattle.util.proofs.Helpers.{power}
-use Rattle.rounding.specs.Word.{IsWord, highestBit}
+use Rattle.rounding.specs.Word.{IsWord}
 use Rattle.rounding.proofs.Words.{align-is, phase-is, align-power}
 use Rattle.trailing.specs.Size.{Trailing, A, p, sizeWith, sizeAt}
 use Rattle.layout.specs.Layout.{Info, fixed, trailing, Layout, sizeIn, noWord, layoutCauses}

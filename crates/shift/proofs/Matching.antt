@@ -1,17 +1,15 @@
 -- Two layouts that match at a shift, over any width and comparison. Assumes nothing.
-use mathlib.Core.Path.{_≡_, refl, sym, ap, _∙_}
-use mathlib.Core.Bool.{Bool, true, false}
+use mathlib.Core.Path.{_≡_, sym, ap, _∙_}
 use mathlib.Core.List.{[], _∷_}
 use Prim.Native.Nat.{ℕ, _+_, _-_, _*_, _/_, _%_, _^_, _≤_, _<_}
-use lib.Dec.{leb}
 use native.Mathlib.Omega.{arith}
 use Rattle.util.specs.Width.{M}
-use Rattle.util.specs.Refusal.{Tells, holds, fails, Meets}
+use Rattle.util.specs.Refusal.{Tells, Meets}
 use Rattle.util.proofs.Refusals.{yes, tells-true, tells-eq, tells-le, tells-and, tells-as, meets}
 use Rattle.rounding.proofs.Words.{not-zero}
-use Rattle.trailing.specs.Size.{Trailing, A, p, sizeWith, sizeAt, HasSize, sizeOffset}
-use Rattle.trailing.specs.Sequence.{EqualSizes, SameSequence, sameSequence}
-use Rattle.trailing.specs.Calls.{advanced, sameCauses}
+use Rattle.trailing.specs.Size.{Trailing, A, p, sizeWith, sizeAt, sizeOffset}
+use Rattle.trailing.specs.Sequence.{EqualSizes, sameSequence}
+use Rattle.trailing.specs.Calls.{sameCauses}
 use Rattle.trailing.proofs.Sequences.{tells-same, same-sizes}
 use Rattle.trailing.proofs.Calls.{advanced-word, advanced-word-lt, advanced-sizes}
 use Rattle.shift.specs.Match.{Comparison, Sound, shifted, Matches, matchTest, matchFor, FoundMatch}

@@ -2,12 +2,11 @@
 -- Assumes nothing.
 use mathlib.Core.Path.{_≡_}
 use mathlib.Core.Bool.{Bool, true, _&&_}
-use mathlib.Core.List.{List, [], _∷_}
+use mathlib.Core.List.{[], _∷_}
 use Prim.Native.Nat.{ℕ, _+_, _*_, _^_, _≤_, _<_}
 use lib.Dec.{leb}
 use Rattle.util.specs.Width.{M}
-use Rattle.util.specs.Refusal.{Outcome, Cause, unless, YesMeans}
-use Rattle.rounding.specs.Word.{wordZero}
+use Rattle.util.specs.Refusal.{Outcome, unless, YesMeans}
 use Rattle.trailing.specs.Size.{Trailing, sizeAt, HasSize, sizeOffset}
 use Rattle.trailing.specs.Sequence.{EqualSizes}
 use Rattle.trailing.specs.Calls.{advanced, sameCauses}

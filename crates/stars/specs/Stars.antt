@@ -1,7 +1,7 @@
 -- The starred cases of document 01, "Pages from the proof table": one table of calls with their inputs and the numbers they
 -- give, and one claim of each row. Assumes nothing.
 use mathlib.Core.Path.{_≡_}
-use mathlib.Core.Bool.{Bool, true, false, cond}
+use mathlib.Core.Bool.{Bool, true, cond}
 use mathlib.Core.List.{List, [], _∷_}
 use Prim.Native.Nat.{ℕ, _-_, _^_}
 use Rattle.util.specs.Width.{M}

@@ -1,5 +1,5 @@
 -- What the outcomes of the functions of trailing layouts mean, and what they are by the parts a and q of the word, at any width w. Assumes nothing.
-use mathlib.Core.Path.{_≡_, refl, sym, ap, _∙_, subst}
+use mathlib.Core.Path.{_≡_, refl, sym, ap, _∙_}
 use mathlib.Core.List.{[], _∷_}
 use Prim.Native.Nat.{ℕ, _+_, _-_, _*_, _%_, _^_, _≤_, _<_}
 use lib.Pow.{pow-pos}
@@ -8,18 +8,17 @@ use borrow.Author.Tests.{lt-ltb, le-ltb, ne-eqb}
 use native.Mathlib.Nat.{mod-lt}
 use native.Mathlib.Omega.{arith}
 use Rattle.util.specs.Width.{M}
-use Rattle.util.specs.Power.{PowerOfTwo}
 use Rattle.util.specs.Round.{up, down}
-use Rattle.util.specs.Refusal.{Outcome, answered, refused, unless, Tells, Meets}
-use Rattle.util.proofs.Refusals.{known, yes, tells-eq, tells-le, tells-lt, tells-as, meets, clear}
+use Rattle.util.specs.Refusal.{answered, refused, unless, Tells, Meets}
+use Rattle.util.proofs.Refusals.{known, yes, tells-eq, tells-le, tells-lt, tells-as, meets}
 use Rattle.util.proofs.Powers.{positive, double}
 use Rattle.util.proofs.Rounding.{down-is}
-use Rattle.rounding.specs.Word.{IsWord, wordCauses, alignOf, phaseOf}
-use Rattle.rounding.proofs.Words.{parts-of, at-parts, align-is, phase-is, not-zero, word-clear}
+use Rattle.rounding.specs.Word.{IsWord, wordCauses}
+use Rattle.rounding.proofs.Words.{parts-of, at-parts, not-zero}
 use Rattle.trailing.specs.Size.{Trailing, A, p, sizeWith, sizeAt, HasSize, sizeOffset}
-use Rattle.trailing.specs.Count.{GreatestBytes, bytesWithin}
+use Rattle.trailing.specs.Count.{bytesWithin}
 use Rattle.trailing.specs.Sequence.{sameSequence}
-use Rattle.trailing.specs.Calls.{sizeOffsetFor, SizeOffset, noRoom, maxTrailingCauses, maxTrailingFor, GreatestIn, paddingAt, paddingForElems, PaddingAt, noSize, sizeCauses, sizeFor, advancePasses, advanceCauses, advanced, advanceFor, Advanced, sameCauses, sameFor, FoundSame}
+use Rattle.trailing.specs.Calls.{sizeOffsetFor, SizeOffset, maxTrailingCauses, maxTrailingFor, GreatestIn, paddingAt, paddingForElems, PaddingAt, sizeCauses, sizeFor, advanceCauses, advanced, advanceFor, Advanced, sameCauses, sameFor, FoundSame}
 use Rattle.trailing.proofs.Sizes.{size-zero, size-mono, greatest-bytes, tells-room, bytes-by-blocks, padding-congruent, one-padding, advanced-size}
 use Rattle.trailing.proofs.Sequences.{tells-same, same-sizes}
 

@@ -5,14 +5,13 @@ use mathlib.Core.Bool.{Bool}
 use Prim.Native.Nat.{ℕ, _+_, _^_, _≤_, _<_}
 use native.Mathlib.Omega.{arith}
 use Rattle.util.specs.Width.{M}
-use Rattle.util.specs.Refusal.{Outcome, answered, refused, Tells, holds, fails, First, Meets}
+use Rattle.util.specs.Refusal.{Outcome, Tells, holds, fails, First, Meets}
 use Rattle.util.specs.View.{numberSays}
 use Rattle.util.specs.declared.Answer.{Answer}
 use Rattle.util.specs.declared.Answer.the-variants as Answer
 use Rattle.util.proofs.Refusals.{answered-means, refused-means, known, clear, tells-eq, tells-le, tells-lt}
 use Rattle.util.proofs.Tables.{told-by, apart, answer-is, accepted-none}
 use Rattle.trailing.specs.Size.{Trailing, A, p, sizeWith, sizeAt, HasSize, sizeOffset}
-use Rattle.trailing.specs.Count.{GreatestBytes}
 use Rattle.trailing.specs.Calls.{maxTrailingCauses, maxTrailingFor, GreatestIn, sizeCauses, sizeFor, advanceCauses, advanced, advanceFor}
 use Rattle.trailing.specs.View.{trailingOf, sizeSays, advanceSays}
 use Rattle.trailing.specs.declared.TrailingSliceLayout.{TrailingSliceLayout}

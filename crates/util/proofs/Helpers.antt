@@ -7,7 +7,7 @@ use native.Mathlib.Nat.{le-max-left, le-max-right, max-eq-left, max-eq-right, mi
 use native.Mathlib.Omega.{arith}
 use lib.Dec.{leb}
 use borrow.Author.Tests.{leb-true, leb-false}
-use Rattle.util.specs.Power.{PowerOfTwo, powerOfTwo}
+use Rattle.util.specs.Power.{PowerOfTwo}
 use Rattle.util.specs.Round.{down, padding, GreatestMultiple, LeastPadding}
 use Rattle.util.specs.Refusal.{answered, Tells, Meets, Decided}
 use Rattle.util.specs.Helpers.{badAlign, alignCauses, alignsCauses, paddingFor, roundDownFor, maxFor, minFor, Larger, Smaller}

@@ -1,6 +1,6 @@
 -- Powers of two, over any width. Assumes nothing.
 use mathlib.Core.Path.{_≡_, refl, sym, ap, ap₂, _∙_, subst}
-use Prim.Native.Nat.{ℕ, zero, suc, _+_, _-_, _*_, _/_, _%_, _^_, _≤_, _<_, max, min}
+use Prim.Native.Nat.{ℕ, zero, suc, _+_, _-_, _*_, _/_, _%_, _^_, _≤_, _<_, max}
 use mathlib.Core.Logic.{_⊎_, inl, inr}
 use mathlib.Core.Bool.{Bool, true, false, _||_}
 use native.Mathlib.Nat.{eq-or-lt-of-le, not-le-of-lt, lt-of-not-le, mod-self, mul-mod-left, mod-mod-of-dvd, dvd-of-mod-eq-zero, zero-mod, max-eq-left, max-eq-right, le-of-lt}
@@ -9,7 +9,7 @@ use lib.Pow.{pow-pos, pow-mono, pow-add}
 use lib.Bits.{bitAnd, and-mask, and-block}
 use lib.Count.{leading-top}
 use lib.Dec.{eqb, leb}
-use borrow.Author.Tests.{eqb-true, eqb-false, eq-eqb, leb-true, leb-false}
+use borrow.Author.Tests.{eqb-true, eqb-false, leb-true, leb-false}
 use Rattle.util.specs.Power.{PowerOfTwo, powerOfTwo}
 use Rattle.util.specs.Refusal.{Tells, holds, fails}
 

@@ -1,5 +1,5 @@
 -- Rounding to a multiple of A, for any A but 0. Assumes nothing.
-use mathlib.Core.Path.{_≡_, refl, sym, ap, _∙_}
+use mathlib.Core.Path.{_≡_, sym, ap, _∙_}
 use Prim.Native.Nat.{ℕ, _+_, _-_, _*_, _/_, _%_, _≤_, _<_}
 use native.Mathlib.Nat.{mod-lt, div-add-mod', mul-mod-left, lt-of-mul-lt-mul-right, mul-le-mul-right, mul-add-mod-self-right}
 use native.Mathlib.Omega.{arith}

@@ -3,7 +3,7 @@ use mathlib.Core.Path.{_≡_, sym, ap, _∙_}
 use mathlib.Core.Bool.{Bool, cond}
 use Prim.Native.Nat.{ℕ, _-_, _^_, _≤_, _<_}
 use native.Mathlib.Omega.{arith}
-use Rattle.util.specs.Width.{M, Checked, fitting, passes, checked}
+use Rattle.util.specs.Width.{M, fitting, passes, checked}
 use Rattle.util.specs.Power.{PowerOfTwo}
 use Rattle.util.specs.Round.{down, padding}
 use Rattle.util.specs.Refusal.{Outcome, answered, refused, Tells, holds, fails}

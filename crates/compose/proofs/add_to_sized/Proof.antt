@@ -6,7 +6,7 @@ use lib.ListN.{length, drop}
 use Rattle.util.specs.Refusal.{answered}
 use Rattle.util.proofs.Tables.{told-by}
 use Rattle.layout.specs.declared.SizeInfo.{SizeInfo}
-use Rattle.layout.specs.View.{infoOf, layoutOf, sizedOf, layoutSays}
+use Rattle.layout.specs.View.{infoOf, sizedOf, layoutSays}
 use Rattle.compose.specs.Compose.{addMembers, membersOf}
 use Rattle.compose.proofs.Compositions.{turn-on, turn-off, begun, ended}
 use borrow.Author.Needs.{needs}

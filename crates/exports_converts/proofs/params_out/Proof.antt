@@ -3,7 +3,6 @@ use mathlib.Core.Path.{sym, ap, _∙_}
 use Rattle.convert.specs.declared.ComputeAnswer.{ComputeAnswer}
 use Rattle.convert.specs.View.{computeSays}
 use Rattle.exports_converts.specs.declared.CastParams.{CastParams}
-use Rattle.exports_converts.specs.declared.CastParamsOut.{CastParamsOut}
 use Rattle.exports_converts.specs.Converts.{paramsOut}
 use borrow.Author.Needs.{needs}
 use Rattle.exports_converts.proofs.params_out.Statement.{statement}

@@ -4,7 +4,6 @@ use Rattle.record.specs.Record.{Words}
 use Rattle.compose.specs.declared.ComposeAnswer.{ComposeAnswer}
 use Rattle.compose.specs.View.{composeSays}
 use Rattle.exports_layouts.specs.declared.Layout as given
-use Rattle.exports_layouts.specs.declared.ComposedOut.{ComposedOut}
 use Rattle.exports_layouts.specs.Layouts.{wordsOut, composedOut}
 use borrow.Author.Needs.{needs}
 use Rattle.exports_layouts.proofs.composed_out.Statement.{statement}

@@ -4,7 +4,6 @@ use Rattle.layout.specs.declared.LayoutAnswer.{LayoutAnswer}
 use Rattle.layout.specs.View.{layoutSays}
 use Rattle.record.specs.Record.{Words}
 use Rattle.exports_layouts.specs.declared.Layout as given
-use Rattle.exports_layouts.specs.declared.LayoutOut.{LayoutOut}
 use Rattle.exports_layouts.specs.Layouts.{wordsOut, layoutOut}
 use borrow.Author.Needs.{needs}
 use Rattle.exports_layouts.proofs.layout_out.Statement.{statement}

@@ -3,7 +3,6 @@ use mathlib.Core.Path.{sym, ap, _∙_}
 use Rattle.trailing.specs.declared.AdvanceAnswer.{AdvanceAnswer}
 use Rattle.trailing.specs.View.{advanceSays}
 use Rattle.exports_numbers.specs.declared.Trailing as given
-use Rattle.exports_numbers.specs.declared.TrailingAnswer.{TrailingAnswer}
 use Rattle.exports_numbers.specs.Numbers.{trailingOut}
 use borrow.Author.Needs.{needs}
 use Rattle.exports_numbers.proofs.trailing_out.Statement.{statement}

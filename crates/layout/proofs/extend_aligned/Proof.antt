@@ -2,7 +2,7 @@
 use mathlib.Core.Path.{ap, _∙_}
 use native.Mathlib.Omega.{arith}
 use Rattle.util.specs.Round.{up}
-use Rattle.util.specs.Refusal.{refused, unless}
+use Rattle.util.specs.Refusal.{refused}
 use Rattle.layout.specs.Extend.{extended}
 use Rattle.layout.specs.View.{layoutOf}
 use Rattle.layout.proofs.Passes.{up-told, up-refused, round-power}

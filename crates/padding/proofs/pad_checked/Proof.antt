@@ -13,7 +13,7 @@ use Rattle.util.proofs.Tables.{told-by, answer-is, accepted-as, refused-as}
 use Rattle.trailing.specs.View.{trailingOf}
 use Rattle.layout.specs.Layout.{Info, Layout, fixed, trailing, noWord}
 use Rattle.layout.specs.Extend.{roundingPasses}
-use Rattle.layout.specs.View.{layoutOf, infoOf, infoSays}
+use Rattle.layout.specs.View.{infoOf, infoSays}
 use Rattle.layout.specs.declared.SizeInfo.{SizeInfo}
 use Rattle.layout.specs.declared.SizeInfo.the-variants.{SliceDst}
 use Rattle.layout.proofs.Passes.{round-power}
