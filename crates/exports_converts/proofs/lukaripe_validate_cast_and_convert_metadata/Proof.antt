@@ -6,7 +6,7 @@ use Rattle.layout.specs.View.{layoutOf}
 use Rattle.exports_converts.specs.Converts.{castOut, sideGiven}
 use Rattle.exports_layouts.proofs.Given.{with-layout, with-refused}
 use borrow.Author.Needs.{needs}
-use Rattle.exports_converts.proofs.lukaripe_validate_cast_and_convert_metadata.Statement.{statement, }
+use Rattle.exports_converts.proofs.lukaripe_validate_cast_and_convert_metadata.Statement.{statement}
 use Rattle.exports_converts.proofs.lukaripe_validate_cast_and_convert_metadata.Tie as tie
 
 cast-type-requires : tie.Need-cast-type-requires

@@ -2,7 +2,7 @@
 use mathlib.Core.Path.{ap, _∙_}
 use Rattle.exports_numbers.specs.Numbers.{numberOut}
 use borrow.Author.Needs.{needs}
-use Rattle.exports_numbers.proofs.lukaripe_round_down_to_next_multiple_of_alignment.Statement.{statement, }
+use Rattle.exports_numbers.proofs.lukaripe_round_down_to_next_multiple_of_alignment.Statement.{statement}
 use Rattle.exports_numbers.proofs.lukaripe_round_down_to_next_multiple_of_alignment.Tie as tie
 
 round-down-to-next-multiple-of-alignment-requires :

@@ -7,7 +7,7 @@ use Rattle.rounding.proofs.Words.{not-zero, at-parts}
 use Rattle.trailing.specs.Size.{A, p}
 use Rattle.trailing.specs.Sequence.{sameStride, sameSequence}
 use Rattle.trailing.specs.View.{trailingOf}
-use Rattle.trailing.proofs.TrailingSliceLayout.has_same_size_sequence_at.Statement.{statement, }
+use Rattle.trailing.proofs.TrailingSliceLayout.has_same_size_sequence_at.Statement.{statement}
 use Rattle.trailing.proofs.TrailingSliceLayout.has_same_size_sequence_at.Tie as tie
 
 returns : tie.Need-returns
