@@ -28,8 +28,9 @@ pub enum Phase {
 
 pub const PHASES: [Phase; 4] = [Phase::Given, Phase::Small, Phase::Boundaries, Phase::Random];
 
-/// The most combinations that are tried one and all.
+/// The most combinations that are tried one and all, and what part of the cases they may be.
 const MOST_COMBINATIONS: u64 = 1 << 24;
+const PART: u64 = 4;
 /// The greatest level of small values, and the most values of one input.
 const MOST_LEVEL: u64 = 1 << 8;
 const MOST_VALUES: usize = 1 << 18;
@@ -43,10 +44,8 @@ pub struct Plan {
     pub pages: &'static [&'static [u64]],
     pub aim: Aim,
     pub seed: u64,
-    /// How many random cases.
+    /// How many cases of all phases: as many are random as the other phases leave.
     pub cases: u64,
-    /// How many random cases all functions have; the other phases are smaller where these are few.
-    pub all_cases: u64,
 }
 
 /// What is done with each case; it can put an end to them.
@@ -56,22 +55,23 @@ pub type Visit<'a> = &'a mut dyn FnMut(&[u64]) -> Result<(), String>;
 type Values = Vec<Vec<Vec<u64>>>;
 
 impl Plan {
-    /// Every case of one phase in turn.
-    pub fn each(&self, phase: Phase, visit: Visit) -> Result<(), String> {
+    /// Every case of one phase in turn, up to as many as are left.
+    pub fn each(&self, phase: Phase, left: u64, visit: Visit) -> Result<(), String> {
         match phase {
-            Phase::Given => self.given(visit),
-            Phase::Small => combinations(&self.small(), visit),
+            Phase::Given => self.given(left, visit),
+            Phase::Small => combinations(&self.small(), left, visit),
             Phase::Boundaries => match self.boundaries() {
-                Some(values) => combinations(&values, visit),
-                None => self.some_boundaries(visit),
+                Some(values) => combinations(&values, left, visit),
+                None => self.some_boundaries(left, visit),
             },
-            Phase::Random => self.random(visit),
+            Phase::Random => self.random(left, visit),
         }
     }
 
-    fn given(&self, visit: Visit) -> Result<(), String> {
-        self.pages.iter().try_for_each(|case| visit(case))?;
-        self.bad().iter().try_for_each(|case| visit(case))
+    fn given(&self, left: u64, visit: Visit) -> Result<(), String> {
+        let bad = self.bad();
+        let cases = self.pages.iter().copied().chain(bad.iter().map(Vec::as_slice));
+        cases.take(left as usize).try_for_each(visit)
     }
 
     /// Good inputs but for one, which is bad, or two.
@@ -93,7 +93,7 @@ impl Plan {
     }
 
     fn most_combinations(&self) -> u64 {
-        MOST_COMBINATIONS.min(2 * self.all_cases)
+        MOST_COMBINATIONS.min(self.cases / PART)
     }
 
     fn fits(&self, values: &Values) -> bool {
@@ -117,10 +117,10 @@ impl Plan {
         self.inputs.iter().map(listed).collect::<Option<Values>>().filter(|values| self.fits(values))
     }
 
-    fn some_boundaries(&self, visit: Visit) -> Result<(), String> {
+    fn some_boundaries(&self, left: u64, visit: Visit) -> Result<(), String> {
         let mut random = Random::new(self.seed);
         let mut case = Vec::new();
-        for _ in 0..MOST_DRAWN.min(self.most_combinations()) {
+        for _ in 0..MOST_DRAWN.min(self.most_combinations()).min(left) {
             case.clear();
             for input in &self.inputs {
                 input.kind.boundaries.draw(&mut random, &mut case);
@@ -130,10 +130,10 @@ impl Plan {
         Ok(())
     }
 
-    fn random(&self, visit: Visit) -> Result<(), String> {
+    fn random(&self, left: u64, visit: Visit) -> Result<(), String> {
         let mut random = Random::new(self.seed);
         let mut case = Vec::new();
-        for _ in 0..self.cases {
+        for _ in 0..left {
             case.clear();
             for input in &self.inputs {
                 (input.kind.draw)(&mut random, &mut case);
@@ -147,11 +147,11 @@ impl Plan {
     }
 }
 
-/// Every choice of one value for each input.
-fn combinations(values: &Values, visit: Visit) -> Result<(), String> {
+/// Every choice of one value for each input, up to as many as are left.
+fn combinations(values: &Values, left: u64, visit: Visit) -> Result<(), String> {
     let mut chosen = vec![0; values.len()];
     let mut case = Vec::new();
-    loop {
+    for _ in 0..left {
         case.clear();
         for (list, at) in values.iter().zip(&chosen) {
             case.extend(&list[*at]);
@@ -168,4 +168,5 @@ fn combinations(values: &Values, visit: Visit) -> Result<(), String> {
         }
         chosen[at] += 1;
     }
+    Ok(())
 }

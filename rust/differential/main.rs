@@ -1,7 +1,7 @@
 //! Calls the exports of liblukaripe.a and the Rust that they were ported from on the same inputs, and compares.
 //!
-//! tools/differential builds and runs it. It stops at the first difference, and fails too where something that can come
-//! of a function never did.
+//! tools/differential builds and runs it, and its help says what the words mean. It stops at the first difference. A
+//! run of the default number of inputs or more fails too where something that can come of a function never did.
 
 mod answer;
 #[path = "../lukaripe/src/exports.rs"]
@@ -24,15 +24,11 @@ use rows::{Row, Slot, LAYERS};
 use std::process::ExitCode;
 use std::time::Instant;
 
-const USAGE: &str = "\
-usage: differential [--cases N] [--seed S] [--only FUNCTION] [--record N]
-  --cases N        random inputs in total (default 10000000), beside the small numbers and the boundaries, which are
-                   fewer where N is below 8 million
-  --seed S         where the random numbers start (default 1)
-  --only FUNCTION  one function alone
-  --record N       write about N answers of each function to standard output, and wrong ones; no report (tools/record)";
+/// How many inputs are tried unless a number is named: enough for everything that can come of a function.
+const CASES: u64 = 100_000_000;
 
 struct Options {
+    /// All inputs of all functions.
     cases: u64,
     seed: u64,
     only: Option<String>,
@@ -44,10 +40,10 @@ fn rows() -> impl Iterator<Item = &'static Row> {
 }
 
 fn options() -> Result<Options, String> {
-    let mut options = Options { cases: 10_000_000, seed: 1, only: None, record: None };
+    let mut options = Options { cases: CASES, seed: 1, only: None, record: None };
     let mut words = std::env::args().skip(1);
     while let Some(name) = words.next() {
-        let value = words.next().ok_or(USAGE)?;
+        let value = words.next().ok_or(format!("{name} takes a value"))?;
         let number = || value.parse::<u64>().map_err(|_| format!("{name}: no number: {value}"));
         match name.as_str() {
             "--cases" => options.cases = number()?,
@@ -55,7 +51,7 @@ fn options() -> Result<Options, String> {
             "--record" => options.record = Some(number()?),
             "--only" if rows().any(|row| row.name == value) => options.only = Some(value),
             "--only" => return Err(format!("no function {value}")),
-            _ => return Err(USAGE.to_string()),
+            _ => return Err(format!("unknown word {name}")),
         }
     }
     Ok(options)
@@ -157,9 +153,9 @@ impl Tried<'_> {
     }
 
     /// The slots that nothing came to.
-    fn unreached(&self) -> Vec<String> {
+    fn empty(&self) -> Vec<String> {
         let empty = self.slots.iter().zip(&self.counts).filter(|(_, count)| **count == 0);
-        empty.map(|(slot, _)| format!("NEVER REACHED: {} {slot}", self.row.name)).collect()
+        empty.map(|(slot, _)| format!("{} {slot}", self.row.name)).collect()
     }
 }
 
@@ -168,17 +164,18 @@ fn line(function: &str, cell: &str, compared: &str, apart: &str) {
     println!("{function:<42}{cell:<46}{compared:>12}{apart:>12}");
 }
 
-/// Tries one function.
+/// Tries one function on so many inputs.
 fn run<'a>(row: &'a Row, options: &Options, cases: u64, progress: &mut Progress) -> Result<Tried<'a>, String> {
-    // Its own numbers, so that a function alone is tried on what it is tried on among all.
+    // Its own numbers, whichever functions come before it.
     let seed = options.seed.wrapping_add(row.number << 32);
-    let (inputs, all_cases) = (row.inputs.concat(), options.cases);
-    let plan = Plan { inputs, pages: row.pages, aim: row.aim, seed, cases, all_cases };
+    let plan = Plan { inputs: row.inputs.concat(), pages: row.pages, aim: row.aim, seed, cases };
+    let mut left = cases;
     let slots = row.slots();
     let mut counts = vec![0; slots.len()];
     let mut recorded = options.record.map(|lines| Recorded::new(row, slots.len(), seed, lines));
     for phase in PHASES {
-        plan.each(phase, &mut |case| {
+        plan.each(phase, left, &mut |case| {
+            left -= 1;
             progress.count(row);
             let (slot, answer) = compare(row, &slots, case).map_err(|what| {
                 let inputs = named(&plan.inputs, case);
@@ -211,22 +208,33 @@ fn report(tried: &[Tried], seed: u64, progress: &Progress) {
 
 fn all(options: &Options) -> Result<(), String> {
     let rows: Vec<&Row> = rows().filter(|row| options.only.as_ref().is_none_or(|only| only == row.name)).collect();
-    let cases = options.cases / rows.len().max(1) as u64;
     let mut progress = Progress { start: Instant::now(), inputs: 0 };
     let mut tried = Vec::new();
-    for row in rows {
+    for (at, row) in rows.iter().enumerate() {
         eprintln!("{}", row.name);
+        // As many for each, and of what is left over one for each of the first.
+        let (share, over) = (options.cases / rows.len() as u64, options.cases % rows.len() as u64);
+        let cases = share + u64::from((at as u64) < over);
         tried.push(run(row, options, cases, &mut progress)?);
     }
     if options.record.is_none() {
         report(&tried, options.seed, &progress);
     }
-    let unreached: Vec<String> = tried.iter().flat_map(Tried::unreached).collect();
-    if unreached.is_empty() {
-        Ok(())
-    } else {
-        Err(unreached.join("\n"))
+    empty_cells(&tried, options.cases)
+}
+
+/// What nothing came to is a fault, unless the inputs were fewer than it takes to come to everything.
+fn empty_cells(tried: &[Tried], cases: u64) -> Result<(), String> {
+    const SHOWN: usize = 3;
+    let empty: Vec<String> = tried.iter().flat_map(Tried::empty).collect();
+    if empty.is_empty() {
+        return Ok(());
     }
+    if cases >= CASES {
+        return Err(format!("{} cells empty:\n{}", empty.len(), empty.join("\n")));
+    }
+    eprintln!("{} cells empty, as: {}", empty.len(), empty[..empty.len().min(SHOWN)].join("; "));
+    Ok(())
 }
 
 fn main() -> ExitCode {
