@@ -1,2 +1,3 @@
 -- Laws of scalars, over any target.
 pub mod Scalars
+pub mod Column

@@ -10,16 +10,17 @@ use layout::LayoutAnswer;
 use layout::SizeInfo;
 use util::refusal;
 
-// The sizes of the scalars by code, which are their alignments too.
-const SCALAR_SIZES: [u64; 9] = [1, 2, 4, 8, 4, 8, 4, 1, 8];
+// The sizes of the scalars by code, which are their alignments too: powers of two, in two bits each, the first lowest.
+const SCALAR_POWERS: u64 = 0b11_00_10_11_10_11_10_01_00;
 
 pub const GREATEST_SCALAR_CODE: u64 = 8;
 
-fn scalar_size(code: usize) -> u64
+fn scalar_size(code: u64) -> u64
     requires { ⌜ code < 9 ⌝ }
     ensures { λ r. ⌜ r ≡ getD (target64 .sizes) code 0 ⌝ }
 {
-    SCALAR_SIZES[code]
+    let power = (SCALAR_POWERS >> (2 * code)) & 3;
+    1 << power
 }
 
 // The layout of a scalar.
@@ -30,7 +31,7 @@ pub fn scalar(code: u64) -> LayoutAnswer
     if code > GREATEST_SCALAR_CODE {
         return LayoutAnswer::Refused(refusal::SCALAR_CODE);
     }
-    let size = scalar_size(code as usize);
+    let size = scalar_size(code);
     LayoutAnswer::Layout(DstLayout {
         align: size,
         size_info: SizeInfo::Sized { size },
