@@ -1,11 +1,15 @@
--- The laws of `convert` at 32 bits: each holds at any width. Assumes nothing.
+-- The laws of `convert_defs` at 32 bits: each holds at any width. Assumes nothing.
 use mathlib.Core.Path.{_≡_}
-use Prim.Native.Nat.{ℕ, _^_, _<_}
+use mathlib.Core.Bool.{Bool}
+use Prim.Native.Nat.{ℕ, _^_, _≤_, _<_}
+use Rattle.util.specs.Width.{M}
 use Rattle.util.specs.Refusal.{Meets, None, Decided}
-use Rattle.layout.specs.Layout.{Layout, layoutCauses}
-use Rattle.shift.specs.Match.{Comparison}
-use Rattle.convert.specs.Convert.{Params, accepted, conversionOf, Converts, computeCauses, computeFor, converted, metadataCauses, metadataFor}
-use Rattle.convert.proofs.Conversions as Conversions
+use Rattle.layout.specs.Layout.{Info, Layout, sizeIn, layoutCauses, FitsWidth}
+use Rattle.shift_defs.specs.Match.{Comparison, Sound}
+use Rattle.convert_defs.specs.Convert.{Params, accepted, conversionOf, Converts, computeCauses, computeFor, converted, metadataCauses, metadataFor}
+use Rattle.convert_defs.specs.Convert.{KindsConvert, Converted}
+use Rattle.convert_defs.proofs.Conversions as Conversions
+use Rattle.convert_defs.proofs.Counts as Counts
 
 pub conversion-sound : (same : Comparison) (s t : Layout) (q : Params) → t .align < 2 ^ 32 → 0 < 32 → conversionOf 32 same s t ≡ accepted q → Converts 32 same s t q
 conversion-sound = Conversions.conversion-sound 32
@@ -24,3 +28,10 @@ compute-meets = Conversions.compute-meets 32
 
 pub metadata-meets : (q : Params) (n : ℕ) → Meets (metadataCauses 32 q n) (λ m. m ≡ converted q n) (metadataFor 32 q n)
 metadata-meets = Conversions.metadata-meets 32
+
+pub count-kept : {i j : Info} {q : Params} (same : Comparison) (a b : ℕ) (k m : Bool) (n : ℕ) → 0 < 32 → Sound 32 same
+    → let s : Layout = record { align = a; info = i; mark = k } in
+    let t : Layout = record { align = b; info = j; mark = m } in
+    FitsWidth 32 s → FitsWidth 32 t → None (layoutCauses 32 s) → None (layoutCauses 32 t) → KindsConvert 32 same i j q
+    → sizeIn 32 i n ≤ M 32 → Converted 32 i j q n
+count-kept = Counts.count-kept 32

@@ -5,8 +5,8 @@ use lib.Dec.{lit<}
 use Rattle.util.specs.Refusal.{answered}
 use Rattle.trailing.specs.Sequence.{sameSequence}
 use Rattle.layout.specs.Layout.{Layout}
-use Rattle.shift.specs.Match.{Comparison, Sound}
-use Rattle.convert.specs.Convert.{Params, computeFor}
+use Rattle.shift_defs.specs.Match.{Comparison, Sound}
+use Rattle.convert_defs.specs.Convert.{Params, computeFor}
 use Rattle.guarantee.specs.Demand.{Accepts, Demand3}
 use Rattle.guarantee.proofs.Demand as Demand
 

@@ -1,4 +1,4 @@
--- The laws of `shift` at 32 bits: each holds at any width. Assumes nothing.
+-- The laws of `shift_defs` at 32 bits: each holds at any width. Assumes nothing.
 use mathlib.Core.Path.{_≡_}
 use mathlib.Core.Bool.{Bool}
 use Prim.Native.Nat.{ℕ, _+_, _*_, _^_, _<_}
@@ -7,15 +7,15 @@ use Rattle.trailing.specs.Size.{Trailing, sizeAt}
 use Rattle.trailing.specs.Sequence.{EqualSizes, sameSequence}
 use Rattle.trailing.specs.Calls.{sameCauses}
 use Rattle.layout.specs.Layout.{trailing, Layout, layoutCauses}
-use Rattle.shift.specs.Match.{Comparison, Sound, shifted, Matches, matchTest, matchFor, FoundMatch}
-use Rattle.shift.specs.Shift.{by, shiftOf, IsShift, IsMultiple, shiftCauses, shiftFor, ShiftMeans}
+use Rattle.shift_defs.specs.Match.{Comparison, Sound, shifted, Matches, matchTest, matchFor, FoundMatch}
+use Rattle.shift_defs.specs.Shift.{by, shiftOf, IsShift, IsMultiple, shiftCauses, shiftFor, ShiftMeans}
 use Rattle.shift.specs.View.{shiftIn, shiftSays}
 use Rattle.shift.specs.declared.Shift as Code
 use Rattle.shift.specs.declared.ShiftAnswer.{ShiftAnswer}
 use Rattle.shift.specs.declared.ShiftAnswer.the-variants as Answer
-use Rattle.shift.proofs.Matching as Matching
-use Rattle.shift.proofs.Shifts as Shifts
-use Rattle.shift.proofs.Shifts.{slice}
+use Rattle.shift_defs.proofs.Matching as Matching
+use Rattle.shift_defs.proofs.Shifts as Shifts
+use Rattle.shift_defs.proofs.Shifts.{slice}
 use Rattle.shift.proofs.Told as Told
 
 pub same-sound : Sound 32 (sameSequence 32)

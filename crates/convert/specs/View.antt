@@ -1,7 +1,7 @@
 -- What the types of this crate are, over numbers: document 01's number and values for each case of an answer. Assumes nothing.
 use Rattle.util.specs.Refusal.{Outcome, answered, refused}
-use Rattle.convert.specs.Convert as Convert
-use Rattle.convert.specs.Convert.{Params, NoConversion, Conversion}
+use Rattle.convert_defs.specs.Convert as Convert
+use Rattle.convert_defs.specs.Convert.{Params, NoConversion, Conversion}
 use Rattle.convert.specs.declared.CastParamsInner.{CastParamsInner}
 use Rattle.convert.specs.declared.CastParamsInner.the-variants as Inner
 use Rattle.convert.specs.declared.Reason.{Reason}

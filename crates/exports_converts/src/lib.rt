@@ -4,7 +4,7 @@ ghost use Rattle.trailing.specs.Sequence.{sameSequence};
 ghost use Rattle.cast.specs.Cast.{castFor};
 ghost use Rattle.cast.specs.Exact.{exactFor};
 ghost use Rattle.cast.specs.View.{sideOf, castSays};
-ghost use Rattle.convert.specs.Convert.{computeFor, metadataFor};
+ghost use Rattle.convert_defs.specs.Convert.{computeFor, metadataFor};
 ghost use Rattle.convert.specs.View.{paramsIn, computeSays};
 ghost use Rattle.exports_numbers.specs.Numbers.{numberOut};
 ghost use Rattle.exports_layouts.specs.Layouts.{withLayout};

@@ -3,7 +3,7 @@
 // what it calls is called once here, and inlined.
 ghost use mathlib.Core.Path.{_≡_};
 ghost use Rattle.trailing.specs.Sequence.{sameSequence};
-ghost use Rattle.shift.specs.Match.{matchFor};
+ghost use Rattle.shift_defs.specs.Match.{matchFor};
 ghost use Rattle.exports_numbers.specs.Numbers.{decisionOut, trailingIn};
 use exports_numbers::Number;
 use exports_numbers::Trailing;

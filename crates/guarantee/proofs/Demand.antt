@@ -1,37 +1,28 @@
 -- Demand 3 holds, at any width, of any comparison of which a yes means equal sizes at every count. Assumes nothing.
-use mathlib.Core.Path.{_≡_, refl, ap, _∙_}
-use mathlib.Core.Bool.{Bool}
+use mathlib.Core.Path.{_≡_, ap, _∙_}
 use mathlib.Core.List.{[], _∷_, _++_}
-use mathlib.Core.Logic.{inl, inr}
-use Prim.Native.Nat.{ℕ, _+_, _*_, _%_, _^_, _≤_, _<_}
+use Prim.Native.Nat.{ℕ, _+_, _%_, _^_, _≤_, _<_}
 use lib.Dec.{lit<}
 use borrow.Author.Tests.{le-ltb}
-use native.Mathlib.Nat.{le-mul-of-pos-right}
 use native.Mathlib.Omega.{arith}
 use Rattle.util.specs.Width.{M}
 use Rattle.util.specs.Refusal.{Outcome, answered, unless, None}
 use Rattle.util.proofs.Refusals.{clear}
 use Rattle.util.proofs.Tables.{both-none}
-use Rattle.trailing.specs.Size.{Trailing, A, p, sizeAt}
+use Rattle.trailing.specs.Size.{A, p}
 use Rattle.trailing.specs.Sequence.{sameSequence}
-use Rattle.trailing.proofs.Sizes.{size-ge}
-use Rattle.layout.specs.Layout.{Info, fixed, trailing, Layout, IsCount, sizeIn, noWord, layoutCauses, FitsWidth}
+use Rattle.layout.specs.Layout.{Info, fixed, trailing, Layout, IsCount, sizeIn, noWord, layoutCauses}
 use Rattle.cast.specs.Cast.{prefix, Grant, countIn, IsElemZero, bytesCauses, castCauses, castFor}
 use Rattle.cast.proofs.Grants.{align-pos, greatest-in, cast-decided}
 use Rattle.cast.proofs.Exact.{count-mono}
-use Rattle.shift.specs.Match.{Comparison, Sound, Matches}
-use Rattle.shift.specs.Shift.{IsShift}
-use Rattle.shift.proofs.Matching.{same-sound, match-sizes}
-use Rattle.convert.specs.Convert.{Params, KindsConvert}
-use Rattle.convert.specs.Convert.{fixedToFixed, fixedToTrailing, trailingToTrailing, Conversion, noConversion, computeCauses, paramsOf}
-use Rattle.convert.specs.Convert.{computeFor, converted, metadataFor}
-use Rattle.convert.proofs.Conversions.{conversion-complete, compute-decided}
+use Rattle.shift_defs.specs.Match.{Comparison, Sound}
+use Rattle.shift_defs.proofs.Matching.{same-sound}
+use Rattle.convert_defs.specs.Convert.{Params}
+use Rattle.convert_defs.specs.Convert.{Conversion, noConversion, computeCauses, paramsOf}
+use Rattle.convert_defs.specs.Convert.{computeFor, converted, metadataFor}
+use Rattle.convert_defs.proofs.Conversions.{conversion-complete, compute-decided}
+use Rattle.convert_defs.proofs.Counts.{count-kept}
 use Rattle.guarantee.specs.Demand.{Answers, Accepts, Hold, CastKeeps, Kept, Demand3, countAfter, answersOf}
-
--- a count is at most its size, where the elements have one
-count-le : (w : ℕ) (t : Trailing) (n : ℕ) → 0 < w → (t .word ≡ 0 → ⊥) → 0 < t .elem → n ≤ sizeAt w t n
-count-le w t n pos nw h =
-    omega (arith, le-mul-of-pos-right n h, size-ge (t .base) (A w t) (p w t) (n * t .elem) (align-pos w t pos nw))
 
 -- the size at 0 is the least
 first-le : (w : ℕ) (i : Info) (c : ℕ) → 0 < w → (noWord i .means → ⊥) → sizeIn w i 0 ≤ sizeIn w i c
@@ -75,39 +66,6 @@ kept w same s t q n addr len more pos ht ok e ne fits is size = record {
     holds : Hold w s t n addr len → CastKeeps w t len (converted q n) (castFor w t prefix addr len)
     holds h = cast-keeps w t addr pos ht ok ne (h .aligned) (converted q n) len is (omega (arith, h .size)) (h .within)
 
-shift-match : {w : ℕ} {same : Comparison} {s t : Trailing} {d : ℕ} → IsShift w same s t d → Matches w same s t d
-shift-match (inl f) = f .match
-shift-match (inr f) = f .match
-
--- what the conversion's kinds say of the converted count: the elements of the target have a size, the count is one and has the old size
-record Converted (w : ℕ) (i j : Info) (q : Params) (n : ℕ) : Type 0 where
-  elem : IsElemZero j → ⊥
-  fits : converted q n ≤ M w
-  count : IsCount j (converted q n)
-  size : sizeIn w j (converted q n) ≡ sizeIn w i n
-
-by-kinds : {i j : Info} {q : Params} (w : ℕ) (same : Comparison) (a b : ℕ) (k m : Bool) (n : ℕ) → 0 < w → Sound w same
-    → let s : Layout = record { align = a; info = i; mark = k } in
-    let t : Layout = record { align = b; info = j; mark = m } in
-    FitsWidth w s → FitsWidth w t → None (layoutCauses w s) → None (layoutCauses w t) → KindsConvert w same i j q
-    → sizeIn w i n ≤ M w → Converted w i j q n
-by-kinds w same a b k m n pos sound hs ht oks okt (fixedToFixed {a = x}) fits =
-    record { elem = λ z. z; fits = omega arith; count = refl; size = refl }
-by-kinds w same a b k m n pos sound hs ht oks okt (fixedToTrailing {a = x} {n = c} {t = u} e) fits = record {
-  elem = λ z. omega (arith, e .elem);
-  fits = omega (arith, count-le w u c pos (okt .1 .0) (e .elem), e .size);
-  count = tt;
-  size = e .size;
-}
-by-kinds w same a b k m n pos sound hs ht oks okt (trailingToTrailing {s = v} {t = u} {d = d} {k = f} x h) fits =
-    let z = match-sizes sound (omega (arith, oks .1 .0)) (hs .word) (omega (arith, okt .1 .0)) (ht .word) (shift-match h) x n in
-    record {
-      elem = λ y. omega (arith, x .target);
-      fits = omega (arith, count-le w u (d + n * f) pos (okt .1 .0) (x .target));
-      count = tt;
-      size = z;
-    }
-
 -- what the rules accept is what the conversion's call answers
 pub compute-accepts : (w : ℕ) (same : Comparison) (s t : Layout) (q : Params) → s .align < 2 ^ w → t .align < 2 ^ w → 0 < w
     → Accepts w same s t q → computeFor w same s t ≡ answered q
@@ -121,7 +79,7 @@ compute-accepts w same s t q hs ht pos acc =
 pub demand-3 : (w : ℕ) (same : Comparison) → 0 < w → Sound w same → Demand3 w same
 demand-3 w same pos sound s t n addr len more hs ht q acc is fits =
     let e = compute-accepts w same s t q (hs .align) (ht .align) pos acc in
-    let c = by-kinds w same (s .align) (t .align) (s .mark) (t .mark) n pos sound hs ht (acc .source) (acc .target) (acc .converts .kinds) fits in
+    let c = count-kept w same (s .align) (t .align) (s .mark) (t .mark) n pos sound hs ht (acc .source) (acc .target) (acc .converts .kinds) fits in
     kept w same s t q n addr len more pos (ht .align) (acc .target) e (c .elem) (c .fits) (c .count) (c .size)
 
 -- demand 3 of the ported comparison, closed

@@ -17,10 +17,10 @@ use Rattle.layout.specs.Layout.{trailing, Layout, IsCount, sizeIn}
 use Rattle.cast.specs.Cast.{Greatest, Grant, countIn, castFor}
 use Rattle.cast.specs.Exact.{exactFor}
 use Rattle.cast.proofs.Grants.{greatest-in, one-greatest}
-use Rattle.shift.specs.Match.{Comparison, matchTest}
-use Rattle.shift.specs.Shift.{shiftOf}
-use Rattle.convert.specs.Convert.{Params, unsizedToUnsized, conversionOf, converted}
-use Rattle.convert.proofs.Conversions.{conversion-sound}
+use Rattle.shift_defs.specs.Match.{Comparison, matchTest}
+use Rattle.shift_defs.specs.Shift.{shiftOf}
+use Rattle.convert_defs.specs.Convert.{Params, unsizedToUnsized, conversionOf, converted}
+use Rattle.convert_defs.proofs.Conversions.{conversion-sound}
 use Rattle.guarantee.specs.Demand.{Answers, Accepts, Hold, CastKeeps, Demand3Of}
 
 -- what demand 3 gives of any answers, field by field

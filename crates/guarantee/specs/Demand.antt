@@ -6,8 +6,8 @@ use Rattle.util.specs.Width.{M}
 use Rattle.util.specs.Refusal.{Outcome, answered, refused, None}
 use Rattle.layout.specs.Layout.{Layout, IsCount, sizeIn, layoutCauses, FitsWidth}
 use Rattle.cast.specs.Cast.{prefix, Greatest, Grant, castFor}
-use Rattle.shift.specs.Match.{Comparison}
-use Rattle.convert.specs.Convert.{Params, Converts, computeFor, converted, metadataFor}
+use Rattle.shift_defs.specs.Match.{Comparison}
+use Rattle.convert_defs.specs.Convert.{Params, Converts, computeFor, converted, metadataFor}
 
 -- what the calls gave of which demand 3 speaks: the conversion of one layout to another, the count that n elements become, and
 -- two prefix casts of the target

@@ -1,4 +1,2 @@
--- Laws of matches and shifts, over any width and any comparison of sequences.
-pub mod Matching
-pub mod Shifts
+-- What the answers of shifts tell.
 pub mod Told

@@ -8,13 +8,13 @@ use Rattle.util.proofs.Refusals.{clear}
 use Rattle.util.proofs.Tables.{told-by, apart, both-none}
 use Rattle.trailing.specs.Size.{Trailing}
 use Rattle.layout.specs.Layout.{Info, trailing, Layout, layoutCauses}
-use Rattle.shift.specs.Match.{Comparison}
-use Rattle.shift.specs.Shift.{shiftOf, shiftBetween, shiftCauses, shiftFor}
+use Rattle.shift_defs.specs.Match.{Comparison}
+use Rattle.shift_defs.specs.Shift.{shiftOf, shiftBetween, shiftCauses, shiftFor}
 use Rattle.shift.specs.View.{shiftIn, shiftSays}
 use Rattle.shift.specs.declared.Shift as Code
 use Rattle.shift.specs.declared.ShiftAnswer.{ShiftAnswer}
 use Rattle.shift.specs.declared.ShiftAnswer.the-variants as Answer
-use Rattle.shift.proofs.Shifts.{shift-decided}
+use Rattle.shift_defs.proofs.Shifts.{shift-decided}
 
 -- between trailing layouts that are accepted, the elements of the second having a size, the shift is answered
 shift-answered : (w : ℕ) (same : Comparison) (l m : Layout) (s t : Trailing) → l .align < 2 ^ w → m .align < 2 ^ w → None (layoutCauses w l) → None (layoutCauses w m)

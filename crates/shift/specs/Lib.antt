@@ -1,3 +1,1 @@
-pub mod Match
-pub mod Shift
 pub mod View

@@ -14,9 +14,9 @@ use Rattle.trailing.specs.Sequence.{sameSequence}
 use Rattle.trailing.specs.Calls.{paddingForElems, sizeFor, advanced, sameFor}
 use Rattle.cast.specs.Cast.{castFor}
 use Rattle.cast.specs.Exact.{exactFor}
-use Rattle.shift.specs.Match.{matchTest}
-use Rattle.shift.specs.Shift.{shiftOf}
-use Rattle.convert.specs.Convert.{conversionOf, computeFor, metadataFor}
+use Rattle.shift_defs.specs.Match.{matchTest}
+use Rattle.shift_defs.specs.Shift.{shiftOf}
+use Rattle.convert_defs.specs.Convert.{conversionOf, computeFor, metadataFor}
 use Rattle.stars.specs.Stars.{tail, said, Claim, computed, stars}
 
 sizes-alike : (n : ℕ) → _≡_ {A = List ℕ} (sizeAt 64 (tail 0 9 4 0) n ∷ []) (sizeAt 64 (tail 0 10 4 0) n ∷ [])

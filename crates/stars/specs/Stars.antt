@@ -13,8 +13,8 @@ use Rattle.trailing.specs.Sequence.{sameSequence}
 use Rattle.trailing.specs.Calls.{paddingForElems, sizeFor, sameFor}
 use Rattle.layout.specs.Layout.{Layout, fixed, trailing}
 use Rattle.cast.specs.Cast.{Side, prefix, suffix, Grant, castFor}
-use Rattle.shift.specs.Shift.{Shift, by, missing, byOffset, matchedShift}
-use Rattle.convert.specs.Convert.{Params, sizedToSized, sizedToUnsized, unsizedToUnsized, computeFor, metadataFor}
+use Rattle.shift_defs.specs.Shift.{Shift, by, missing, byOffset, matchedShift}
+use Rattle.convert_defs.specs.Convert.{Params, sizedToSized, sizedToUnsized, unsizedToUnsized, computeFor, metadataFor}
 
 -- the calls of the table
 pub data Call : Type 0 where

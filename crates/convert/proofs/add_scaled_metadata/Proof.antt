@@ -5,7 +5,7 @@ use borrow.Author.Tests.{lt-ltb, le-ltb}
 use native.Mathlib.Omega.{arith}
 use Rattle.util.specs.Refusal.{answered, unless}
 use Rattle.util.proofs.Told.{product-told, product-past}
-use Rattle.convert.specs.Convert.{metadataFor}
+use Rattle.convert_defs.specs.Convert.{metadataFor}
 use borrow.Author.Needs.{needs}
 use Rattle.convert.proofs.add_scaled_metadata.Statement.{statement}
 use Rattle.convert.proofs.add_scaled_metadata.Tie as tie

@@ -5,10 +5,10 @@ use borrow.Author.Tests.{le-ltb}
 use native.Mathlib.Omega.{arith}
 use Rattle.util.specs.Refusal.{unless}
 use Rattle.util.proofs.Refusals.{told}
-use Rattle.convert.specs.Convert.{metadataFor}
+use Rattle.convert_defs.specs.Convert.{metadataFor}
 use Rattle.convert.specs.declared.CastParamsInner.{CastParamsInner}
 use Rattle.convert.specs.View.{paramsIn}
-use Rattle.convert.proofs.Conversions.{metadata-meets}
+use Rattle.convert_defs.proofs.Conversions.{metadata-meets}
 use borrow.Author.Needs.{needs}
 use Rattle.convert.proofs.cast_metadata.Statement.{statement}
 use Rattle.convert.proofs.cast_metadata.Tie as tie

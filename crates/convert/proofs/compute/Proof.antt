@@ -4,7 +4,7 @@ use borrow.Author.Tests.{lt-ltb, le-ltb}
 use Rattle.trailing.specs.Sequence.{sameSequence}
 use Rattle.layout.specs.declared.SizeInfo.{SizeInfo}
 use Rattle.layout.specs.View.{infoOf, layoutOf}
-use Rattle.convert.specs.Convert.{kindRules, conversionOf}
+use Rattle.convert_defs.specs.Convert.{kindRules, conversionOf}
 use borrow.Author.Needs.{needs}
 use Rattle.convert.proofs.compute.Statement.{statement}
 use Rattle.convert.proofs.compute.Tie as tie

@@ -2,7 +2,7 @@
 use mathlib.Core.Path.{sym, ap, _∙_}
 use mathlib.Core.Bool.{cond}
 use Rattle.util.specs.Refusal.{answered, refused, unless}
-use Rattle.convert.specs.Convert.{Conversion, isNone, noneNumber, paramsOf}
+use Rattle.convert_defs.specs.Convert.{Conversion, isNone, noneNumber, paramsOf}
 use Rattle.convert.specs.View.{computedIn}
 use borrow.Author.Needs.{needs}
 use Rattle.convert.proofs.compute_answer.Statement.{statement}

@@ -7,7 +7,7 @@ use Rattle.trailing.specs.Sequence.{sameSequence}
 use Rattle.layout.specs.Layout.{fixed}
 use Rattle.layout.specs.declared.SizeInfo.{SizeInfo}
 use Rattle.layout.specs.View.{infoOf, layoutOf}
-use Rattle.convert.specs.Convert.{withCount, kindRules}
+use Rattle.convert_defs.specs.Convert.{withCount, kindRules}
 use borrow.Author.Needs.{needs}
 use Rattle.convert.proofs.compute_from_sized.Statement.{statement}
 use Rattle.convert.proofs.compute_from_sized.Tie as tie

@@ -5,7 +5,7 @@ use Rattle.trailing.specs.View.{trailingOf}
 use Rattle.layout.specs.Layout.{trailing}
 use Rattle.layout.specs.declared.SizeInfo.{SizeInfo}
 use Rattle.layout.specs.View.{infoOf, layoutOf}
-use Rattle.convert.specs.Convert.{kindRules}
+use Rattle.convert_defs.specs.Convert.{kindRules}
 use borrow.Author.Needs.{needs}
 use Rattle.convert.proofs.compute_from_unsized.Statement.{statement}
 use Rattle.convert.proofs.compute_from_unsized.Tie as tie

@@ -8,7 +8,7 @@ use Rattle.trailing.specs.View.{trailingOf}
 use Rattle.layout.specs.View.{layoutOf}
 use Rattle.shift.specs.View.{shiftIn}
 use Rattle.shift.proofs.Told.{shift-told, shift-kept}
-use Rattle.convert.specs.Convert.{withShift}
+use Rattle.convert_defs.specs.Convert.{withShift}
 use borrow.Author.Needs.{needs}
 use Rattle.convert.proofs.compute_unsized.Statement.{statement}
 use Rattle.convert.proofs.compute_unsized.Tie as tie

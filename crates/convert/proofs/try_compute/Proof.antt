@@ -9,8 +9,8 @@ use Rattle.trailing.specs.Sequence.{sameSequence}
 use Rattle.layout.specs.Layout.{layoutCauses, checkFor}
 use Rattle.layout.specs.View.{layoutOf, checkSays}
 use Rattle.layout.proofs.Layouts.{layout-decided, held-accepted}
-use Rattle.convert.specs.Convert.{conversionOf, noConversion, paramsOf, computeFor}
-use Rattle.convert.proofs.Conversions.{compute-meets}
+use Rattle.convert_defs.specs.Convert.{conversionOf, noConversion, paramsOf, computeFor}
+use Rattle.convert_defs.proofs.Conversions.{compute-meets}
 use borrow.Author.Needs.{needs}
 use Rattle.convert.proofs.try_compute.Statement.{statement}
 use Rattle.convert.proofs.try_compute.Tie as tie

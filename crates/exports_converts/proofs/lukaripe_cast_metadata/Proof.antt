@@ -1,6 +1,6 @@
 -- `exports_converts::lukaripe_cast_metadata` meets its contract. Assumes nothing.
 use mathlib.Core.Path.{ap, _∙_}
-use Rattle.convert.specs.Convert.{Params, metadataFor}
+use Rattle.convert_defs.specs.Convert.{Params, metadataFor}
 use Rattle.exports_numbers.specs.Numbers.{numberOut}
 use borrow.Author.Needs.{needs}
 use Rattle.exports_converts.proofs.lukaripe_cast_metadata.Statement.{statement}

@@ -2,7 +2,7 @@
 use mathlib.Core.Path.{ap, ap₂, _∙_}
 use Rattle.trailing.specs.Size.{Trailing}
 use Rattle.trailing.specs.Sequence.{sameSequence}
-use Rattle.shift.specs.Match.{matchFor}
+use Rattle.shift_defs.specs.Match.{matchFor}
 use Rattle.exports_numbers.specs.Numbers.{decisionOut}
 use borrow.Author.Needs.{needs}
 use Rattle.exports_shift.proofs.lukaripe_size_sequences_match.Statement.{statement}

@@ -5,7 +5,7 @@ use native.Mathlib.Omega.{arith}
 use Rattle.util.specs.Refusal.{Outcome}
 use Rattle.trailing.specs.Sequence.{sameSequence}
 use Rattle.layout.specs.View.{layoutOf}
-use Rattle.convert.specs.Convert.{Params}
+use Rattle.convert_defs.specs.Convert.{Params}
 use Rattle.guarantee.specs.Demand.{countAfter, Demand3Of}
 use Rattle.guarantee.proofs.Demand.{compute-accepts, demand-3-at-64, same-answers}
 use borrow.Author.Needs.{needs}

@@ -7,7 +7,7 @@ use Rattle.trailing.specs.View.{trailingOf}
 use Rattle.layout.specs.Layout.{noWord}
 use Rattle.layout.specs.declared.SizeInfo.{SizeInfo}
 use Rattle.layout.specs.View.{infoOf, layoutOf}
-use Rattle.shift.specs.Shift.{shiftBetween}
+use Rattle.shift_defs.specs.Shift.{shiftBetween}
 use borrow.Author.Needs.{needs}
 use Rattle.shift.proofs.checked_delta_elems.Statement.{statement}
 use Rattle.shift.proofs.checked_delta_elems.Tie as tie

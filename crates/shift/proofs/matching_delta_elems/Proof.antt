@@ -3,7 +3,7 @@ use mathlib.Core.Path.{sym, ap, _∙_}
 use Rattle.trailing.specs.Sequence.{sameSequence}
 use Rattle.trailing.specs.View.{trailingOf}
 use Rattle.layout.specs.View.{layoutOf}
-use Rattle.shift.specs.Shift.{Shift, bySize, matchedShift, orElse, shiftOf}
+use Rattle.shift_defs.specs.Shift.{Shift, bySize, matchedShift, orElse, shiftOf}
 use Rattle.shift.specs.View.{shiftIn}
 use borrow.Author.Needs.{needs}
 use Rattle.shift.proofs.matching_delta_elems.Statement.{statement}

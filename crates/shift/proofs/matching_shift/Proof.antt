@@ -2,7 +2,7 @@
 use mathlib.Core.Path.{refl, sym, ap, _∙_}
 use Rattle.trailing.specs.Sequence.{sameSequence}
 use Rattle.trailing.specs.View.{trailingOf}
-use Rattle.shift.specs.Shift.{matchedShift}
+use Rattle.shift_defs.specs.Shift.{matchedShift}
 use Rattle.shift.specs.declared.Shift.{Shift}
 use Rattle.shift.specs.View.{shiftIn}
 use borrow.Author.Needs.{needs}

@@ -10,8 +10,8 @@ use Rattle.trailing.specs.Sequence.{sameSequence}
 use Rattle.layout.specs.Layout.{layoutCauses, checkFor}
 use Rattle.layout.specs.View.{layoutOf, checkSays}
 use Rattle.layout.proofs.Layouts.{layout-decided}
-use Rattle.shift.specs.Shift.{shiftBetween, shiftFor}
-use Rattle.shift.proofs.Shifts.{shift-meets}
+use Rattle.shift_defs.specs.Shift.{shiftBetween, shiftFor}
+use Rattle.shift_defs.proofs.Shifts.{shift-meets}
 use borrow.Author.Needs.{needs}
 use Rattle.shift.proofs.offset_delta_elems.Statement.{statement}
 use Rattle.shift.proofs.offset_delta_elems.Tie as tie

@@ -14,8 +14,8 @@ use Rattle.trailing.specs.View.{trailingOf}
 use Rattle.trailing.proofs.Sequences.{tells-same}
 use Rattle.trailing.proofs.Calls.{advanced-word, same-answered}
 use Rattle.trailing.proofs.Told.{advance-told, advance-missing}
-use Rattle.shift.specs.Match.{shifted}
-use Rattle.shift.proofs.Matching.{tells-matches}
+use Rattle.shift_defs.specs.Match.{shifted}
+use Rattle.shift_defs.proofs.Matching.{tells-matches}
 use borrow.Author.Needs.{needs}
 use Rattle.shift.proofs.sequences_match.Statement.{statement}
 use Rattle.shift.proofs.sequences_match.Tie as tie

@@ -6,8 +6,8 @@ use Rattle.util.specs.Refusal.{answered, unless}
 use Rattle.util.proofs.Refusals.{told}
 use Rattle.trailing.specs.Sequence.{sameSequence}
 use Rattle.trailing.specs.View.{trailingOf}
-use Rattle.shift.specs.Match.{matchFor}
-use Rattle.shift.proofs.Matching.{same-sound, match-meets}
+use Rattle.shift_defs.specs.Match.{matchFor}
+use Rattle.shift_defs.proofs.Matching.{same-sound, match-meets}
 use borrow.Author.Needs.{needs}
 use Rattle.shift.proofs.size_sequences_match.Statement.{statement}
 use Rattle.shift.proofs.size_sequences_match.Tie as tie

@@ -1,8 +1,7 @@
 -- The shift as computed and as a statement, over any width and comparison. Assumes nothing.
 use mathlib.Core.Path.{_≡_, refl, sym, ap, _∙_, subst}
 use mathlib.Core.Bool.{Bool, cond, _&&_}
-use mathlib.Core.List.{_++_}
-use mathlib.Core.Logic.{_⊎_, inl, inr}
+use mathlib.Core.Logic.{inl, inr}
 use Prim.Native.Nat.{ℕ, _+_, _-_, _*_, _/_, _%_, _^_, _≤_, _<_}
 use lib.Dec.{eqb, leb}
 use borrow.Author.Tests.{le-leb}
@@ -18,9 +17,9 @@ use Rattle.layout.specs.Layout.{Info, fixed, trailing, Layout, layoutCauses}
 use Rattle.layout.proofs.Layouts.{layout-decided}
 use Rattle.cast.specs.Exact.{ExactCount, exactFor}
 use Rattle.cast.proofs.Exact.{exact-sound, exact-complete}
-use Rattle.shift.specs.Match.{Comparison, Matches}
-use Rattle.shift.specs.Shift.{Shift, by, missing, byOffset, answeredBy, bySize, matchedShift, orElse, shiftOf, IsShift, shiftBetween, shiftCauses, shiftFor, ShiftMeans}
-use Rattle.shift.proofs.Matching.{tells-matches}
+use Rattle.shift_defs.specs.Match.{Comparison, Matches}
+use Rattle.shift_defs.specs.Shift.{Shift, by, missing, byOffset, answeredBy, bySize, matchedShift, orElse, shiftOf, IsShift, shiftBetween, shiftCauses, shiftFor, ShiftMeans}
+use Rattle.shift_defs.proofs.Matching.{tells-matches}
 
 -- a shift is one number, and not missing
 by-is : {c d : ℕ} → by c ≡ by d → c ≡ d

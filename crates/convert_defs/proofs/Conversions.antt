@@ -16,10 +16,10 @@ use Rattle.layout.specs.Layout.{Info, fixed, trailing, Layout, layoutCauses}
 use Rattle.layout.proofs.Layouts.{layout-decided}
 use Rattle.cast.specs.Exact.{exactFor}
 use Rattle.cast.proofs.Exact.{exact-sound, exact-complete}
-use Rattle.shift.specs.Match.{Comparison}
-use Rattle.shift.specs.Shift.{Shift, by, missing, shiftOf, IsShift, IsMultiple}
-use Rattle.shift.proofs.Shifts.{slice, shift-sound, shift-complete}
-use Rattle.convert.specs.Convert.{Params, sizedToSized, sizedToUnsized, unsizedToUnsized, NoConversion, sourceAlignLower, fixedSizesDiffer, targetElemZero, sourceElemSmaller, noWholeMultiple, Conversion, accepted, none, withShift, withCount, trailingRules, kindRules, conversionOf, KindsConvert, fixedToFixed, fixedToTrailing, trailingToTrailing, Converts, isNone, noConversion, computeCauses, paramsOf, computeFor, converted, metadataCauses, metadataFor}
+use Rattle.shift_defs.specs.Match.{Comparison}
+use Rattle.shift_defs.specs.Shift.{Shift, by, missing, shiftOf, IsShift, IsMultiple}
+use Rattle.shift_defs.proofs.Shifts.{slice, shift-sound, shift-complete}
+use Rattle.convert_defs.specs.Convert.{Params, sizedToSized, sizedToUnsized, unsizedToUnsized, NoConversion, sourceAlignLower, fixedSizesDiffer, targetElemZero, sourceElemSmaller, noWholeMultiple, Conversion, accepted, none, withShift, withCount, trailingRules, kindRules, conversionOf, KindsConvert, fixedToFixed, fixedToTrailing, trailingToTrailing, Converts, isNone, noConversion, computeCauses, paramsOf, computeFor, converted, metadataCauses, metadataFor}
 
 -- an accepted conversion is one
 accepted-is : {q r : Params} → accepted q ≡ accepted r → q ≡ r

@@ -10,7 +10,7 @@ use Rattle.util.specs.Refusal.{Outcome, answered, refused, Cause, unless}
 use Rattle.trailing.specs.Size.{Trailing, sizeAt, HasSize, sizeOffset}
 use Rattle.layout.specs.Layout.{Info, fixed, trailing, Layout, layoutCauses}
 use Rattle.cast.specs.Exact.{ExactCount, exactFor}
-use Rattle.shift.specs.Match.{Comparison, Matches, matchTest}
+use Rattle.shift_defs.specs.Match.{Comparison, Matches, matchTest}
 
 -- a shift that there is, or not
 pub data Shift : Type 0 where

@@ -1,7 +1,6 @@
 -- Two layouts that match at a shift, over any width and comparison. Assumes nothing.
 use mathlib.Core.Path.{_≡_, sym, ap, _∙_}
-use mathlib.Core.List.{[], _∷_}
-use Prim.Native.Nat.{ℕ, _+_, _-_, _*_, _/_, _%_, _^_, _≤_, _<_}
+use Prim.Native.Nat.{ℕ, _+_, _-_, _*_, _^_, _<_}
 use native.Mathlib.Omega.{arith}
 use Rattle.util.specs.Width.{M}
 use Rattle.util.specs.Refusal.{Tells, Meets}
@@ -12,8 +11,8 @@ use Rattle.trailing.specs.Sequence.{EqualSizes, sameSequence}
 use Rattle.trailing.specs.Calls.{sameCauses}
 use Rattle.trailing.proofs.Sequences.{tells-same, same-sizes}
 use Rattle.trailing.proofs.Calls.{advanced-word, advanced-word-lt, advanced-sizes}
-use Rattle.shift.specs.Match.{Comparison, Sound, shifted, Matches, matchTest, matchFor, FoundMatch}
-use Rattle.shift.specs.Shift.{IsMultiple}
+use Rattle.shift_defs.specs.Match.{Comparison, Sound, shifted, Matches, matchTest, matchFor, FoundMatch}
+use Rattle.shift_defs.specs.Shift.{IsMultiple}
 
 -- the ported comparison is sound
 pub same-sound : (w : ℕ) → Sound w (sameSequence w)

@@ -8,10 +8,11 @@ use lib.Dec.{eqb, ltb}
 use Rattle.util.specs.Width.{M}
 use Rattle.util.specs.Refusal.{Outcome, answered, refused, Cause, unless}
 use Rattle.trailing.specs.Size.{Trailing}
-use Rattle.layout.specs.Layout.{Info, fixed, trailing, Layout, layoutCauses}
+use Rattle.layout.specs.Layout.{Info, fixed, trailing, Layout, IsCount, sizeIn, layoutCauses}
+use Rattle.cast.specs.Cast.{IsElemZero}
 use Rattle.cast.specs.Exact.{ExactCount, exactFor}
-use Rattle.shift.specs.Match.{Comparison}
-use Rattle.shift.specs.Shift.{Shift, by, missing, shiftOf, IsShift, IsMultiple}
+use Rattle.shift_defs.specs.Match.{Comparison}
+use Rattle.shift_defs.specs.Shift.{Shift, by, missing, shiftOf, IsShift, IsMultiple}
 
 -- what an accepted conversion is: fixed to fixed; fixed to trailing, with the exact count; trailing to trailing, with the
 -- shift d and the multiple k
@@ -111,6 +112,13 @@ abbrev pub converted : Params → ℕ → ℕ
 converted sizedToSized n = 0
 converted (sizedToUnsized m) n = m
 converted (unsizedToUnsized d k) n = d + n * k
+
+-- what demand 3 needs of a converted count: it is one of the target, whose elements have a size, and has the source's size
+pub record Converted (w : ℕ) (i j : Info) (q : Params) (n : ℕ) : Type 0 where
+  pub elem : IsElemZero j → ⊥
+  pub fits : converted q n ≤ M w
+  pub count : IsCount j (converted q n)
+  pub size : sizeIn w j (converted q n) ≡ sizeIn w i n
 
 -- 19: the converted count passes M
 abbrev pub countPasses : ℕ → Params → ℕ → Cause

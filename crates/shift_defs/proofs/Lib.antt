@@ -1,0 +1,3 @@
+-- Laws of matches and shifts, over any width and any comparison of sequences.
+pub mod Matching
+pub mod Shifts
