@@ -51,7 +51,7 @@ int main(void) {
     if (wide.refusal != 0)
         return refused("for_slice", wide.refusal);
     lukaripe_cast_params_answer params = lukaripe_try_compute(record.layout, wide.layout);
-    if (params.refusal != LUKARIPE_REFUSED_NO_CONVERSION)
+    if (params.refusal != LUKARIPE_REFUSED_SOURCE_ELEM_SMALLER)
         return refused("try_compute", params.refusal);
     printf("as a run of 4 bytes each: %s\n", lukaripe_refusal_text(params.refusal));
     return 0;

@@ -67,12 +67,19 @@ enum {
     LUKARIPE_REFUSED_NO_SIZE = 15,
     LUKARIPE_REFUSED_NO_ROOM = 16,
     LUKARIPE_REFUSED_ADVANCE_PASSES_MAX = 17,
-    LUKARIPE_REFUSED_NO_CONVERSION = 18,
     LUKARIPE_REFUSED_CONVERTED_COUNT_PASSES_MAX = 19,
     LUKARIPE_REFUSED_RECORD_LENGTH = 20,
     LUKARIPE_REFUSED_KIND = 21,
     LUKARIPE_REFUSED_FIXED_RECORD = 22,
-    LUKARIPE_REFUSED_SCALAR_CODE = 23
+    LUKARIPE_REFUSED_SCALAR_CODE = 23,
+    LUKARIPE_REFUSED_SOURCE_ALIGN_LOWER = 25,
+    LUKARIPE_REFUSED_FIXED_SIZES_DIFFER = 26,
+    LUKARIPE_REFUSED_TRAILING_TO_FIXED = 27,
+    LUKARIPE_REFUSED_SOURCE_NO_EXACT_COUNT = 28,
+    LUKARIPE_REFUSED_TARGET_ELEM_SIZE_ZERO = 29,
+    LUKARIPE_REFUSED_SOURCE_ELEM_SMALLER = 30,
+    LUKARIPE_REFUSED_ELEM_NO_MULTIPLE = 31,
+    LUKARIPE_REFUSED_NO_SHIFT = 32
 };
 
 /* The cause of a refusal in words. "accepted" for 0, and "unknown refusal" for a number that this version does not have. */
@@ -114,8 +121,6 @@ static inline const char *lukaripe_refusal_text(uint64_t refusal) {
         return "there is less room than the size without elements";
     case LUKARIPE_REFUSED_ADVANCE_PASSES_MAX:
         return "the advance overflows";
-    case LUKARIPE_REFUSED_NO_CONVERSION:
-        return "the one layout does not convert to the other";
     case LUKARIPE_REFUSED_CONVERTED_COUNT_PASSES_MAX:
         return "the converted count overflows";
     case LUKARIPE_REFUSED_RECORD_LENGTH:
@@ -126,6 +131,22 @@ static inline const char *lukaripe_refusal_text(uint64_t refusal) {
         return "a record of a fixed size has a later word that is not 0";
     case LUKARIPE_REFUSED_SCALAR_CODE:
         return "the code of a scalar is above 8";
+    case LUKARIPE_REFUSED_SOURCE_ALIGN_LOWER:
+        return "the source's alignment is lower than the target's";
+    case LUKARIPE_REFUSED_FIXED_SIZES_DIFFER:
+        return "both are of a fixed size, and the sizes differ";
+    case LUKARIPE_REFUSED_TRAILING_TO_FIXED:
+        return "the source ends in a run of elements and the target is of a fixed size";
+    case LUKARIPE_REFUSED_SOURCE_NO_EXACT_COUNT:
+        return "no count of the target's elements has exactly the size of the source";
+    case LUKARIPE_REFUSED_TARGET_ELEM_SIZE_ZERO:
+        return "the target's elements have size 0";
+    case LUKARIPE_REFUSED_SOURCE_ELEM_SMALLER:
+        return "the source's elements are smaller than the target's";
+    case LUKARIPE_REFUSED_ELEM_NO_MULTIPLE:
+        return "the size of the source's elements is no whole multiple of the target's";
+    case LUKARIPE_REFUSED_NO_SHIFT:
+        return "no shift lines the sizes of source and target up";
     default:
         return "unknown refusal";
     }
@@ -348,7 +369,7 @@ LUKARIPE_USE_RESULT lukaripe_number lukaripe_size_sequences_match(lukaripe_trail
                                                                   uint64_t dst_base);
 
 /* How counts of src are converted to counts of dst that have the same size. Refusals: layout refusals, of src and then of
- * dst; 18. */
+ * dst; then why there is no conversion, 25 to 32. */
 LUKARIPE_USE_RESULT lukaripe_cast_params_answer lukaripe_try_compute(lukaripe_layout src, lukaripe_layout dst);
 
 /* The count that src_meta becomes. Refusals: 19. */

@@ -100,16 +100,21 @@ pub const EXACT: &[Spoil] = layouts![whole;
 ];
 pub const SOURCE_TAIL: &[Spoil] = &[(2, |c| c.source_tail.0[3] = 0), (2, |c| c.tail.0[3] = 0)];
 pub const CONVERT: &[Spoil] = layouts![source, whole;
-    // The alignment is lower; a trailing source and a fixed target; a fixed source that is smaller.
-    (18, |c| c.whole.0[0] = 2 * c.source.0[0]),
-    (18, |c| c.whole = c.fixed),
-    (18, |c| c.source.0 = [c.source.0[0], 1, 0, 0, 0, 0]),
-    // No whole multiple; other sizes.
-    (18, |c| {
+    (25, |c| c.whole.0[0] = 2 * c.source.0[0]),
+    (26, |c| {
+        c.source.0 = [c.source.0[0], 1, c.fixed.0[2] + 1, 0, 0, 0];
+        c.whole = c.fixed;
+        c.whole.0[0] = 1;
+    }),
+    (27, |c| c.whole = c.fixed),
+    (28, |c| c.source.0 = [c.source.0[0], 1, 0, 0, 0, 0]),
+    (29, |c| c.whole.0[4] = 0),
+    (30, |c| c.whole.0[4] = c.source.0[4] + 1),
+    (31, |c| {
         c.whole.0[4] *= 2;
         c.source.0[4] = 2 * c.whole.0[4] - 1;
     }),
-    (18, |c| c.source.0[2] = 0)
+    (32, |c| c.source.0[2] = 0)
 ];
 pub const CONVERTED: &[Spoil] = &[
     (19, |c| {

@@ -235,7 +235,7 @@ functions! {
     }
     try_compute(src: Layout, dst: Layout) -> 4 {
         let (src, dst) = (layout(src)?, layout(dst)?);
-        let Some(params) = CastParams::try_compute(&src, &dst) else { return Err(18) };
+        let params = CastParams::try_compute_or_why(&src, &dst)?;
         Ok(match params.inner {
             CastParamsInner::SizedToSized => [0, 0, 0, 0],
             CastParamsInner::SizedToUnsized { dst_meta } => [1, 0, 0, dst_meta as u64],

@@ -155,6 +155,52 @@ RETURNED = [
 ]
 
 
+# The function that computes a conversion, once more, with a number of document 02 at each place where it gives none: which
+# of them it is, is the order of the tests in the Rust.
+REASONED = [
+    ("fn try_compute(", "#[cfg_attr(bench, inline(always))]\n                fn try_compute_or_why(", 1),
+    (") -> Option<CastParams<Src, Dst>> {", ") -> Result<CastParams, u64> {", 1),
+    (
+        "if src_layout.align.get() < dst_layout.align.get() {\n                        return None;",
+        "if src_layout.align.get() < dst_layout.align.get() {\n                        return Err(25);",
+        1,
+    ),
+    (
+        "if src_size != dst_size {\n                                return None;",
+        "if src_size != dst_size {\n                                return Err(26);",
+        1,
+    ),
+    ("_ => return None,\n                    };", "_ => return Err(27),\n                    };", 1),
+    (
+        "Some(meta) => meta,\n                                None => return None,",
+        "Some(meta) => meta,\n                                None => return Err(28),",
+        1,
+    ),
+    (
+        "} else {\n                                return None;\n                            };",
+        "} else {\n                                return Err(29);\n                            };",
+        1,
+    ),
+    (
+        "if src.elem_size < dst.elem_size {\n                                return None;",
+        "if src.elem_size < dst.elem_size {\n                                return Err(30);",
+        1,
+    ),
+    (
+        "if described_src_elem_size != src.elem_size {\n                                return None;",
+        "if described_src_elem_size != src.elem_size {\n                                return Err(31);",
+        1,
+    ),
+    # What is left is the second shift, which no size at 0, no exact count of it or no match denies.
+    ("return None", "return Err(32)", 3),
+    (
+        "Some(CastParams { inner, _src: PhantomData, _dst: PhantomData })",
+        "Ok(CastParams { inner })",
+        1,
+    ),
+]
+
+
 def stop(message):
     sys.exit(f"extract.py: {message}")
 
@@ -200,6 +246,8 @@ def main():
     for old, new, _ in ASSERTIONS:
         functions = functions.replace(old, new)
     text += "\nimpl DstLayout {\n" + substitute(functions, RETURNED) + "}\n"
+    conversion = cut(layout, "const fn try_compute(").replace("const fn ", "fn ").replace("super::", "")
+    text += "\nimpl CastParams {\n" + substitute(conversion, REASONED) + "}\n"
     out.parent.mkdir(parents=True, exist_ok=True)
     text = "// Cut from zerocopy 0.8.63 by rust/oracle/extract.py; its licences apply.\n" + text
     out.write_text(text, encoding="utf-8")

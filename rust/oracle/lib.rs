@@ -287,8 +287,13 @@ pub fn size_sequences_match(src: Trailing, dst: Trailing, dst_base: u64) -> Says
     yes_or_no(CastParams::size_sequences_match(trailing(src), trailing(dst), dst_base as usize))
 }
 
+/// The Rust's answer; where it gives none, the number of the place at which it does.
 pub fn try_compute(src: Layout, dst: Layout) -> Says<4> {
-    let params = CastParams::try_compute(&layout(src), &layout(dst)).ok_or(18u64)?;
+    let (src, dst) = (layout(src), layout(dst));
+    let why = CastParams::try_compute_or_why(&src, &dst).err();
+    let params = CastParams::try_compute(&src, &dst);
+    assert_eq!(params.is_none(), why.is_some(), "the Rust's conversion and the one that says why there is none");
+    let params = params.ok_or_else(|| why.unwrap())?;
     Ok(match params.inner {
         CastParamsInner::SizedToSized => [0, 0, 0, 0],
         CastParamsInner::SizedToUnsized { dst_meta } => [1, 0, 0, dst_meta as u64],

@@ -3,25 +3,38 @@ use mathlib.Core.Path.{_≡_}
 use mathlib.Core.Bool.{Bool}
 use Prim.Native.Nat.{ℕ, _^_, _≤_, _<_}
 use Rattle.util.specs.Width.{M}
-use Rattle.util.specs.Refusal.{Meets, None, Decided}
+use Rattle.util.specs.Refusal.{answered, refused, Meets, None}
 use Rattle.layout.specs.Layout.{Info, Layout, sizeIn, layoutCauses, FitsWidth}
 use Rattle.shift_defs.specs.Match.{Comparison, Sound}
-use Rattle.convert_defs.specs.Convert.{Params, accepted, conversionOf, Converts, computeCauses, computeFor, converted, metadataCauses, metadataFor}
+use Rattle.convert_defs.specs.Convert.{Params, Converts, NoConversion, paramsOf, computeCauses, computeFor, converted, metadataCauses, metadataFor}
 use Rattle.convert_defs.specs.Convert.{KindsConvert, Converted}
+use Rattle.convert_defs.specs.Reasons.{conversionCauses, firstReason, lastReason}
 use Rattle.convert_defs.proofs.Conversions as Conversions
+use Rattle.convert_defs.proofs.Refused as Refused
 use Rattle.convert_defs.proofs.Counts as Counts
 
-pub conversion-sound : (same : Comparison) (s t : Layout) (q : Params) → t .align < 2 ^ 32 → 0 < 32 → conversionOf 32 same s t ≡ accepted q → Converts 32 same s t q
-conversion-sound = Conversions.conversion-sound 32
+pub compute-sound : (same : Comparison) (s t : Layout) (q : Params) → s .align < 2 ^ 32 → t .align < 2 ^ 32 → 0 < 32
+    → computeFor 32 same s t ≡ answered q → Converts 32 same s t q
+compute-sound = Conversions.compute-sound 32
 
-pub conversion-complete : (same : Comparison) (s t : Layout) (q : Params) → t .align < 2 ^ 32 → 0 < 32 → None (layoutCauses 32 t) → Converts 32 same s t q → conversionOf 32 same s t ≡ accepted q
+pub compute-accepts : (same : Comparison) (s t : Layout) (q : Params) → s .align < 2 ^ 32 → t .align < 2 ^ 32 → 0 < 32
+    → None (layoutCauses 32 s) → None (layoutCauses 32 t) → Converts 32 same s t q → computeFor 32 same s t ≡ answered q
+compute-accepts = Conversions.compute-accepts 32
+
+pub reason-none : (same : Comparison) (s t : Layout) (k : ℕ) → s .align < 2 ^ 32 → t .align < 2 ^ 32 → 0 < 32
+    → computeFor 32 same s t ≡ refused k → firstReason ≤ k → NoConversion 32 same s t
+reason-none = Refused.reason-none 32
+
+pub none-reason : (same : Comparison) (s t : Layout) → s .align < 2 ^ 32 → t .align < 2 ^ 32 → 0 < 32
+    → NoConversion 32 same s t → (k : ℕ) × ((computeFor 32 same s t ≡ refused k) × ((firstReason ≤ k) × (k ≤ lastReason)))
+none-reason = Refused.none-reason 32
+
+pub conversion-complete : (same : Comparison) (s t : Layout) (q : Params) → t .align < 2 ^ 32 → 0 < 32 → None (layoutCauses 32 t)
+    → Converts 32 same s t q → None (conversionCauses 32 same s t) × (paramsOf 32 same (s .info) t (t .info) ≡ q)
 conversion-complete = Conversions.conversion-complete 32
 
 pub one-conversion : (same : Comparison) (s t : Layout) (q r : Params) → t .align < 2 ^ 32 → 0 < 32 → None (layoutCauses 32 t) → Converts 32 same s t q → Converts 32 same s t r → q ≡ r
 one-conversion = Conversions.one-conversion 32
-
-pub compute-decided : (same : Comparison) (s t : Layout) → s .align < 2 ^ 32 → t .align < 2 ^ 32 → 0 < 32 → Decided (computeCauses 32 same s t)
-compute-decided = Conversions.compute-decided 32
 
 pub compute-meets : (same : Comparison) (s t : Layout) → s .align < 2 ^ 32 → t .align < 2 ^ 32 → 0 < 32 → Meets (computeCauses 32 same s t) (Converts 32 same s t) (computeFor 32 same s t)
 compute-meets = Conversions.compute-meets 32

@@ -4,14 +4,13 @@ ghost use Rattle.util.specs.Refusal.{answered, None, Meets, unless};
 ghost use Rattle.util.specs.View.{numberSays};
 ghost use Rattle.trailing.specs.Sequence.{sameSequence};
 ghost use Rattle.trailing.specs.View.{trailingOf};
-ghost use mathlib.Core.List.{[], _∷_};
 ghost use Rattle.layout.specs.Layout.{fixed, trailing, layoutCauses, FitsWidth};
 ghost use Rattle.layout.specs.View.{infoOf, layoutOf};
-ghost use Rattle.convert_defs.specs.Convert.{Params, trailingRules, kindRules, conversionOf, reasonNumber};
-ghost use Rattle.convert_defs.specs.Convert.{noConversion, paramsOf};
+ghost use Rattle.convert_defs.specs.Reasons.{conversionCauses};
+ghost use Rattle.convert_defs.specs.Convert.{Params, paramsOf, byKinds};
 ghost use Rattle.convert_defs.specs.Convert.{unsizedToUnsized, Converts, computeCauses, computeFor, converted};
 ghost use Rattle.convert_defs.specs.Convert.{metadataCauses, metadataFor};
-ghost use Rattle.convert.specs.View.{paramsIn, reasonIn, computedIn, computeSays};
+ghost use Rattle.convert.specs.View.{paramsIn, computeSays};
 use layout::Check;
 use layout::DstLayout;
 use layout::SizeInfo;
@@ -36,24 +35,6 @@ pub enum CastParamsInner {
     SizedToSized,
 }
 
-// Why there is no conversion, in the order tested.
-pub enum Reason {
-    SourceAlignLower,
-    FixedSizesDiffer,
-    TrailingToFixed,
-    NoExactCount,
-    TargetElemZero,
-    SourceElemSmaller,
-    NoWholeMultiple,
-    NoShift,
-}
-
-// A conversion, or why there is none.
-pub enum Computed {
-    Accepted(CastParamsInner),
-    None(Reason),
-}
-
 // A conversion, or the number of the refusal.
 pub enum ComputeAnswer {
     Params(CastParamsInner),
@@ -66,41 +47,42 @@ fn compute_unsized(
     src: TrailingSliceLayout,
     dst_layout: DstLayout,
     dst: TrailingSliceLayout,
-) -> Computed
+) -> ComputeAnswer
     requires { ⌜
         None (layoutCauses 64 (layoutOf «src_layout»)) × (infoOf («src_layout» .«size_info») ≡ trailing (trailingOf src))
         × None (layoutCauses 64 (layoutOf «dst_layout»)) × (infoOf («dst_layout» .«size_info») ≡ trailing (trailingOf dst))
         ⌝ }
     ensures { λ r. ⌜
-        computedIn r ≡ trailingRules 64 (sameSequence 64) (trailingOf src) (layoutOf «dst_layout») (trailingOf dst)
+        computeSays r ≡ byKinds 64 (sameSequence 64) (trailing (trailingOf src)) (layoutOf «dst_layout»)
+        (trailing (trailingOf dst))
         ⌝ }
 {
     let dst_elem_size = dst.elem_size;
     if dst_elem_size == 0 {
-        return Computed::None(Reason::TargetElemZero);
+        return ComputeAnswer::Refused(refusal::TARGET_ELEM_SIZE_ZERO);
     }
     let src_elem_size = src.elem_size;
     if src_elem_size < dst_elem_size {
-        return Computed::None(Reason::SourceElemSmaller);
+        return ComputeAnswer::Refused(refusal::SOURCE_ELEM_SMALLER);
     }
     if src_elem_size % dst_elem_size != 0 {
-        return Computed::None(Reason::NoWholeMultiple);
+        return ComputeAnswer::Refused(refusal::ELEM_NO_MULTIPLE);
     }
     let ShiftAnswer::Shift(shift) = shift::offset_delta_elems(src_layout, dst_layout) else {
-        return Computed::None(Reason::NoShift);
+        return ComputeAnswer::Refused(refusal::NO_SHIFT);
     };
     match shift {
-        Shift::By(elems) => Computed::Accepted(CastParamsInner::UnsizedToUnsized {
+        Shift::By(elems) => ComputeAnswer::Params(CastParamsInner::UnsizedToUnsized {
             offset_delta_elems: elems,
             elem_multiple: src_elem_size / dst_elem_size,
         }),
-        Shift::Missing => Computed::None(Reason::NoShift),
+        Shift::Missing => ComputeAnswer::Refused(refusal::NO_SHIFT),
     }
 }
 
-fn compute_from_sized(src_size: u64, dst_layout: DstLayout) -> Computed
+fn compute_from_sized(src_size: u64, dst_layout: DstLayout) -> ComputeAnswer
     ensures { λ r. ⌜
-        computedIn r ≡ kindRules 64 (sameSequence 64) (fixed «src_size») (layoutOf «dst_layout»)
+        computeSays r ≡ byKinds 64 (sameSequence 64) (fixed «src_size») (layoutOf «dst_layout»)
         (infoOf («dst_layout» .«size_info»))
         ⌝ }
 {
@@ -108,16 +90,16 @@ fn compute_from_sized(src_size: u64, dst_layout: DstLayout) -> Computed
     match size_info {
         SizeInfo::Sized { size } => {
             if src_size == size {
-                Computed::Accepted(CastParamsInner::SizedToSized)
+                ComputeAnswer::Params(CastParamsInner::SizedToSized)
             } else {
-                Computed::None(Reason::FixedSizesDiffer)
+                ComputeAnswer::Refused(refusal::FIXED_SIZES_DIFFER)
             }
         }
         SizeInfo::SliceDst(_) => match cast::metadata_for_exact_size(dst_layout, src_size) {
             Answer::Number(dst_meta) => {
-                Computed::Accepted(CastParamsInner::SizedToUnsized { dst_meta })
+                ComputeAnswer::Params(CastParamsInner::SizedToUnsized { dst_meta })
             }
-            Answer::Refused(_) => Computed::None(Reason::NoExactCount),
+            Answer::Refused(_) => ComputeAnswer::Refused(refusal::SOURCE_NO_EXACT_COUNT),
         },
     }
 }
@@ -126,64 +108,38 @@ fn compute_from_unsized(
     src_layout: DstLayout,
     src: TrailingSliceLayout,
     dst_layout: DstLayout,
-) -> Computed
+) -> ComputeAnswer
     requires { ⌜
         None (layoutCauses 64 (layoutOf «src_layout»)) × (infoOf («src_layout» .«size_info») ≡ trailing (trailingOf src))
         × None (layoutCauses 64 (layoutOf «dst_layout»))
         ⌝ }
     ensures { λ r. ⌜
-        computedIn r ≡ kindRules 64 (sameSequence 64) (trailing (trailingOf src)) (layoutOf «dst_layout»)
+        computeSays r ≡ byKinds 64 (sameSequence 64) (trailing (trailingOf src)) (layoutOf «dst_layout»)
         (infoOf («dst_layout» .«size_info»))
         ⌝ }
 {
     let size_info = dst_layout.size_info;
     match size_info {
-        SizeInfo::Sized { size: _ } => Computed::None(Reason::TrailingToFixed),
+        SizeInfo::Sized { size: _ } => ComputeAnswer::Refused(refusal::TRAILING_TO_FIXED),
         SizeInfo::SliceDst(dst) => compute_unsized(src_layout, src, dst_layout, dst),
     }
 }
 
-// The conversion between two layouts that passed their checks, or why there is none.
-fn compute(src_layout: DstLayout, dst_layout: DstLayout) -> Computed
+// The conversion between two layouts that passed their checks.
+fn compute(src_layout: DstLayout, dst_layout: DstLayout) -> ComputeAnswer
     requires { ⌜ None (layoutCauses 64 (layoutOf «src_layout»)) × None (layoutCauses 64 (layoutOf «dst_layout»)) ⌝ }
-    ensures { λ r. ⌜ computedIn r ≡ conversionOf 64 (sameSequence 64) (layoutOf «src_layout») (layoutOf «dst_layout») ⌝ }
+    ensures { λ r. ⌜
+        computeSays r ≡ unless (conversionCauses 64 (sameSequence 64) (layoutOf «src_layout») (layoutOf «dst_layout»))
+        (paramsOf 64 (sameSequence 64) (layoutOf «src_layout» .info) (layoutOf «dst_layout») (layoutOf «dst_layout» .info))
+        ⌝ }
 {
     if src_layout.align < dst_layout.align {
-        return Computed::None(Reason::SourceAlignLower);
+        return ComputeAnswer::Refused(refusal::SOURCE_ALIGN_LOWER);
     }
     let size_info = src_layout.size_info;
     match size_info {
         SizeInfo::Sized { size } => compute_from_sized(size, dst_layout),
         SizeInfo::SliceDst(src) => compute_from_unsized(src_layout, src, dst_layout),
-    }
-}
-
-// The refusal number of a reason.
-fn reason_number(reason: Reason) -> u64
-    ensures { λ r. ⌜ r ≡ reasonNumber (reasonIn reason) ⌝ }
-{
-    match reason {
-        Reason::SourceAlignLower => refusal::NO_CONVERSION,
-        Reason::FixedSizesDiffer => refusal::NO_CONVERSION,
-        Reason::TrailingToFixed => refusal::NO_CONVERSION,
-        Reason::NoExactCount => refusal::NO_CONVERSION,
-        Reason::TargetElemZero => refusal::NO_CONVERSION,
-        Reason::SourceElemSmaller => refusal::NO_CONVERSION,
-        Reason::NoWholeMultiple => refusal::NO_CONVERSION,
-        Reason::NoShift => refusal::NO_CONVERSION,
-    }
-}
-
-fn compute_answer(src_layout: DstLayout, dst_layout: DstLayout) -> ComputeAnswer
-    requires { ⌜ None (layoutCauses 64 (layoutOf «src_layout»)) × None (layoutCauses 64 (layoutOf «dst_layout»)) ⌝ }
-    ensures { λ r. ⌜
-        computeSays r ≡ unless (noConversion 64 (sameSequence 64) (layoutOf «src_layout») (layoutOf «dst_layout») ∷ [])
-        (paramsOf (conversionOf 64 (sameSequence 64) (layoutOf «src_layout») (layoutOf «dst_layout»)))
-        ⌝ }
-{
-    match compute(src_layout, dst_layout) {
-        Computed::Accepted(params) => ComputeAnswer::Params(params),
-        Computed::None(reason) => ComputeAnswer::Refused(reason_number(reason)),
     }
 }
 
@@ -202,7 +158,7 @@ pub fn try_compute(src_layout: DstLayout, dst_layout: DstLayout) -> ComputeAnswe
 {
     match src_layout.check() {
         Check::Accepted => match dst_layout.check() {
-            Check::Accepted => compute_answer(src_layout, dst_layout),
+            Check::Accepted => compute(src_layout, dst_layout),
             Check::Refused(number) => ComputeAnswer::Refused(number),
         },
         Check::Refused(number) => ComputeAnswer::Refused(number),

@@ -1,6 +1,5 @@
 -- Demand 3 holds, at any width, of any comparison of which a yes means equal sizes at every count. Assumes nothing.
 use mathlib.Core.Path.{_≡_, ap, _∙_}
-use mathlib.Core.List.{[], _∷_, _++_}
 use Prim.Native.Nat.{ℕ, _+_, _%_, _^_, _≤_, _<_}
 use lib.Dec.{lit<}
 use borrow.Author.Tests.{le-ltb}
@@ -18,11 +17,10 @@ use Rattle.cast.proofs.Exact.{count-mono}
 use Rattle.shift_defs.specs.Match.{Comparison, Sound}
 use Rattle.shift_defs.proofs.Matching.{same-sound}
 use Rattle.convert_defs.specs.Convert.{Params}
-use Rattle.convert_defs.specs.Convert.{Conversion, noConversion, computeCauses, paramsOf}
 use Rattle.convert_defs.specs.Convert.{computeFor, converted, metadataFor}
-use Rattle.convert_defs.proofs.Conversions.{conversion-complete, compute-decided}
+use Rattle.convert_defs.proofs.Conversions.{compute-accepts}
 use Rattle.convert_defs.proofs.Counts.{count-kept}
-use Rattle.guarantee.specs.Demand.{Answers, Accepts, Hold, CastKeeps, Kept, Demand3, countAfter, answersOf}
+use Rattle.guarantee.specs.Demand.{Answers, Hold, CastKeeps, Kept, Demand3, countAfter, answersOf}
 
 -- the size at 0 is the least
 first-le : (w : ℕ) (i : Info) (c : ℕ) → 0 < w → (noWord i .means → ⊥) → sizeIn w i 0 ≤ sizeIn w i c
@@ -66,19 +64,9 @@ kept w same s t q n addr len more pos ht ok e ne fits is size = record {
     holds : Hold w s t n addr len → CastKeeps w t len (converted q n) (castFor w t prefix addr len)
     holds h = cast-keeps w t addr pos ht ok ne (h .aligned) (converted q n) len is (omega (arith, h .size)) (h .within)
 
--- what the rules accept is what the conversion's call answers
-pub compute-accepts : (w : ℕ) (same : Comparison) (s t : Layout) (q : Params) → s .align < 2 ^ w → t .align < 2 ^ w → 0 < w
-    → Accepts w same s t q → computeFor w same s t ≡ answered q
-unfolding computeFor
-compute-accepts w same s t q hs ht pos acc =
-    clear (computeCauses w same s t) (compute-decided w same s t hs ht pos)
-    (both-none (layoutCauses w s) (layoutCauses w t ++ (noConversion w same s t ∷ [])) (acc .source)
-    (both-none (layoutCauses w t) (noConversion w same s t ∷ []) (acc .target) ((λ g. g q (acc .converts)), tt)))
-    ∙ ap (λ (c : Conversion). answered (paramsOf c)) (conversion-complete w same s t q ht pos (acc .target) (acc .converts))
-
 pub demand-3 : (w : ℕ) (same : Comparison) → 0 < w → Sound w same → Demand3 w same
 demand-3 w same pos sound s t n addr len more hs ht q acc is fits =
-    let e = compute-accepts w same s t q (hs .align) (ht .align) pos acc in
+    let e = compute-accepts w same s t q (hs .align) (ht .align) pos (acc .source) (acc .target) (acc .converts) in
     let c = count-kept w same (s .align) (t .align) (s .mark) (t .mark) n pos sound hs ht (acc .source) (acc .target) (acc .converts .kinds) fits in
     kept w same s t q n addr len more pos (ht .align) (acc .target) e (c .elem) (c .fits) (c .count) (c .size)
 

@@ -19,8 +19,8 @@ use Rattle.cast.specs.Exact.{exactFor}
 use Rattle.cast.proofs.Grants.{greatest-in, one-greatest}
 use Rattle.shift_defs.specs.Match.{Comparison, matchTest}
 use Rattle.shift_defs.specs.Shift.{shiftOf}
-use Rattle.convert_defs.specs.Convert.{Params, unsizedToUnsized, conversionOf, converted}
-use Rattle.convert_defs.proofs.Conversions.{conversion-sound}
+use Rattle.convert_defs.specs.Convert.{Params, unsizedToUnsized, computeFor, converted}
+use Rattle.convert_defs.proofs.Conversions.{compute-sound}
 use Rattle.guarantee.specs.Demand.{Answers, Accepts, Hold, CastKeeps, Demand3Of}
 
 -- what demand 3 gives of any answers, field by field
@@ -43,11 +43,11 @@ abbrev target : Layout
 target = record { align = 2; info = trailing (record { offset = 0; elem = 2; base = 4; word = 2 }); mark = true }
 
 accepts : Accepts 64 (sameSequence 64) source target (unsizedToUnsized 2 2)
-unfolding powerOfTwo up down highestBit sizeWith bytesWithin countWithin sameSequence advanced castFor exactFor matchTest shiftOf conversionOf unless
+unfolding powerOfTwo up down highestBit sizeWith bytesWithin countWithin sameSequence advanced castFor exactFor matchTest shiftOf computeFor unless
 accepts = record {
   source = ((λ n. n (record { exponent = 2; power = refl })), ((λ z. omega arith), tt));
   target = ((λ n. n (record { exponent = 1; power = refl })), ((λ z. omega arith), tt));
-  converts = conversion-sound 64 (sameSequence 64) source target (unsizedToUnsized 2 2) (lit< tt) (lit< tt) refl;
+  converts = compute-sound 64 (sameSequence 64) source target (unsizedToUnsized 2 2) (lit< tt) (lit< tt) (lit< tt) refl;
 }
 
 -- the greatest count in so many bytes, and its size

@@ -25,7 +25,7 @@ use Rattle.shift_defs.proofs.Matching.{tells-matches}
 by-is : {c d : ℕ} → by c ≡ by d → c ≡ d
 by-is e = cc
 
-by-not : {d : ℕ} → missing ≡ by d → ⊥
+pub by-not : {d : ℕ} → missing ≡ by d → ⊥
 by-not e = let z : _≡_ {A = ℕ} 0 1 = cc in omega arith
 
 -- the first way: d whole target elements between the size offsets

@@ -1,7 +1,7 @@
 -- The starred cases hold: each row but one is computed from the definitions, and that one is shown at every count. Assumes nothing.
 use mathlib.Core.Path.{_≡_, ap}
 use mathlib.Core.List.{List, [], _∷_}
-use Prim.Native.Nat.{ℕ, _+_, _*_, _/_, _%_}
+use Prim.Native.Nat.{ℕ}
 use native.Mathlib.Omega.{arith}
 use Rattle.util.specs.Power.{powerOfTwo}
 use Rattle.util.specs.Round.{up, down, padding}
@@ -16,7 +16,7 @@ use Rattle.cast.specs.Cast.{castFor}
 use Rattle.cast.specs.Exact.{exactFor}
 use Rattle.shift_defs.specs.Match.{matchTest}
 use Rattle.shift_defs.specs.Shift.{shiftOf}
-use Rattle.convert_defs.specs.Convert.{conversionOf, computeFor, metadataFor}
+use Rattle.convert_defs.specs.Convert.{computeFor, metadataFor}
 use Rattle.stars.specs.Stars.{tail, said, Claim, computed, stars}
 
 sizes-alike : (n : ℕ) → _≡_ {A = List ℕ} (sizeAt 64 (tail 0 9 4 0) n ∷ []) (sizeAt 64 (tail 0 10 4 0) n ∷ [])
@@ -24,5 +24,5 @@ unfolding sizeWith up highestBit
 sizes-alike n = ap (λ (x : ℕ). x ∷ []) (omega arith)
 
 pub stars-hold : Claim 64 stars
-unfolding powerOfTwo up down padding unless paddingFor highestBit componentsFor sizeWith bytesWithin countWithin sameSequence paddingForElems sizeFor advanced sameFor castFor exactFor matchTest shiftOf conversionOf computeFor metadataFor
+unfolding powerOfTwo up down padding unless paddingFor highestBit componentsFor sizeWith bytesWithin countWithin sameSequence paddingForElems sizeFor advanced sameFor castFor exactFor matchTest shiftOf computeFor metadataFor
 stars-hold n = ap (λ (x : List ℕ). x ∷ said n computed) (sizes-alike n)

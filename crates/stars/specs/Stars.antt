@@ -1,5 +1,5 @@
--- The starred cases of document 01, "Pages from the proof table": one table of calls with their inputs and the numbers they
--- give, and one claim of each row. Assumes nothing.
+-- The starred cases of document 01, "Pages from the proof table", with the numbers that document 02 gives them: one table of
+-- calls with their inputs and the numbers they give, and one claim of each row. Assumes nothing.
 use mathlib.Core.Path.{_≡_}
 use mathlib.Core.Bool.{Bool, true, cond}
 use mathlib.Core.List.{List, [], _∷_}
@@ -137,7 +137,9 @@ computed =
     ∷ gives (firstWay source2 target2) []
     ∷ gives (tryCompute (sliceOf 8 source2) (sliceOf 4 target2)) (0 ∷ 1 ∷ 1 ∷ [])
     ∷ gives (tryCompute (fixedOf 4 16) (sliceOf 4 target2)) (0 ∷ 1 ∷ [])
-    ∷ gives (tryCompute (fixedOf 4 15) (sliceOf 4 target2)) (18 ∷ [])
+    ∷ gives (tryCompute (fixedOf 4 15) (sliceOf 4 target2)) (28 ∷ [])
+    ∷ gives (tryCompute (fixedOf 4 16) (sliceOf 4 (tail 8 4 0 0))) (28 ∷ [])
+    ∷ gives (tryCompute (sliceOf 8 source2) (sliceOf 4 (tail 8 4 0 0))) (29 ∷ [])
     ∷ gives (sizeForElems (tail (2 ^ 64 - 8) 8 1 0) 0) (0 ∷ (2 ^ 64 - 8) ∷ [])
     ∷ gives (sizeForElems (tail (2 ^ 64 - 8) 8 1 0) 1) (15 ∷ [])
     ∷ gives (sizeForElems (tail (2 ^ 64 - 8) 9 1 0) 0) (15 ∷ [])

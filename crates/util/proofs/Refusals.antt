@@ -123,7 +123,7 @@ one-number (c ∷ cs) j k (inl (p, e)) (inr (n, f)) = absurd (n p)
 one-number (c ∷ cs) j k (inr (n, e)) (inl (q, f)) = absurd (n q)
 one-number (c ∷ cs) j k (inr (n, e)) (inr (m, f)) = one-number cs j k e f
 
-no-number : (cs : List Cause) (k : ℕ) → None cs → First cs k → ⊥
+pub no-number : (cs : List Cause) (k : ℕ) → None cs → First cs k → ⊥
 no-number (c ∷ cs) k n (inl (p, e)) = n .0 p
 no-number (c ∷ cs) k n (inr (m, f)) = no-number cs k (n .1) f
 

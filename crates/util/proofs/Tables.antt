@@ -1,10 +1,11 @@
 -- Laws of refusal tables: one table for two answers, and two tables one after the other. Assumes nothing.
-use mathlib.Core.Path.{_≡_, refl, sym, ap, _∙_}
+use mathlib.Core.Path.{_≡_, refl, sym, subst, ap, _∙_}
 use mathlib.Core.Bool.{Bool, true, false, cond}
 use mathlib.Core.List.{List, [], _∷_, _++_}
+use mathlib.Core.Logic.{_⊎_, inl, inr, ⊎-elim}
 use Prim.Native.Nat.{ℕ}
 use native.Mathlib.Omega.{arith}
-use Rattle.util.specs.Refusal.{Outcome, answered, refused, Cause, unless, Tells, holds, fails, None, Decided}
+use Rattle.util.specs.Refusal.{Outcome, answered, refused, Cause, unless, Tells, holds, fails, None, First, Decided}
 
 -- what an answer that a match found says is the outcome
 pub told-by : {R T : Type 0} (says : R → Outcome T) {r s : R} {o : Outcome T} → says r ≡ o → r ≡ s → o ≡ says s
@@ -82,3 +83,18 @@ pub accepted-none : {T : Type 0} (cs : List Cause) (y : T) {z : T} → Decided c
 unfolding unless
 accepted-none [] y d e = tt
 accepted-none (c ∷ cs) y d e = none-step c cs (unless cs y) (d .0) (λ n. accepted-none cs y (d .1 n)) e
+
+-- the first cause of two tables is one of the first, or none of the first holds and it is one of the second
+pub first-both : (cs ds : List Cause) (k : ℕ) → First (cs ++ ds) k → First cs k ⊎ (None cs × First ds k)
+first-both [] ds k f = inr (tt, f)
+first-both (c ∷ cs) ds k (inl h) = inl (inl h)
+first-both (c ∷ cs) ds k (inr (n, f)) = ⊎-elim (λ x. inl (inr (n, x))) (λ x. inr ((n, x .0), x .1)) (first-both cs ds k f)
+
+-- what is so of every number of a table is so of the one that refuses
+abbrev pub Numbers : (ℕ → Type 0) → List Cause → Type 0
+Numbers P [] = Unit {0}
+Numbers P (c ∷ cs) = P (c .number) × Numbers P cs
+
+pub number-among : (P : ℕ → Type 0) (cs : List Cause) (k : ℕ) → Numbers P cs → First cs k → P k
+number-among P (c ∷ cs) k n (inl (x, e)) = subst P (sym e) (n .0)
+number-among P (c ∷ cs) k n (inr (x, f)) = number-among P cs k (n .1) f

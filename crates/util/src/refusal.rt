@@ -1,4 +1,4 @@
-// Why a call is refused: the numbers of document 01, "When a call says no". A number is never reused.
+// Why a call is refused: the numbers of document 01, "When a call says no", and of document 02. A number is never reused.
 
 // An alignment is 0 or no power of two.
 pub const ALIGN_NOT_POWER_OF_TWO: u64 = 1;
@@ -34,8 +34,6 @@ pub const NO_SIZE: u64 = 15;
 pub const NO_ROOM: u64 = 16;
 // An advance passes the greatest number.
 pub const ADVANCE_PASSES_MAX: u64 = 17;
-// There is no conversion.
-pub const NO_CONVERSION: u64 = 18;
 // The converted count passes the greatest number.
 pub const CONVERTED_COUNT_PASSES_MAX: u64 = 19;
 // A record is not 48 bytes long, or a list no multiple of that.
@@ -46,3 +44,19 @@ pub const KIND: u64 = 21;
 pub const FIXED_RECORD: u64 = 22;
 // A scalar code is above the greatest.
 pub const SCALAR_CODE: u64 = 23;
+// No conversion: the source alignment is lower.
+pub const SOURCE_ALIGN_LOWER: u64 = 25;
+// No conversion: two fixed sizes differ.
+pub const FIXED_SIZES_DIFFER: u64 = 26;
+// No conversion: trailing goes to fixed.
+pub const TRAILING_TO_FIXED: u64 = 27;
+// No conversion: a fixed source has no exact count.
+pub const SOURCE_NO_EXACT_COUNT: u64 = 28;
+// No conversion: a trailing target has element size 0.
+pub const TARGET_ELEM_SIZE_ZERO: u64 = 29;
+// No conversion: the source element is the smaller.
+pub const SOURCE_ELEM_SMALLER: u64 = 30;
+// No conversion: the source element is no whole multiple of the target's.
+pub const ELEM_NO_MULTIPLE: u64 = 31;
+// No conversion: no shift lines the sizes up.
+pub const NO_SHIFT: u64 = 32;

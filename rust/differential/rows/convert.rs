@@ -1,6 +1,6 @@
 //! Conversions.
 
-use super::{answered, apart, apart_for, layout_of, refused_for, trailing_of, yes_or_no, Row, TRAILING};
+use super::{answered, apart, apart_for, layout_of, refused, refused_for, trailing_of, yes_or_no, Row, TRAILING};
 use crate::answer::{told, Answer};
 use crate::exports::*;
 use crate::guarantee;
@@ -37,14 +37,14 @@ pub const ROWS: &[Row] = &[
             answered(FIRST_MULTIPLE),
             answered(FIRST_EQUAL_WORDS),
             answered("second way"),
-            refused_for(18, "source alignment lower"),
-            refused_for(18, "fixed sizes differ"),
-            refused_for(18, "trailing to fixed"),
-            refused_for(18, "no exact count of a fixed source"),
-            refused_for(18, "target e 0"),
-            refused_for(18, "source e smaller"),
-            refused_for(18, "no whole multiple"),
-            refused_for(18, "no shift"),
+            refused(25),
+            refused(26),
+            refused(27),
+            refused(28),
+            refused(29),
+            refused(30),
+            refused(31),
+            refused(32),
             apart(1),
             apart(2),
             apart(21),
@@ -107,8 +107,21 @@ pub const ROWS: &[Row] = &[
             answered("second way, cast more"),
             answered("cast fewer"),
             answered("cast refused"),
-            refused_for(18, "cast granted"),
-            refused_for(18, "cast refused"),
+            refused_for(25, "cast granted"),
+            refused_for(26, "cast granted"),
+            refused_for(27, "cast granted"),
+            refused_for(28, "cast granted"),
+            refused_for(30, "cast granted"),
+            refused_for(31, "cast granted"),
+            refused_for(32, "cast granted"),
+            refused_for(25, "cast refused"),
+            refused_for(26, "cast refused"),
+            refused_for(27, "cast refused"),
+            refused_for(28, "cast refused"),
+            refused_for(29, "cast refused"),
+            refused_for(30, "cast refused"),
+            refused_for(31, "cast refused"),
+            refused_for(32, "cast refused"),
             apart_for(0, "count refused 19"),
             apart(1),
             apart(2),
@@ -206,7 +219,7 @@ fn which_match(src: [u64; 4], dst: [u64; 4]) -> &'static str {
 
 fn which_conversion(inputs: &[u64], answer: &Answer) -> &'static str {
     if answer.refusal != 0 {
-        return why_none(layout_of(inputs), layout_of(&inputs[6..]));
+        return "";
     }
     let (src, dst) = (trailing_of(&inputs[2..]), trailing_of(&inputs[8..]));
     match answer.values[0] {
@@ -250,29 +263,6 @@ fn by_difference(src: [u64; 4], dst: [u64; 4], shift: u64) -> bool {
     let [src_offset] = oracle::size_offset(src).unwrap();
     let [dst_offset] = oracle::size_offset(dst).unwrap();
     u128::from(src_offset) == u128::from(dst_offset) + u128::from(shift) * u128::from(dst[2])
-}
-
-/// Why there is no conversion: the reasons in the order in which the Rust tests them.
-fn why_none(src: [u64; 6], dst: [u64; 6]) -> &'static str {
-    let (src_fixed, dst_fixed) = (src[1] < 2, dst[1] < 2);
-    let (src_elem, dst_elem) = (src[4], dst[4]);
-    if src[0] < dst[0] {
-        "source alignment lower"
-    } else if src_fixed && dst_fixed {
-        "fixed sizes differ"
-    } else if dst_fixed {
-        "trailing to fixed"
-    } else if src_fixed {
-        "no exact count of a fixed source"
-    } else if dst_elem == 0 {
-        "target e 0"
-    } else if src_elem < dst_elem {
-        "source e smaller"
-    } else if src_elem % dst_elem != 0 {
-        "no whole multiple"
-    } else {
-        "no shift"
-    }
 }
 
 // ---- where to aim ----

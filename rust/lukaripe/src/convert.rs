@@ -54,8 +54,10 @@ impl CastParams {
     ///
     /// let params = CastParams::try_compute(wide, narrow)?;
     /// assert_eq!(params, CastParams::UnsizedToUnsized { offset_delta_elems: 2, elem_multiple: 2 });
-    /// // The other way the alignment of the source is lower.
-    /// assert_eq!(CastParams::try_compute(narrow, wide), Err(Refusal::NoConversion));
+    /// // The other way there is none, and the refusal says why.
+    /// let refusal = CastParams::try_compute(narrow, wide).unwrap_err();
+    /// assert_eq!(refusal, Refusal::SourceAlignLower);
+    /// assert_eq!(refusal.to_string(), "the source's alignment is lower than the target's");
     ///
     /// let params = CastParams::try_compute(Layout::of::<[u32; 5]>(), wide)?;
     /// assert_eq!(params, CastParams::SizedToUnsized { dst_meta: 3 });
@@ -64,8 +66,11 @@ impl CastParams {
     ///
     /// # Errors
     ///
-    /// [`Refusal::AlignNotPowerOfTwo`] or [`Refusal::RoundingWordZero`] for `src`, then for `dst`; then
-    /// [`Refusal::NoConversion`].
+    /// [`Refusal::AlignNotPowerOfTwo`] or [`Refusal::RoundingWordZero`] for `src`, then for `dst`. Then the first of
+    /// these that holds: [`Refusal::SourceAlignLower`]; of two fixed sizes [`Refusal::FixedSizesDiffer`]; from a run of
+    /// elements to a fixed size [`Refusal::TrailingToFixed`]; from a fixed size to a run of elements
+    /// [`Refusal::SourceNoExactCount`]; between two runs of elements [`Refusal::TargetElemSizeZero`],
+    /// [`Refusal::SourceElemSmaller`], [`Refusal::ElemNoMultiple`], [`Refusal::NoShift`].
     pub fn try_compute(src: Layout, dst: Layout) -> Result<CastParams> {
         exports::lukaripe_try_compute(src.words(), dst.words()).answer().map(CastParams::from_words)
     }

@@ -62,12 +62,19 @@ refusals! {
     NoSize = 15, "the size at this count of elements overflows";
     NoRoom = 16, "there is less room than the size without elements";
     AdvancePassesMax = 17, "the advance overflows";
-    NoConversion = 18, "the one layout does not convert to the other";
     ConvertedCountPassesMax = 19, "the converted count overflows";
     RecordLength = 20, "a record is not 48 bytes long, or a list no multiple of that";
     Kind = 21, "the kind of a record is above 3";
     FixedRecord = 22, "a record of a fixed size has a later word that is not 0";
     ScalarCode = 23, "the code of a scalar is above 8";
+    SourceAlignLower = 25, "the source's alignment is lower than the target's";
+    FixedSizesDiffer = 26, "both are of a fixed size, and the sizes differ";
+    TrailingToFixed = 27, "the source ends in a run of elements and the target is of a fixed size";
+    SourceNoExactCount = 28, "no count of the target's elements has exactly the size of the source";
+    TargetElemSizeZero = 29, "the target's elements have size 0";
+    SourceElemSmaller = 30, "the source's elements are smaller than the target's";
+    ElemNoMultiple = 31, "the size of the source's elements is no whole multiple of the target's";
+    NoShift = 32, "no shift lines the sizes of source and target up";
 }
 
 impl Refusal {

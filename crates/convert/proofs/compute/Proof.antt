@@ -4,13 +4,14 @@ use borrow.Author.Tests.{lt-ltb, le-ltb}
 use Rattle.trailing.specs.Sequence.{sameSequence}
 use Rattle.layout.specs.declared.SizeInfo.{SizeInfo}
 use Rattle.layout.specs.View.{infoOf, layoutOf}
-use Rattle.convert_defs.specs.Convert.{kindRules, conversionOf}
+use Rattle.convert_defs.specs.Convert.{byKinds}
+use Rattle.util.specs.Refusal.{unless}
 use borrow.Author.Needs.{needs}
 use Rattle.convert.proofs.compute.Statement.{statement}
 use Rattle.convert.proofs.compute.Tie as tie
 
 returns : tie.Need-returns
-unfolding conversionOf
+unfolding unless
 returns c =
     let k = c .before .before .before in
     let s = layoutOf (k .args .src-layout) in
@@ -32,20 +33,20 @@ compute-from-unsized-requires c κs =
     (k .pre .0, ap infoOf (c .before .size-info2 .given .1), k .pre .1)
 
 returns-2 : tie.Need-returns-2
-unfolding conversionOf
+unfolding unless
 returns-2 c =
     let k = c .before .before .before .before .before .before .before in
     let s = layoutOf (k .args .src-layout) in
     let t = layoutOf (k .args .dst-layout) in
-    c .compute-from-sized .ensures ∙ ap (λ (i : SizeInfo). kindRules 64 (sameSequence 64) (infoOf i) t (t .info)) (sym (c .before .before .size-info .given .1)) ∙ simp (le-ltb (s .align) (t .align) (c .before .before .before .before .if1 .left))
+    c .compute-from-sized .ensures ∙ ap (λ (i : SizeInfo). byKinds 64 (sameSequence 64) (infoOf i) t (t .info)) (sym (c .before .before .size-info .given .1)) ∙ simp (le-ltb (s .align) (t .align) (c .before .before .before .before .if1 .left))
 
 returns-3 : tie.Need-returns-3
-unfolding conversionOf
+unfolding unless
 returns-3 c =
     let k = c .before .before .before .before .before .before .before in
     let s = layoutOf (k .args .src-layout) in
     let t = layoutOf (k .args .dst-layout) in
-    c .compute-from-unsized .ensures ∙ ap (λ (i : SizeInfo). kindRules 64 (sameSequence 64) (infoOf i) t (t .info)) (sym (c .before .before .size-info2 .given .1)) ∙ simp (le-ltb (s .align) (t .align) (c .before .before .before .before .if1 .left))
+    c .compute-from-unsized .ensures ∙ ap (λ (i : SizeInfo). byKinds 64 (sameSequence 64) (infoOf i) t (t .info)) (sym (c .before .before .size-info2 .given .1)) ∙ simp (le-ltb (s .align) (t .align) (c .before .before .before .before .if1 .left))
 
 pub compute-spec : {M : Type 1} → statement M
 compute-spec =

@@ -7,10 +7,18 @@ use Rattle.trailing.specs.Sequence.{sameSequence}
 use Rattle.layout.specs.Layout.{fixed}
 use Rattle.layout.specs.declared.SizeInfo.{SizeInfo}
 use Rattle.layout.specs.View.{infoOf, layoutOf}
-use Rattle.convert_defs.specs.Convert.{withCount, kindRules}
+use Rattle.convert_defs.specs.Convert.{Params, withCount, byKinds}
+use Rattle.convert_defs.specs.Reasons.{isRefused}
+use Rattle.util.specs.Refusal.{Outcome, answered, refused, unless}
+use mathlib.Core.Bool.{cond}
+use Prim.Native.Nat.{ℕ}
 use borrow.Author.Needs.{needs}
 use Rattle.convert.proofs.compute_from_sized.Statement.{statement}
 use Rattle.convert.proofs.compute_from_sized.Tie as tie
+
+-- what an outcome of the exact count gives
+abbrev by-count : Outcome ℕ → Outcome Params
+by-count o = cond (isRefused o) (refused 28) (answered (withCount o))
 
 enum-known-size-info : tie.Need-enum-known-size-info
 enum-known-size-info c = search needs
@@ -28,24 +36,28 @@ enum-told-2 : tie.Need-enum-told-2
 enum-told-2 c = search needs
 
 returns : tie.Need-returns
+unfolding unless
 returns c =
     let k = c .before .before .before .before in
-    simp (eq-eqb (k .args .src-size) (c .before .before .size-info .given .0 .0) (c .if1 .taken)) refl ∙ ap (λ (i : SizeInfo). kindRules 64 (sameSequence 64) (fixed (k .args .src-size)) (layoutOf (k .args .dst-layout)) (infoOf i)) (sym (c .before .before .size-info .given .1))
+    simp (eq-eqb (k .args .src-size) (c .before .before .size-info .given .0 .0) (c .if1 .taken)) refl ∙ ap (λ (i : SizeInfo). byKinds 64 (sameSequence 64) (fixed (k .args .src-size)) (layoutOf (k .args .dst-layout)) (infoOf i)) (sym (c .before .before .size-info .given .1))
 
 returns-2 : tie.Need-returns-2
+unfolding unless
 returns-2 c =
     let k = c .before .before .before .before in
-    simp (ne-eqb (k .args .src-size) (c .before .before .size-info .given .0 .0) (c .if1 .left)) refl ∙ ap (λ (i : SizeInfo). kindRules 64 (sameSequence 64) (fixed (k .args .src-size)) (layoutOf (k .args .dst-layout)) (infoOf i)) (sym (c .before .before .size-info .given .1))
+    simp (ne-eqb (k .args .src-size) (c .before .before .size-info .given .0 .0) (c .if1 .left)) refl ∙ ap (λ (i : SizeInfo). byKinds 64 (sameSequence 64) (fixed (k .args .src-size)) (layoutOf (k .args .dst-layout)) (infoOf i)) (sym (c .before .before .size-info .given .1))
 
 returns-3 : tie.Need-returns-3
+unfolding unless
 returns-3 c =
     let k = c .before .before .before .before .before .before in
-    ap withCount (sym (told-by numberSays (c .before .before .before .metadata-for-exact-size .ensures .0) (c .before .dst-meta .given .1))) ∙ ap (λ (i : SizeInfo). kindRules 64 (sameSequence 64) (fixed (k .args .src-size)) (layoutOf (k .args .dst-layout)) (infoOf i)) (sym (c .before .before .before .before .enum-told .given .1))
+    ap by-count (sym (told-by numberSays (c .before .before .before .metadata-for-exact-size .ensures .0) (c .before .dst-meta .given .1))) ∙ ap (λ (i : SizeInfo). byKinds 64 (sameSequence 64) (fixed (k .args .src-size)) (layoutOf (k .args .dst-layout)) (infoOf i)) (sym (c .before .before .before .before .enum-told .given .1))
 
 returns-4 : tie.Need-returns-4
+unfolding unless
 returns-4 c =
     let k = c .before .before .before .before .before in
-    ap withCount (sym (told-by numberSays (c .before .before .metadata-for-exact-size .ensures .0) (c .enum-told2 .given .1))) ∙ ap (λ (i : SizeInfo). kindRules 64 (sameSequence 64) (fixed (k .args .src-size)) (layoutOf (k .args .dst-layout)) (infoOf i)) (sym (c .before .before .before .enum-told .given .1))
+    ap by-count (sym (told-by numberSays (c .before .before .metadata-for-exact-size .ensures .0) (c .enum-told2 .given .1))) ∙ ap (λ (i : SizeInfo). byKinds 64 (sameSequence 64) (fixed (k .args .src-size)) (layoutOf (k .args .dst-layout)) (infoOf i)) (sym (c .before .before .before .enum-told .given .1))
 
 pub compute-from-sized-spec : {M : Type 1} → statement M
 compute-from-sized-spec =

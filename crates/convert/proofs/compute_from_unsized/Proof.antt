@@ -5,7 +5,8 @@ use Rattle.trailing.specs.View.{trailingOf}
 use Rattle.layout.specs.Layout.{trailing}
 use Rattle.layout.specs.declared.SizeInfo.{SizeInfo}
 use Rattle.layout.specs.View.{infoOf, layoutOf}
-use Rattle.convert_defs.specs.Convert.{kindRules}
+use Rattle.convert_defs.specs.Convert.{byKinds}
+use Rattle.util.specs.Refusal.{unless}
 use borrow.Author.Needs.{needs}
 use Rattle.convert.proofs.compute_from_unsized.Statement.{statement}
 use Rattle.convert.proofs.compute_from_unsized.Tie as tie
@@ -22,10 +23,11 @@ compute-unsized-requires c κs =
     (k .pre .0, k .pre .1, k .pre .2, ap infoOf (c .before .size-info .given .1))
 
 returns : tie.Need-returns
-returns c = let k = c .before .before in ap (λ (i : SizeInfo). kindRules 64 (sameSequence 64) (trailing (trailingOf (k .args .src))) (layoutOf (k .args .dst-layout)) (infoOf i)) (sym (c .enum-told .given .1))
+unfolding unless
+returns c = let k = c .before .before in ap (λ (i : SizeInfo). byKinds 64 (sameSequence 64) (trailing (trailingOf (k .args .src))) (layoutOf (k .args .dst-layout)) (infoOf i)) (sym (c .enum-told .given .1))
 
 returns-2 : tie.Need-returns-2
-returns-2 c = let k = c .before .before .before .before in c .compute-unsized .ensures ∙ ap (λ (i : SizeInfo). kindRules 64 (sameSequence 64) (trailing (trailingOf (k .args .src))) (layoutOf (k .args .dst-layout)) (infoOf i)) (sym (c .before .before .size-info .given .1))
+returns-2 c = let k = c .before .before .before .before in c .compute-unsized .ensures ∙ ap (λ (i : SizeInfo). byKinds 64 (sameSequence 64) (trailing (trailingOf (k .args .src))) (layoutOf (k .args .dst-layout)) (infoOf i)) (sym (c .before .before .size-info .given .1))
 
 pub compute-from-unsized-spec : {M : Type 1} → statement M
 compute-from-unsized-spec =

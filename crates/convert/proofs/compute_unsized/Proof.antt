@@ -1,6 +1,6 @@
 -- `convert::compute_unsized` meets its contract. Assumes nothing.
 use mathlib.Core.Path.{sym, ap, _∙_}
-use Prim.Native.Nat.{_/_, _%_}
+use Prim.Native.Nat.{ℕ, _/_, _%_}
 use borrow.Author.Tests.{eq-eqb, ne-eqb, lt-ltb, le-ltb}
 use native.Mathlib.Omega.{arith}
 use Rattle.trailing.specs.Sequence.{sameSequence}
@@ -8,12 +8,21 @@ use Rattle.trailing.specs.View.{trailingOf}
 use Rattle.layout.specs.View.{layoutOf}
 use Rattle.shift.specs.View.{shiftIn}
 use Rattle.shift.proofs.Told.{shift-told, shift-kept}
-use Rattle.convert_defs.specs.Convert.{withShift}
+use Rattle.convert_defs.specs.Convert.{Params, withShift}
+use Rattle.convert_defs.specs.Reasons.{isMissing}
+use Rattle.util.specs.Refusal.{Outcome, answered, refused, unless}
+use Rattle.shift_defs.specs.Shift.{Shift}
+use mathlib.Core.Bool.{cond}
 use borrow.Author.Needs.{needs}
 use Rattle.convert.proofs.compute_unsized.Statement.{statement}
 use Rattle.convert.proofs.compute_unsized.Tie as tie
 
+-- what a shift gives
+abbrev by-shift : ℕ → Shift → Outcome Params
+by-shift k x = cond (isMissing x) (refused 32) (answered (withShift k x))
+
 returns : tie.Need-returns
+unfolding unless
 returns c =
     let k = c .before in
     let s = trailingOf (k .args .src) in
@@ -21,6 +30,7 @@ returns c =
     simp (eq-eqb (t .elem) 0 (c .if1 .taken))
 
 returns-2 : tie.Need-returns-2
+unfolding unless
 returns-2 c =
     let k = c .before .before in
     let s = trailingOf (k .args .src) in
@@ -31,6 +41,7 @@ rem-if3 : tie.Need-rem-if3
 rem-if3 c = search needs
 
 returns-3 : tie.Need-returns-3
+unfolding unless
 returns-3 c =
     let k = c .before .before .before in
     let s = trailingOf (k .args .src) in
@@ -47,6 +58,7 @@ enum-told : tie.Need-enum-told
 enum-told c = search needs
 
 returns-4 : tie.Need-returns-4
+unfolding unless
 returns-4 c =
     let k = c .before .before .before .before .before .before in
     let s = trailingOf (k .args .src) in
@@ -56,27 +68,29 @@ returns-4 c =
 enum-known-shift-2 : tie.Need-enum-known-shift-2
 enum-known-shift-2 c = search needs
 
-div-t17 : tie.Need-div-t17
-div-t17 c = search needs
+div-t13 : tie.Need-div-t13
+div-t13 c = search needs
 
 enum-told-2 : tie.Need-enum-told-2
 enum-told-2 c = search needs
 
 returns-5 : tie.Need-returns-5
+unfolding unless
 returns-5 c =
     let k = c .before .before .before .before .before .before .before .before .before .before in
     let s = trailingOf (k .args .src) in
     let t = trailingOf (k .args .dst) in
     simp (ne-eqb (t .elem) 0 (c .before .before .before .before .before .before .before .before .before .if1 .left), le-ltb (s .elem) (t .elem) (c .before .before .before .before .before .before .before .before .if2 .left), eq-eqb (s .elem % t .elem) 0 (c .before .before .before .before .before .before .before .if3 .left))
-    (ap (withShift (s .elem / t .elem)) (sym (ap shiftIn (c .before .shift2 .given .1)) ∙ shift-told 64 (sameSequence 64) (layoutOf (k .args .src-layout)) (layoutOf (k .args .dst-layout)) s t (c .before .before .before .before .before .before .offset-delta-elems .result) (omega arith) (omega arith) (k .pre .0) (k .pre .2) (k .pre .1) (k .pre .3) (omega arith) (c .before .before .before .before .before .before .offset-delta-elems .ensures .0) (c .before .before .before .before .shift .given .1)))
+    (ap (by-shift (s .elem / t .elem)) (sym (ap shiftIn (c .before .shift2 .given .1)) ∙ shift-told 64 (sameSequence 64) (layoutOf (k .args .src-layout)) (layoutOf (k .args .dst-layout)) s t (c .before .before .before .before .before .before .offset-delta-elems .result) (omega arith) (omega arith) (k .pre .0) (k .pre .2) (k .pre .1) (k .pre .3) (omega arith) (c .before .before .before .before .before .before .offset-delta-elems .ensures .0) (c .before .before .before .before .shift .given .1)))
 
 returns-6 : tie.Need-returns-6
+unfolding unless
 returns-6 c =
     let k = c .before .before .before .before .before .before .before .before .before in
     let s = trailingOf (k .args .src) in
     let t = trailingOf (k .args .dst) in
     simp (ne-eqb (t .elem) 0 (c .before .before .before .before .before .before .before .before .if1 .left), le-ltb (s .elem) (t .elem) (c .before .before .before .before .before .before .before .if2 .left), eq-eqb (s .elem % t .elem) 0 (c .before .before .before .before .before .before .if3 .left))
-    (ap (withShift (s .elem / t .elem)) (sym (ap shiftIn (c .enum-told2 .given .1)) ∙ shift-told 64 (sameSequence 64) (layoutOf (k .args .src-layout)) (layoutOf (k .args .dst-layout)) s t (c .before .before .before .before .before .offset-delta-elems .result) (omega arith) (omega arith) (k .pre .0) (k .pre .2) (k .pre .1) (k .pre .3) (omega arith) (c .before .before .before .before .before .offset-delta-elems .ensures .0) (c .before .before .before .shift .given .1)))
+    (ap (by-shift (s .elem / t .elem)) (sym (ap shiftIn (c .enum-told2 .given .1)) ∙ shift-told 64 (sameSequence 64) (layoutOf (k .args .src-layout)) (layoutOf (k .args .dst-layout)) s t (c .before .before .before .before .before .offset-delta-elems .result) (omega arith) (omega arith) (k .pre .0) (k .pre .2) (k .pre .1) (k .pre .3) (omega arith) (c .before .before .before .before .before .offset-delta-elems .ensures .0) (c .before .before .before .shift .given .1)))
 
 pub compute-unsized-spec : {M : Type 1} → statement M
 compute-unsized-spec =
@@ -91,7 +105,7 @@ compute-unsized-spec =
     enum-told
     returns-4
     enum-known-shift-2
-    div-t17
+    div-t13
     enum-told-2
     returns-5
     returns-6)

@@ -1,6 +1,6 @@
 -- `convert::try_compute` meets its contract. Assumes nothing.
 use mathlib.Core.Path.{sym, _∙_}
-use mathlib.Core.List.{[], _∷_, _++_}
+use mathlib.Core.List.{_++_}
 use lib.Dec.{lit<}
 use native.Mathlib.Omega.{arith}
 use Rattle.util.proofs.Refusals.{told-also}
@@ -9,7 +9,8 @@ use Rattle.trailing.specs.Sequence.{sameSequence}
 use Rattle.layout.specs.Layout.{layoutCauses, checkFor}
 use Rattle.layout.specs.View.{layoutOf, checkSays}
 use Rattle.layout.proofs.Layouts.{layout-decided, held-accepted}
-use Rattle.convert_defs.specs.Convert.{conversionOf, noConversion, paramsOf, computeFor}
+use Rattle.convert_defs.specs.Convert.{paramsOf, computeFor}
+use Rattle.convert_defs.specs.Reasons.{conversionCauses}
 use Rattle.convert_defs.proofs.Conversions.{compute-meets}
 use borrow.Author.Needs.{needs}
 use Rattle.convert.proofs.try_compute.Statement.{statement}
@@ -27,9 +28,9 @@ check-requires-2 c κs = search needs
 enum-told-2 : tie.Need-enum-told-2
 enum-told-2 c = search needs
 
-compute-answer-requires : tie.Need-compute-answer-requires
+compute-requires : tie.Need-compute-requires
 unfolding checkFor
-compute-answer-requires c κs =
+compute-requires c κs =
     let k = c .before .before .before .before .before .before in
     let s = layoutOf (k .args .src-layout) in
     let t = layoutOf (k .args .dst-layout) in (
@@ -49,11 +50,11 @@ returns c =
     let k = c .before .before .before .before .before .before .before in
     let s = layoutOf (k .args .src-layout) in
     let t = layoutOf (k .args .dst-layout) in
-    let ds = noConversion 64 (sameSequence 64) s t ∷ [] in
-    let q = paramsOf (conversionOf 64 (sameSequence 64) s t) in
+    let ds = conversionCauses 64 (sameSequence 64) s t in
+    let q = paramsOf 64 (sameSequence 64) (s .info) t (t .info) in
     let m = compute-meets 64 (sameSequence 64) s t (omega arith) (omega arith) (lit< tt) in
     told-also m
-    (c .compute-answer .ensures
+    (c .compute .ensures
     ∙ sym (accepted-first (layoutCauses 64 s) (layoutCauses 64 t ++ ds) tt q (told-by checkSays (c .before .before .before .before .before .before .check .ensures .0) (c .before .before .before .before .enum-told .given .1)) ∙ accepted-first (layoutCauses 64 t) ds tt q (told-by checkSays (c .before .before .before .check2 .ensures .0) (c .before .enum-told2 .given .1))))
     (λ q e. (held-accepted (c .before .before .before .before .before .before .check .result) (c .before .before .before .before .before .before .check .ensures .1) (c .before .before .before .before .enum-told .given .1), held-accepted (c .before .before .before .check2 .result) (c .before .before .before .check2 .ensures .1) (c .before .enum-told2 .given .1)))
 
@@ -63,8 +64,8 @@ returns-2 c =
     let k = c .before .before .before .before .before .before .before in
     let s = layoutOf (k .args .src-layout) in
     let t = layoutOf (k .args .dst-layout) in
-    let ds = noConversion 64 (sameSequence 64) s t ∷ [] in
-    let q = paramsOf (conversionOf 64 (sameSequence 64) s t) in
+    let ds = conversionCauses 64 (sameSequence 64) s t in
+    let q = paramsOf 64 (sameSequence 64) (s .info) t (t .info) in
     let m = compute-meets 64 (sameSequence 64) s t (omega arith) (omega arith) (lit< tt) in
     told-also m (sym (accepted-first (layoutCauses 64 s) (layoutCauses 64 t ++ ds) tt q (told-by checkSays (c .before .before .before .before .before .before .check .ensures .0) (c .before .before .before .before .enum-told .given .1)) ∙ refused-first (layoutCauses 64 t) ds tt q (told-by checkSays (c .before .before .before .check2 .ensures .0) (c .before .number .given .1))))
     (λ q e. absurd (apart e))
@@ -75,8 +76,8 @@ returns-3 c =
     let k = c .before .before .before .before in
     let s = layoutOf (k .args .src-layout) in
     let t = layoutOf (k .args .dst-layout) in
-    let ds = noConversion 64 (sameSequence 64) s t ∷ [] in
-    let q = paramsOf (conversionOf 64 (sameSequence 64) s t) in
+    let ds = conversionCauses 64 (sameSequence 64) s t in
+    let q = paramsOf 64 (sameSequence 64) (s .info) t (t .info) in
     let m = compute-meets 64 (sameSequence 64) s t (omega arith) (omega arith) (lit< tt) in
     told-also m (sym (refused-first (layoutCauses 64 s) (layoutCauses 64 t ++ ds) tt q (told-by checkSays (c .before .before .before .check .ensures .0) (c .before .number2 .given .1))))
     (λ q e. absurd (apart e))
@@ -89,7 +90,7 @@ try-compute-spec =
     enum-told
     check-requires-2
     enum-told-2
-    compute-answer-requires
+    compute-requires
     enum-known-number
     enum-known-number-2
     returns

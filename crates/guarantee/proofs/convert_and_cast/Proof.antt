@@ -7,7 +7,8 @@ use Rattle.trailing.specs.Sequence.{sameSequence}
 use Rattle.layout.specs.View.{layoutOf}
 use Rattle.convert_defs.specs.Convert.{Params}
 use Rattle.guarantee.specs.Demand.{countAfter, Demand3Of}
-use Rattle.guarantee.proofs.Demand.{compute-accepts, demand-3-at-64, same-answers}
+use Rattle.guarantee.proofs.Demand.{demand-3-at-64, same-answers}
+use Rattle.convert_defs.proofs.Conversions.{compute-accepts}
 use borrow.Author.Needs.{needs}
 use Rattle.guarantee.proofs.convert_and_cast.Statement.{statement}
 use Rattle.guarantee.proofs.convert_and_cast.Tie as tie
@@ -37,7 +38,7 @@ returns c =
       e,
       subst (Demand3Of 64 (sameSequence 64) s t (a .src-meta) (a .addr) (a .bytes-len) (a .more-len)) (sym e)
           (λ q acc.
-          let f = compute-accepts 64 (sameSequence 64) s t q (omega arith) (omega arith) (lit< tt) acc in
+          let f = compute-accepts 64 (sameSequence 64) s t q (omega arith) (omega arith) (lit< tt) (acc .source) (acc .target) (acc .converts) in
           let h = c .before .before .before .try-compute .ensures .1 .1 q (computed ∙ f) in
           demand-3-at-64 s t (a .src-meta) (a .addr) (a .bytes-len) (a .more-len) (h .0) (h .1) q acc),
     )
