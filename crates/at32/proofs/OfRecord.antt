@@ -6,9 +6,10 @@ use Prim.Native.Nat.{ℕ, _^_, _<_, _+_, _-_, _*_, _/_, _%_, _≤_}
 use lib.ListN.{length}
 use Rattle.util.specs.Refusal.{answered, unless, None, Meets, Decided}
 use Rattle.layout.specs.Layout.{Layout, checkFor, Info, layoutCauses}
-use Rattle.record.specs.Bytes.{wordAt}
+use Rattle.words.specs.Bytes.{wordAt}
 use Rattle.record.specs.Record.{Words, wordsAt, recordBytes, wordsOf, wordsLayout, wordsCauses, recordCauses, wordsFor, decodeFor, Decodes, encodeFor, encodeWordsFor, encodedInto}
-use Rattle.record.proofs.RoundTrips.{Fits, AllBytes}
+use Rattle.words.proofs.LittleEndian.{AllBytes}
+use Rattle.record.proofs.RoundTrips.{Fits}
 use Rattle.record.proofs.Records as Records
 use Rattle.record.proofs.RoundTrips as RoundTrips
 

@@ -11,7 +11,7 @@ use lib.ListN.{length, set, drop, length-append}
 use lib.Seq.{sets, sets-eq, length-sets, length-take-le}
 use Rattle.io.specs.Counts.{Counts}
 use Rattle.compose.specs.Compose.{Composed, refusedAt, structFor}
-use Rattle.record.proofs.LittleEndian.{sets-sets}
+use Rattle.words.proofs.LittleEndian.{sets-sets}
 use Rattle.listing_line.specs.Line.{digitsOf, decimal, atText, lineOf, listFor, lineLength, lineInto}
 
 pub digits-one : (k n : ℕ) → 0 < k → n < 10 → digitsOf k n ≡ (48 + n) ∷ []

@@ -1,8 +1,8 @@
 -- What records mean, and what encoding leaves, over any width w. Assumes nothing.
 use mathlib.Core.Path.{_≡_, refl, sym, ap, _∙_}
 use mathlib.Core.Bool.{Bool, true, false, cond, _&&_}
-use mathlib.Core.List.{List, [], _∷_}
-use Prim.Native.Nat.{ℕ, zero, suc, _+_, _^_, _<_}
+use mathlib.Core.List.{List, _++_}
+use Prim.Native.Nat.{ℕ, zero, suc, _+_, _^_, _≤_, _<_}
 use native.Mathlib.Omega.{arith}
 use borrow.Author.Tests.{eq-eqb, ne-eqb}
 use lib.Dec.{eqb}
@@ -13,9 +13,29 @@ use Rattle.util.proofs.Refusals.{known, tells-eq, tells-le, tells-lt, tells-not
 use Rattle.util.proofs.Helpers.{align-decided}
 use Rattle.trailing.specs.Size.{Trailing}
 use Rattle.layout.specs.Layout.{fixed, trailing, Layout, checkFor}
-use Rattle.record.specs.Bytes.{wordAt}
+use Rattle.words.specs.Bytes.{bytesOf, wordAt, wordBytes, putInto}
+use Rattle.words.proofs.LittleEndian.{sets-whole, word-length, put-within, put-next, more}
 use Rattle.record.specs.Record.{Words, wordsAt, recordBytes, wordsOf, wordsLayout, laterWord, trailingWordZero, wordsCauses, recordCauses, wordsFor, decodeFor, Decodes, infoWords, writeFor, after, writtenInto, encodeFor}
-use Rattle.record.proofs.LittleEndian.{sets-whole, record-length}
+
+-- the bytes of a record
+pub record-length : (r : Words) → length (recordBytes r) ≡ 48
+unfolding bytesOf
+record-length r = refl
+
+-- six words, one behind the other
+pub put-record : (l : List ℕ) (r : Words) → 48 ≤ length l
+    → putInto (putInto (putInto (putInto (putInto (putInto l 0 (r .align)) 8 (r .kind)) 16 (r .size)) 24 (r .offset)) 32 (r .elem)) 40 (r .word) ≡ sets l 0 (recordBytes r)
+put-record l r h =
+    let p1 = wordBytes (r .align) in
+    let p2 = p1 ++ wordBytes (r .kind) in
+    let p3 = p2 ++ wordBytes (r .size) in
+    let p4 = p3 ++ wordBytes (r .offset) in
+    let p5 = p4 ++ wordBytes (r .elem) in
+    let m2 : length p2 ≡ 16 = more p1 8 (r .kind) (word-length (r .align)) in
+    let m3 : length p3 ≡ 24 = more p2 16 (r .size) m2 in
+    let m4 : length p4 ≡ 32 = more p3 24 (r .offset) m3 in
+    let m5 : length p5 ≡ 40 = more p4 32 (r .elem) m4 in
+    rw (put-within l 0 (r .align) (omega arith), put-next p1 l 0 8 8 (r .kind) (word-length (r .align)) refl (omega arith), put-next p2 l 0 16 16 (r .size) m2 refl (omega arith), put-next p3 l 0 24 24 (r .offset) m3 refl (omega arith), put-next p4 l 0 32 32 (r .elem) m4 refl (omega arith), put-next p5 l 0 40 40 (r .word) m5 refl (omega arith))
 
 zeros : (o e v : ℕ) → Tells ((o ≡ 0) × ((e ≡ 0) × (v ≡ 0))) (eqb o 0 && (eqb e 0 && eqb v 0))
 zeros o e v = tells-and (tells-eq o 0) (tells-and (tells-eq e 0) (tells-eq v 0))

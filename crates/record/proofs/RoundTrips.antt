@@ -2,23 +2,21 @@
 -- record. Over any width w. Assumes nothing.
 use mathlib.Core.Path.{_≡_, refl, sym, ap, _∙_}
 use mathlib.Core.Bool.{Bool, true, false, cond}
-use mathlib.Core.List.{List, [], _∷_}
-use mathlib.Core.Logic.{_⊎_, inl, inr, ⊎-elim}
-use Prim.Native.Nat.{ℕ, zero, suc, _+_, _*_, _/_, _%_, _^_, _≤_, _<_}
+use mathlib.Core.List.{List}
+use Prim.Native.Nat.{ℕ, _^_, _<_}
 use native.Mathlib.Omega.{arith}
-use borrow.Author.Tests.{ltb-true, ltb-false}
 use lib.Dec.{ltb}
-use lib.ListN.{length, getD, take, drop, length-take, length-drop, List·getD-eq-default}
-use lib.Seq.{getD-take, getD-drop, length-take-le, take-add, take-all}
+use lib.ListN.{length}
+use lib.Seq.{take-add, take-all}
 use Rattle.util.specs.Refusal.{Outcome, answered, refused, unless}
 use Rattle.util.proofs.Refusals.{no, known, tells-eq, tells-lt, tells-not}
 use Rattle.util.proofs.Tables.{apart, answer-is, accepted-as}
 use Rattle.util.specs.Helpers.{badAlign}
 use Rattle.layout.specs.Layout.{Info, fixed, trailing, Layout, layoutCauses, checkFor}
-use Rattle.record.specs.Bytes.{valueOf, bytesOf, wordAt, wordBytes}
+use Rattle.words.specs.Bytes.{bytesOf, wordAt}
+use Rattle.words.proofs.LittleEndian.{value-bytes, AllBytes, word-back}
 use Rattle.record.specs.Record.{Words, wordsAt, recordBytes, wordsOf, wordsLayout, laterWord, wordsCauses, badLength, wordsFor, decodeFor, encodeFor, after, encodedInto, encodeWordsFor, writeFor}
-use Rattle.record.proofs.LittleEndian.{value-bytes, record-length}
-use Rattle.record.proofs.Records.{later-decided, decoded, decode-words, encode-checked}
+use Rattle.record.proofs.Records.{record-length, later-decided, decoded, decode-words, encode-checked}
 
 -- a test that did not refuse, and what follows it
 past : {T : Type 0} (b : Bool) (n : ℕ) (o : Outcome T) {z : T} → cond b (refused n) o ≡ answered z → (b ≡ false) × (o ≡ answered z)
@@ -87,36 +85,6 @@ encode-accepts w l n e = past (badLength n .test) 20 (unless (layoutCauses w l) 
 pub decode-encoded : (w : ℕ) (l : Layout) (s : List ℕ) → Fits (wordsOf l) → encodeFor w l (length s) ≡ answered tt → decodeFor w (encodedInto w l s) ≡ answered l
 decode-encoded w l s f e =
     ap (λ (o : Outcome (Unit {0})). decodeFor w (after o (recordBytes (wordsOf l)) s)) e ∙ layout-back w l f (encode-accepts w l (length s) e)
-
-abbrev pub AllBytes : List ℕ → Type 0
-AllBytes s = (i : ℕ) → getD s i 0 < 256
-
-bytes-value : (n : ℕ) (s : List ℕ) → length s ≡ n → AllBytes s → bytesOf n (valueOf s) ≡ s
-unfolding valueOf bytesOf
-bytes-value zero [] e h = refl
-bytes-value zero (b ∷ s) e h = absurd (omega arith)
-bytes-value (suc n) [] e h = absurd (omega arith)
-bytes-value (suc n) (b ∷ s) e h =
-    let lt : b < 256 = h 0 in
-    let m : (b + 256 * valueOf s) % 256 ≡ b = omega arith in
-    let d : (b + 256 * valueOf s) / 256 ≡ valueOf s = omega arith in
-    rw (m, d, bytes-value n s (omega arith) (λ i. h (suc i)))
-
-lt-or-le : (j n : ℕ) → (j < n) ⊎ (n ≤ j)
-lt-or-le j n = go (ltb j n) refl
-  where
-    go : (b : Bool) → ltb j n ≡ b → (j < n) ⊎ (n ≤ j)
-    go true e = inl (ltb-true j n e)
-    go false e = inr (ltb-false j n e)
-
-part-bytes : (s : List ℕ) (n i : ℕ) → AllBytes s → AllBytes (take n (drop i s))
-part-bytes s n i h j =
-    ⊎-elim (λ l. let e : getD (take n (drop i s)) j 0 ≡ getD s (i + j) 0 = rw (getD-take n (drop i s) j 0 l, getD-drop) in omega (arith, h (i + j)))
-    (λ g. let e : getD (take n (drop i s)) j 0 ≡ 0 = List·getD-eq-default (take n (drop i s)) 0 {n = j} (omega (arith, length-take n (drop i s))) in omega arith)
-    (lt-or-le j n)
-
-word-back : (s : List ℕ) (i : ℕ) → AllBytes s → i + 8 ≤ length s → wordBytes (wordAt s i) ≡ take 8 (drop i s)
-word-back s i h l = bytes-value 8 (take 8 (drop i s)) (length-take-le 8 (drop i s) (omega (arith, length-drop i s))) (part-bytes s 8 i h)
 
 -- the bytes of the words of 48 bytes are those bytes
 pub bytes-back : (s : List ℕ) → AllBytes s → length s ≡ 48 → recordBytes (wordsAt s 0) ≡ s

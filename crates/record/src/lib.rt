@@ -7,7 +7,6 @@ ghost use lib.ListN.{length};
 ghost use lib.Seq.{sets};
 ghost use Rattle.util.specs.Refusal.{Meets};
 ghost use Rattle.layout.specs.View.{layoutOf, layoutSays};
-ghost use Rattle.record.specs.Bytes.{wordAt, wordBytes};
 ghost use Rattle.record.specs.Record.{wordsAt, recordBytes, wordsOf, wordsCauses, recordCauses, wordsFor};
 ghost use Rattle.record.specs.Record.{decodeFor, Decodes};
 ghost use Rattle.record.specs.Record.{encodeFor, encodedInto, encodeWordsFor, encodedWordsInto};
@@ -138,47 +137,18 @@ pub fn words_from_layout(l: DstLayout) -> Words
     }
 }
 
-fn wide(x: u8) -> u64
-    ensures { λ r. ⌜ (r ≡ x) × (r < 256) ⌝ }
-{
-    x as u64
-}
-
-// The little-endian word at at. The compiler makes one load of a flat sum, and that before it decides what to inline.
-fn read_word(s: &[u8], at: usize) -> u64
-    requires { ⌜ at + 8 ≤ length (now s) ⌝ }
-    ensures { λ r. ⌜ r ≡ wordAt (now (s .entry)) at ⌝ }
-{
-    let a = wide(s[at]);
-    let b = wide(s[at + 1]);
-    let c = wide(s[at + 2]);
-    let d = wide(s[at + 3]);
-    let e = wide(s[at + 4]);
-    let f = wide(s[at + 5]);
-    let g = wide(s[at + 6]);
-    let h = wide(s[at + 7]);
-    a
-        + 0x100 * b
-        + 0x1_0000 * c
-        + 0x100_0000 * d
-        + 0x1_0000_0000 * e
-        + 0x100_0000_0000 * f
-        + 0x1_0000_0000_0000 * g
-        + 0x100_0000_0000_0000 * h
-}
-
 // The six words of a record.
 fn read_words(s: &[u8]) -> Words
     requires { ⌜ 48 ≤ length (now s) ⌝ }
     ensures { λ r. ⌜ wordsIn r ≡ wordsAt (now (s .entry)) 0 ⌝ }
 {
     Words {
-        align: read_word(s, 0),
-        kind: read_word(s, 8),
-        size: read_word(s, 16),
-        offset: read_word(s, 24),
-        elem_size: read_word(s, 32),
-        word: read_word(s, 40),
+        align: words::read_word(s, 0),
+        kind: words::read_word(s, 8),
+        size: words::read_word(s, 16),
+        offset: words::read_word(s, 24),
+        elem_size: words::read_word(s, 32),
+        word: words::read_word(s, 40),
     }
 }
 
@@ -194,38 +164,16 @@ pub fn decode(s: &[u8]) -> LayoutAnswer
     }
 }
 
-// Writes the little-endian word at at. The compiler makes one store of this.
-fn put_word(out: &mut [u8], at: usize, v: u64)
-    requires { ⌜ at + 8 ≤ length (now out) ⌝ }
-    ensures { λ _. ⌜ now (out .exit) ≡ sets (now (out .entry)) at (wordBytes v) ⌝ }
-{
-    let v1 = v / 256;
-    let v2 = v1 / 256;
-    let v3 = v2 / 256;
-    let v4 = v3 / 256;
-    let v5 = v4 / 256;
-    let v6 = v5 / 256;
-    let v7 = v6 / 256;
-    out[at] = (v % 256) as u8;
-    out[at + 1] = (v1 % 256) as u8;
-    out[at + 2] = (v2 % 256) as u8;
-    out[at + 3] = (v3 % 256) as u8;
-    out[at + 4] = (v4 % 256) as u8;
-    out[at + 5] = (v5 % 256) as u8;
-    out[at + 6] = (v6 % 256) as u8;
-    out[at + 7] = (v7 % 256) as u8;
-}
-
 fn put_words(out: &mut [u8], r: Words)
     requires { ⌜ 48 ≤ length (now out) ⌝ }
     ensures { λ _. ⌜ now (out .exit) ≡ sets (now (out .entry)) 0 (recordBytes (wordsIn r)) ⌝ }
 {
-    put_word(out, 0, r.align);
-    put_word(out, 8, r.kind);
-    put_word(out, 16, r.size);
-    put_word(out, 24, r.offset);
-    put_word(out, 32, r.elem_size);
-    put_word(out, 40, r.word);
+    words::put_word(out, 0, r.align);
+    words::put_word(out, 8, r.kind);
+    words::put_word(out, 16, r.size);
+    words::put_word(out, 24, r.offset);
+    words::put_word(out, 32, r.elem_size);
+    words::put_word(out, 40, r.word);
 }
 
 // The record of six words, tested as a record's are, into the lent bytes; a refusal leaves them as they were.

@@ -7,7 +7,7 @@ use native.Mathlib.Omega.{arith}
 use lib.ListN.{length}
 use Rattle.util.specs.Refusal.{unless, refuses}
 use Rattle.util.proofs.Refusals.{told}
-use Rattle.record.specs.Bytes.{wordAt}
+use Rattle.words.specs.Bytes.{wordAt}
 use Rattle.record.specs.Record.{Words, wordsFor, decodeFor}
 use Rattle.record.proofs.Records.{record-meets, decode-words}
 use borrow.Author.Needs.{needs}

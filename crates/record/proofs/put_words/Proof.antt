@@ -1,6 +1,7 @@
 -- `record::put_words` meets its contract. Assumes nothing.
+use native.Mathlib.Omega.{arith}
 use Rattle.record.specs.View.{wordsIn}
-use Rattle.record.proofs.LittleEndian.{sets-record}
+use Rattle.record.proofs.Records.{put-record}
 use borrow.Author.Needs.{needs}
 use Rattle.record.proofs.put_words.Statement.{statement}
 use Rattle.record.proofs.put_words.Tie as tie
@@ -27,7 +28,7 @@ same-length : tie.Need-same-length
 same-length c = search needs
 
 returns : tie.Need-returns
-returns c = let x = c .before .before .before .before .before .before .before .before .before .before .before .before .before .before .before .before .before .before .before .before .before .before .before .before .before .args in cc (sets-record (x .out .now) (wordsIn (x .r)))
+returns c = let x = c .before .before .before .before .before .before .before .before .before .before .before .before .before .before .before .before .before .before .before .before .before .before .before .before .before .args in cc (put-record (x .out .now) (wordsIn (x .r)) (omega arith))
 
 pub put-words-spec : {M : Type 1} → statement M
 put-words-spec =

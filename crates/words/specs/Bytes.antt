@@ -1,7 +1,10 @@
 -- Little-endian words in a list of bytes. Assumes nothing.
+use mathlib.Core.Bool.{Bool, cond}
 use mathlib.Core.List.{List, [], _∷_}
 use Prim.Native.Nat.{ℕ, zero, suc, _+_, _*_, _/_, _%_}
-use lib.ListN.{take, drop}
+use lib.Dec.{leb}
+use lib.ListN.{take, drop, length}
+use lib.Seq.{sets}
 
 -- the number whose little-endian bytes are given
 unfoldable pub valueOf : List ℕ → ℕ
@@ -23,3 +26,15 @@ wordAt s i = valueOf (take wordLength (drop i s))
 
 abbrev pub wordBytes : ℕ → List ℕ
 wordBytes v = bytesOf wordLength v
+
+-- whether the word whose first byte would stand at i is among the bytes
+abbrev pub hasWord : List ℕ → ℕ → Bool
+hasWord s i = leb (i + wordLength) (length s)
+
+-- `read_word`: that word, 0 where it is not among them
+unfoldable pub readFor : List ℕ → ℕ → ℕ
+readFor s i = cond (hasWord s i) (wordAt s i) 0
+
+-- `put_word`: the bytes after it; where the word is not among them, as they were
+unfoldable pub putInto : List ℕ → ℕ → ℕ → List ℕ
+putInto s i v = cond (hasWord s i) (sets s i (wordBytes v)) s

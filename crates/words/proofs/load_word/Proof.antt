@@ -1,8 +1,8 @@
--- `record::read_word` meets its contract. Assumes nothing.
-use Rattle.record.proofs.LittleEndian.{joined-word}
+-- `words::load_word` meets its contract. Assumes nothing.
+use Rattle.words.proofs.LittleEndian.{joined-word}
 use borrow.Author.Needs.{needs}
-use Rattle.record.proofs.read_word.Statement.{statement}
-use Rattle.record.proofs.read_word.Tie as tie
+use Rattle.words.proofs.load_word.Statement.{statement}
+use Rattle.words.proofs.load_word.Tie as tie
 
 shared-slice-read-wide : tie.Need-shared-slice-read-wide
 shared-slice-read-wide c = search needs
@@ -118,8 +118,8 @@ add-result-7 c = search needs
 returns : tie.Need-returns
 returns c = joined-word (c .before .before .before .before .before .before .before .before .before .before .before .before .before .before .before .before .before .args .s .now) (c .before .before .before .before .before .before .before .before .before .before .before .before .before .before .before .before .before .args .at) (c .before .before .before .before .before .before .before .before .before .before .before .before .before .before .before .before .before .pre) (c .before .before .before .before .before .before .before .before .before .before .before .before .before .before .wide .ensures .0) (c .before .before .before .before .before .before .before .before .before .before .before .before .wide2 .ensures .0) (c .before .before .before .before .before .before .before .before .before .before .wide3 .ensures .0) (c .before .before .before .before .before .before .before .before .wide4 .ensures .0) (c .before .before .before .before .before .before .wide5 .ensures .0) (c .before .before .before .before .wide6 .ensures .0) (c .before .before .wide7 .ensures .0) (c .wide8 .ensures .0)
 
-pub read-word-spec : {M : Type 1} → statement M
-read-word-spec =
+pub load-word-spec : {M : Type 1} → statement M
+load-word-spec =
     tie.close
     (tie.spec
     shared-slice-read-wide

@@ -1,13 +1,16 @@
 -- Little-endian words in bytes, and runs of stores. Assumes nothing.
 use mathlib.Core.Path.{_≡_, refl, _∙_}
+use mathlib.Core.Bool.{Bool, true, false}
 use mathlib.Core.List.{List, [], _∷_, _++_, append-nil}
+use mathlib.Core.Logic.{_⊎_, inl, inr, ⊎-elim}
 use Prim.Native.Nat.{ℕ, zero, suc, _+_, _*_, _/_, _%_, _^_, _≤_, _<_}
 use native.Mathlib.Nat.{add-zero, pow-suc}
 use native.Mathlib.Omega.{arith}
-use lib.ListN.{getD, take, drop, set, length, length-append, drop-of-length-le}
-use lib.Seq.{sets, sets-eq, drop-cons}
-use Rattle.record.specs.Bytes.{valueOf, bytesOf, wordAt, wordBytes}
-use Rattle.record.specs.Record.{Words, recordBytes}
+use borrow.Author.Tests.{ltb-true, ltb-false, le-leb, lt-leb}
+use lib.Dec.{ltb}
+use lib.ListN.{getD, take, drop, set, length, length-append, length-take, length-drop, drop-of-length-le, List·getD-eq-default}
+use lib.Seq.{sets, sets-eq, drop-cons, getD-take, getD-drop, length-take-le, length-sets}
+use Rattle.words.specs.Bytes.{valueOf, bytesOf, wordAt, wordBytes, readFor, putInto}
 
 -- the value of the bytes of v is v, where they hold it
 pub value-bytes : (n v : ℕ) → v < 256 ^ n → valueOf (bytesOf n v) ≡ v
@@ -64,27 +67,59 @@ pub word-length : (v : ℕ) → length (wordBytes v) ≡ 8
 unfolding bytesOf
 word-length v = refl
 
--- one word more behind n bytes
-sets-word : (vs l : List ℕ) (i j n v : ℕ) → length vs ≡ n → j ≡ i + n → sets (sets l i vs) j (wordBytes v) ≡ sets l i (vs ++ wordBytes v)
-sets-word vs l i j n v e f = sets-sets vs (wordBytes v) l i j (omega arith)
+abbrev pub AllBytes : List ℕ → Type 0
+AllBytes s = (i : ℕ) → getD s i 0 < 256
 
-more : (vs : List ℕ) (n v : ℕ) → length vs ≡ n → length (vs ++ wordBytes v) ≡ n + 8
+bytes-value : (n : ℕ) (s : List ℕ) → length s ≡ n → AllBytes s → bytesOf n (valueOf s) ≡ s
+unfolding valueOf bytesOf
+bytes-value zero [] e h = refl
+bytes-value zero (b ∷ s) e h = absurd (omega arith)
+bytes-value (suc n) [] e h = absurd (omega arith)
+bytes-value (suc n) (b ∷ s) e h =
+    let lt : b < 256 = h 0 in
+    let m : (b + 256 * valueOf s) % 256 ≡ b = omega arith in
+    let d : (b + 256 * valueOf s) / 256 ≡ valueOf s = omega arith in
+    rw (m, d, bytes-value n s (omega arith) (λ i. h (suc i)))
+
+lt-or-le : (j n : ℕ) → (j < n) ⊎ (n ≤ j)
+lt-or-le j n = go (ltb j n) refl
+  where
+    go : (b : Bool) → ltb j n ≡ b → (j < n) ⊎ (n ≤ j)
+    go true e = inl (ltb-true j n e)
+    go false e = inr (ltb-false j n e)
+
+part-bytes : (s : List ℕ) (n i : ℕ) → AllBytes s → AllBytes (take n (drop i s))
+part-bytes s n i h j =
+    ⊎-elim (λ l. let e : getD (take n (drop i s)) j 0 ≡ getD s (i + j) 0 = rw (getD-take n (drop i s) j 0 l, getD-drop) in omega (arith, h (i + j)))
+    (λ g. let e : getD (take n (drop i s)) j 0 ≡ 0 = List·getD-eq-default (take n (drop i s)) 0 {n = j} (omega (arith, length-take n (drop i s))) in omega arith)
+    (lt-or-le j n)
+
+pub word-back : (s : List ℕ) (i : ℕ) → AllBytes s → i + 8 ≤ length s → wordBytes (wordAt s i) ≡ take 8 (drop i s)
+word-back s i h l = bytes-value 8 (take 8 (drop i s)) (length-take-le 8 (drop i s) (omega (arith, length-drop i s))) (part-bytes s 8 i h)
+
+-- the total forms, of a word that is among the bytes
+pub read-within : (s : List ℕ) (i : ℕ) → i + 8 ≤ length s → readFor s i ≡ wordAt s i
+unfolding readFor
+read-within s i h = simp (le-leb (i + 8) (length s) h)
+
+pub put-within : (s : List ℕ) (i v : ℕ) → i + 8 ≤ length s → putInto s i v ≡ sets s i (wordBytes v)
+unfolding putInto
+put-within s i v h = simp (le-leb (i + 8) (length s) h)
+
+-- one word more, written where n bytes end
+pub put-next : (vs l : List ℕ) (i j n v : ℕ) → length vs ≡ n → j ≡ i + n → j + 8 ≤ length l → putInto (sets l i vs) j v ≡ sets l i (vs ++ wordBytes v)
+put-next vs l i j n v e f h =
+    put-within (sets l i vs) j v (omega (arith, length-sets l i vs)) ∙ sets-sets vs (wordBytes v) l i j (omega arith)
+
+-- so many bytes are then written
+pub more : (vs : List ℕ) (n v : ℕ) → length vs ≡ n → length (vs ++ wordBytes v) ≡ n + 8
 more vs n v e = omega (arith, length-append vs (wordBytes v), word-length v)
 
--- six words, one behind the other
-pub sets-record : (l : List ℕ) (r : Words) → sets (sets (sets (sets (sets (sets l 0 (wordBytes (r .align))) 8 (wordBytes (r .kind))) 16 (wordBytes (r .size))) 24 (wordBytes (r .offset))) 32 (wordBytes (r .elem))) 40 (wordBytes (r .word)) ≡ sets l 0 (recordBytes r)
-sets-record l r =
-    let p1 = wordBytes (r .align) in
-    let p2 = p1 ++ wordBytes (r .kind) in
-    let p3 = p2 ++ wordBytes (r .size) in
-    let p4 = p3 ++ wordBytes (r .offset) in
-    let p5 = p4 ++ wordBytes (r .elem) in
-    let m2 : length p2 ≡ 16 = more p1 8 (r .kind) (word-length (r .align)) in
-    let m3 : length p3 ≡ 24 = more p2 16 (r .size) m2 in
-    let m4 : length p4 ≡ 32 = more p3 24 (r .offset) m3 in
-    let m5 : length p5 ≡ 40 = more p4 32 (r .elem) m4 in
-    rw (sets-word p1 l 0 8 8 (r .kind) (word-length (r .align)) refl, sets-word p2 l 0 16 16 (r .size) m2 refl, sets-word p3 l 0 24 24 (r .offset) m3 refl, sets-word p4 l 0 32 32 (r .elem) m4 refl, sets-word p5 l 0 40 40 (r .word) m5 refl)
+-- the total forms, of a word that is not among the bytes
+pub read-outside : (s : List ℕ) (i : ℕ) → length s < i + 8 → readFor s i ≡ 0
+unfolding readFor
+read-outside s i h = simp (lt-leb (i + 8) (length s) h)
 
-pub record-length : (r : Words) → length (recordBytes r) ≡ 48
-unfolding bytesOf
-record-length r = refl
+pub put-outside : (s : List ℕ) (i v : ℕ) → length s < i + 8 → putInto s i v ≡ s
+unfolding putInto
+put-outside s i v h = simp (lt-leb (i + 8) (length s) h)

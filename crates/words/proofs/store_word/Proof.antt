@@ -1,10 +1,10 @@
--- `record::put_word` meets its contract. Assumes nothing.
+-- `words::store_word` meets its contract. Assumes nothing.
 use native.Mathlib.Omega.{arith}
 use lib.ListN.{length-set}
-use Rattle.record.proofs.LittleEndian.{stores-word}
+use Rattle.words.proofs.LittleEndian.{stores-word}
 use borrow.Author.Needs.{needs}
-use Rattle.record.proofs.put_word.Statement.{statement}
-use Rattle.record.proofs.put_word.Tie as tie
+use Rattle.words.proofs.store_word.Statement.{statement}
+use Rattle.words.proofs.store_word.Tie as tie
 
 cast-out : tie.Need-cast-out
 cast-out c = search needs
@@ -81,8 +81,8 @@ same-length c = simp length-set
 returns : tie.Need-returns
 returns c = stores-word (c .args .out .now) (c .args .at) (c .args .v)
 
-pub put-word-spec : {M : Type 1} → statement M
-put-word-spec =
+pub store-word-spec : {M : Type 1} → statement M
+store-word-spec =
     tie.close
     (tie.spec
     cast-out

@@ -1,0 +1,2 @@
+-- Laws of words.
+pub mod LittleEndian
