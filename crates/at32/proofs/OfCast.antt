@@ -1,6 +1,7 @@
--- The laws of `cast` at 32 bits: each holds at any width. Assumes nothing.
+-- The laws of `cast_defs` and `cast` at 32 bits: each holds at any width. Assumes nothing.
 use mathlib.Core.Path.{_≡_}
 use Prim.Native.Nat.{ℕ, _+_, _-_, _/_, _%_, _^_, _≤_, _<_}
+use Rattle.util.specs.Width.{M}
 use Rattle.util.specs.Round.{down}
 use Rattle.util.specs.Refusal.{answered, Tells, None, Meets, Decided, refused, unless}
 use Rattle.rounding.specs.Word.{IsWord}
@@ -8,16 +9,17 @@ use Rattle.trailing.specs.Size.{Trailing, A, p, sizeAt}
 use Rattle.trailing.specs.Count.{GreatestBytes, bytesWithin, GreatestCount, countWithin}
 use Rattle.layout.specs.Layout.{Info, Layout, sizeIn, noWord, layoutCauses}
 use Rattle.padding.specs.Pad.{Padded}
-use Rattle.cast.specs.Cast.{Side, suffix, Greatest, countIn, elemZero, tooSmall, bytesCauses, castCauses, Grant, castFor, GrantMeans, prefix, greatestGrant}
-use Rattle.cast.specs.Exact.{hasExact, ExactCount, ExactIn, noExact, exactCauses, exactFor}
+use Rattle.cast_defs.specs.Cast.{Side, suffix, testedAddress, Greatest, countIn, IsElemZero, elemZero, tooSmall, bytesCauses, castCauses, Grant, castFor, GrantMeans, prefix, greatestGrant}
+use Rattle.cast_defs.specs.Exact.{hasExact, ExactCount, ExactIn, noExact, exactCauses, exactFor}
 use mathlib.Core.Bool.{false}
 use mathlib.Core.List.{[], _∷_}
 use Rattle.layout.specs.Extend.{IsTrailing, isTrailing}
 use Rattle.cast.specs.View.{castSays}
 use Rattle.cast.specs.declared.CastAnswer.{CastAnswer}
 use Rattle.cast.specs.declared.CastAnswer.the-variants as Answer
-use Rattle.cast.proofs.Grants as Grants
-use Rattle.cast.proofs.Exact as Exact
+use Rattle.cast_defs.proofs.Grants as Grants
+use Rattle.cast_defs.proofs.Exact as Exact
+use Rattle.cast_defs.proofs.Order as Order
 use Rattle.cast.proofs.Told as Told
 
 pub align-pos : (t : Trailing) → 0 < 32 → (t .word ≡ 0 → ⊥) → 0 < A 32 t
@@ -58,6 +60,15 @@ grant-fits {a} {q} = Grants.grant-fits {a = a} {q = q} 32
 
 pub suffix-aligned : (l m : Layout) (addr len : ℕ) (g : Grant) → m .align < 2 ^ 32 → 0 < 32 → Padded 32 l m → castFor 32 m suffix addr len ≡ answered g → (addr + g .split) % m .align ≡ 0
 suffix-aligned = Grants.suffix-aligned 32
+
+pub elem-first : (l : Layout) (side : Side) (addr len : ℕ) → l .align < 2 ^ 32 → None (layoutCauses 32 l) → IsElemZero (l .info) → castFor 32 l side addr len ≡ refused 10
+elem-first = Order.elem-first 32
+
+pub address-next : (l : Layout) (side : Side) (addr len : ℕ) → l .align < 2 ^ 32 → None (layoutCauses 32 l) → (IsElemZero (l .info) → ⊥) → M 32 < addr + len → castFor 32 l side addr len ≡ refused 11
+address-next = Order.address-next 32
+
+pub align-next : (l : Layout) (side : Side) (addr len : ℕ) → l .align < 2 ^ 32 → None (layoutCauses 32 l) → (IsElemZero (l .info) → ⊥) → (M 32 < addr + len → ⊥) → (testedAddress side addr len % l .align ≡ 0 → ⊥) → castFor 32 l side addr len ≡ refused 12
+align-next = Order.align-next 32
 
 pub count-mono : (t : Trailing) (m n : ℕ) → 0 < A 32 t → m ≤ n → sizeAt 32 t m ≤ sizeAt 32 t n
 count-mono = Exact.count-mono 32

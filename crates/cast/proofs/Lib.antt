@@ -1,5 +1,2 @@
--- Laws of casts, over any width, and what the answers tell.
-pub mod Grants
-pub mod Exact
+-- What the answers of casts tell.
 pub mod Told
-pub mod Only

@@ -10,12 +10,12 @@ use Rattle.util.proofs.Refusals.{known, tells-le, yes, told-true, tells-lt}
 use Rattle.util.proofs.Tables.{told-by, answer-is, accepted-none}
 use Rattle.layout.specs.Layout.{Info, fixed, trailing, Layout, sizeIn, noWord}
 use Rattle.layout.specs.Extend.{IsTrailing, isTrailing}
-use Rattle.cast.specs.Cast.{prefix, countIn, elemZero, tooSmall, castCauses, Grant, greatestGrant, castFor}
-use Rattle.cast.specs.Exact.{splitIs, noExact}
+use Rattle.cast_defs.specs.Cast.{prefix, countIn, elemZero, tooSmall, castCauses, Grant, greatestGrant, castFor}
+use Rattle.cast_defs.specs.Exact.{splitIs, noExact}
 use Rattle.cast.specs.View.{castSays}
 use Rattle.cast.specs.declared.CastAnswer.{CastAnswer}
 use Rattle.cast.specs.declared.CastAnswer.the-variants as Answer
-use Rattle.cast.proofs.Grants.{tells-small, greatest-in}
+use Rattle.cast_defs.proofs.Grants.{tells-small, greatest-in}
 
 -- a fit in front: the count and its size
 pub fit-told : {n s : ℕ} (w : ℕ) (i : Info) (L : ℕ) (r : CastAnswer) → castSays r ≡ unless (tooSmall w i L ∷ []) (greatestGrant w i prefix L) → r ≡ Answer.Granted n s

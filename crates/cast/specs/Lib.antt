@@ -1,3 +1,1 @@
-pub mod Cast
-pub mod Exact
 pub mod View

@@ -1,6 +1,6 @@
 -- What the types of this crate are, over numbers: document 01's number and values for each case of an answer. Assumes nothing.
 use Rattle.util.specs.Refusal.{Outcome, answered, refused}
-use Rattle.cast.specs.Cast.{Side, prefix, suffix, Grant}
+use Rattle.cast_defs.specs.Cast.{Side, prefix, suffix, Grant}
 use Rattle.cast.specs.declared.CastType.{CastType}
 use Rattle.cast.specs.declared.CastType.the-variants as Kind
 use Rattle.cast.specs.declared.CastAnswer.{CastAnswer}

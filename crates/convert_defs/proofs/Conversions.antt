@@ -13,8 +13,8 @@ use Rattle.util.proofs.Rounding.{multiple, same-multiple}
 use Rattle.trailing.specs.Size.{Trailing}
 use Rattle.layout.specs.Layout.{Info, fixed, trailing, Layout, layoutCauses}
 use Rattle.layout.proofs.Layouts.{layout-decided}
-use Rattle.cast.specs.Exact.{exactFor}
-use Rattle.cast.proofs.Exact.{exact-sound, exact-complete}
+use Rattle.cast_defs.specs.Exact.{exactFor}
+use Rattle.cast_defs.proofs.Exact.{exact-sound, exact-complete}
 use Rattle.shift_defs.specs.Match.{Comparison}
 use Rattle.shift_defs.specs.Shift.{Shift, by, missing, shiftOf}
 use Rattle.shift_defs.proofs.Shifts.{slice, by-not, shift-sound, shift-complete}

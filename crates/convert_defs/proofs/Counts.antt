@@ -11,7 +11,7 @@ use Rattle.util.specs.Refusal.{None}
 use Rattle.trailing.specs.Size.{Trailing, A, p, sizeAt}
 use Rattle.trailing.proofs.Sizes.{size-ge}
 use Rattle.layout.specs.Layout.{Info, Layout, sizeIn, layoutCauses, FitsWidth}
-use Rattle.cast.proofs.Grants.{align-pos}
+use Rattle.cast_defs.proofs.Grants.{align-pos}
 use Rattle.shift_defs.specs.Match.{Comparison, Sound, Matches}
 use Rattle.shift_defs.specs.Shift.{IsShift}
 use Rattle.shift_defs.proofs.Matching.{match-sizes}

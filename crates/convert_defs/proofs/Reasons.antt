@@ -11,8 +11,8 @@ use Rattle.util.proofs.Tables.{apart}
 use Rattle.util.proofs.Rounding.{multiple}
 use Rattle.trailing.specs.Size.{Trailing}
 use Rattle.layout.specs.Layout.{Info, fixed, trailing, Layout, layoutCauses}
-use Rattle.cast.specs.Exact.{ExactCount, exactFor}
-use Rattle.cast.proofs.Exact.{exact-sound, exact-complete}
+use Rattle.cast_defs.specs.Exact.{ExactCount, exactFor}
+use Rattle.cast_defs.proofs.Exact.{exact-sound, exact-complete}
 use Rattle.shift_defs.specs.Match.{Comparison}
 use Rattle.shift_defs.specs.Shift.{Shift, by, missing, shiftOf, IsShift}
 use Rattle.shift_defs.proofs.Shifts.{slice, by-not, shift-sound, shift-complete}

@@ -8,8 +8,8 @@ use Rattle.util.specs.Width.{M}
 use Rattle.util.specs.Refusal.{Outcome, answered, refused, Cause, unless, None}
 use Rattle.trailing.specs.Size.{Trailing}
 use Rattle.layout.specs.Layout.{Info, fixed, trailing, Layout, IsCount, sizeIn, layoutCauses}
-use Rattle.cast.specs.Cast.{IsElemZero}
-use Rattle.cast.specs.Exact.{ExactCount, exactFor}
+use Rattle.cast_defs.specs.Cast.{IsElemZero}
+use Rattle.cast_defs.specs.Exact.{ExactCount, exactFor}
 use Rattle.shift_defs.specs.Match.{Comparison}
 use Rattle.shift_defs.specs.Shift.{Shift, by, missing, shiftOf, IsShift, IsMultiple}
 use Rattle.convert_defs.specs.Reasons.{kindCauses, conversionCauses}

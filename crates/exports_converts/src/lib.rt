@@ -1,8 +1,8 @@
 // The functions of casts and conversions for C and Rust: no logic of their own. include/lukaripe.h is their C side.
 ghost use mathlib.Core.Path.{_≡_};
 ghost use Rattle.trailing.specs.Sequence.{sameSequence};
-ghost use Rattle.cast.specs.Cast.{castFor};
-ghost use Rattle.cast.specs.Exact.{exactFor};
+ghost use Rattle.cast_defs.specs.Cast.{castFor};
+ghost use Rattle.cast_defs.specs.Exact.{exactFor};
 ghost use Rattle.cast.specs.View.{sideOf, castSays};
 ghost use Rattle.convert_defs.specs.Convert.{computeFor, metadataFor};
 ghost use Rattle.convert.specs.View.{paramsIn, computeSays};

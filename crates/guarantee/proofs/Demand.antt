@@ -11,9 +11,9 @@ use Rattle.util.proofs.Tables.{both-none}
 use Rattle.trailing.specs.Size.{A, p}
 use Rattle.trailing.specs.Sequence.{sameSequence}
 use Rattle.layout.specs.Layout.{Info, fixed, trailing, Layout, IsCount, sizeIn, noWord, layoutCauses}
-use Rattle.cast.specs.Cast.{prefix, Grant, countIn, IsElemZero, bytesCauses, castCauses, castFor}
-use Rattle.cast.proofs.Grants.{align-pos, greatest-in, cast-decided}
-use Rattle.cast.proofs.Exact.{count-mono}
+use Rattle.cast_defs.specs.Cast.{prefix, Grant, countIn, IsElemZero, bytesCauses, castCauses, castFor}
+use Rattle.cast_defs.proofs.Grants.{align-pos, greatest-in, cast-decided}
+use Rattle.cast_defs.proofs.Exact.{count-mono}
 use Rattle.shift_defs.specs.Match.{Comparison, Sound}
 use Rattle.shift_defs.proofs.Matching.{same-sound}
 use Rattle.convert_defs.specs.Convert.{Params}

@@ -14,9 +14,9 @@ use Rattle.trailing.specs.Count.{bytesWithin, countWithin}
 use Rattle.trailing.specs.Sequence.{sameSequence}
 use Rattle.trailing.specs.Calls.{advanced}
 use Rattle.layout.specs.Layout.{trailing, Layout, IsCount, sizeIn}
-use Rattle.cast.specs.Cast.{Greatest, Grant, countIn, castFor}
-use Rattle.cast.specs.Exact.{exactFor}
-use Rattle.cast.proofs.Grants.{greatest-in, one-greatest}
+use Rattle.cast_defs.specs.Cast.{Greatest, Grant, countIn, castFor}
+use Rattle.cast_defs.specs.Exact.{exactFor}
+use Rattle.cast_defs.proofs.Grants.{greatest-in, one-greatest}
 use Rattle.shift_defs.specs.Match.{Comparison, matchTest}
 use Rattle.shift_defs.specs.Shift.{shiftOf}
 use Rattle.convert_defs.specs.Convert.{Params, unsizedToUnsized, computeFor, converted}

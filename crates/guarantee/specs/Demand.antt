@@ -5,7 +5,7 @@ use Prim.Native.Nat.{ℕ, _+_, _%_, _≤_}
 use Rattle.util.specs.Width.{M}
 use Rattle.util.specs.Refusal.{Outcome, answered, refused, None}
 use Rattle.layout.specs.Layout.{Layout, IsCount, sizeIn, layoutCauses, FitsWidth}
-use Rattle.cast.specs.Cast.{prefix, Greatest, Grant, castFor}
+use Rattle.cast_defs.specs.Cast.{prefix, Greatest, Grant, castFor}
 use Rattle.shift_defs.specs.Match.{Comparison}
 use Rattle.convert_defs.specs.Convert.{Params, Converts, computeFor, converted, metadataFor}
 

@@ -15,8 +15,8 @@ use Rattle.util.proofs.Rounding.{multiple, same-multiple}
 use Rattle.trailing.specs.Size.{Trailing, sizeAt, HasSize, sizeOffset}
 use Rattle.layout.specs.Layout.{Info, fixed, trailing, Layout, layoutCauses}
 use Rattle.layout.proofs.Layouts.{layout-decided}
-use Rattle.cast.specs.Exact.{ExactCount, exactFor}
-use Rattle.cast.proofs.Exact.{exact-sound, exact-complete}
+use Rattle.cast_defs.specs.Exact.{ExactCount, exactFor}
+use Rattle.cast_defs.proofs.Exact.{exact-sound, exact-complete}
 use Rattle.shift_defs.specs.Match.{Comparison, Matches}
 use Rattle.shift_defs.specs.Shift.{Shift, by, missing, byOffset, answeredBy, bySize, matchedShift, orElse, shiftOf, IsShift, shiftBetween, shiftCauses, shiftFor, ShiftMeans}
 use Rattle.shift_defs.proofs.Matching.{tells-matches}

@@ -9,7 +9,7 @@ use Rattle.util.specs.Width.{M}
 use Rattle.util.specs.Refusal.{Outcome, answered, refused, Cause, unless}
 use Rattle.trailing.specs.Size.{Trailing, sizeAt, HasSize, sizeOffset}
 use Rattle.layout.specs.Layout.{Info, fixed, trailing, Layout, layoutCauses}
-use Rattle.cast.specs.Exact.{ExactCount, exactFor}
+use Rattle.cast_defs.specs.Exact.{ExactCount, exactFor}
 use Rattle.shift_defs.specs.Match.{Comparison, Matches, matchTest}
 
 -- a shift that there is, or not

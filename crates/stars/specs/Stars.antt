@@ -12,7 +12,7 @@ use Rattle.trailing.specs.Size.{Trailing, sizeAt}
 use Rattle.trailing.specs.Sequence.{sameSequence}
 use Rattle.trailing.specs.Calls.{paddingForElems, sizeFor, sameFor}
 use Rattle.layout.specs.Layout.{Layout, fixed, trailing}
-use Rattle.cast.specs.Cast.{Side, prefix, suffix, Grant, castFor}
+use Rattle.cast_defs.specs.Cast.{Side, prefix, suffix, Grant, castFor}
 use Rattle.shift_defs.specs.Shift.{Shift, by, missing, byOffset, matchedShift}
 use Rattle.convert_defs.specs.Convert.{Params, sizedToSized, sizedToUnsized, unsizedToUnsized, computeFor, metadataFor}
 

@@ -18,9 +18,9 @@ use Rattle.trailing.specs.View.{trailingOf}
 use Rattle.layout.specs.Layout.{fixed, trailing, noWord}
 use Rattle.layout.specs.declared.SizeInfo.{SizeInfo}
 use Rattle.layout.specs.View.{infoOf, layoutOf}
-use Rattle.cast.specs.Cast.{Grant, elemZero, prefix, testedAddress, splitAt, isElemZero, tooSmall, bytesCauses, greatestGrant}
+use Rattle.cast_defs.specs.Cast.{Grant, elemZero, prefix, testedAddress, splitAt, isElemZero, tooSmall, bytesCauses, greatestGrant}
 use Rattle.cast.specs.View.{sideOf, castSays}
-use Rattle.cast.proofs.Grants.{elem-decided}
+use Rattle.cast_defs.proofs.Grants.{elem-decided}
 use Rattle.cast.proofs.Told.{fit-told, fit-within}
 use borrow.Author.Needs.{needs}
 use Rattle.cast.proofs.cast_checked.Statement.{statement}

@@ -2,7 +2,7 @@
 use mathlib.Core.Path.{sym, ap}
 use Rattle.layout.specs.declared.SizeInfo.{SizeInfo}
 use Rattle.layout.specs.View.{infoOf}
-use Rattle.cast.specs.Cast.{isElemZero}
+use Rattle.cast_defs.specs.Cast.{isElemZero}
 use borrow.Author.Needs.{needs}
 use Rattle.cast.proofs.elem_size_zero.Statement.{statement}
 use Rattle.cast.proofs.elem_size_zero.Tie as tie

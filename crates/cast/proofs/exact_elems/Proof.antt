@@ -3,10 +3,10 @@ use mathlib.Core.Path.{_≡_, sym, _∙_}
 use native.Mathlib.Omega.{arith}
 use Rattle.util.specs.Refusal.{unless}
 use Rattle.layout.specs.View.{layoutOf}
-use Rattle.cast.specs.Cast.{prefix, bytesCauses, greatestGrant, castFor}
+use Rattle.cast_defs.specs.Cast.{prefix, bytesCauses, greatestGrant, castFor}
 use Rattle.cast.specs.View.{castSays}
 use Rattle.cast.specs.declared.CastAnswer.{CastAnswer}
-use Rattle.cast.proofs.Grants.{cast-accepted}
+use Rattle.cast_defs.proofs.Grants.{cast-accepted}
 use Rattle.cast.proofs.Told.{exact-answered, exact-other, exact-none}
 use borrow.Author.Needs.{needs}
 use Rattle.cast.proofs.exact_elems.Statement.{statement}

@@ -10,7 +10,7 @@ use Rattle.util.proofs.Masks.{mask-down}
 use Rattle.trailing.specs.Size.{sizeAt}
 use Rattle.trailing.specs.Count.{countWithin}
 use Rattle.trailing.specs.View.{trailingOf}
-use Rattle.cast.proofs.Grants.{grant-count, grant-size, grant-fits}
+use Rattle.cast_defs.proofs.Grants.{grant-count, grant-size, grant-fits}
 use borrow.Author.Needs.{needs}
 use Rattle.cast.proofs.fit_elems.Statement.{statement}
 use Rattle.cast.proofs.fit_elems.Tie as tie

@@ -10,7 +10,7 @@ use Rattle.trailing.specs.Size.{A, p, sizeAt}
 use Rattle.trailing.specs.View.{trailingOf}
 use Rattle.trailing.proofs.Sizes.{size-mono}
 use Rattle.trailing.proofs.Told.{room-told, room-refused}
-use Rattle.cast.proofs.Grants.{align-pos}
+use Rattle.cast_defs.proofs.Grants.{align-pos}
 use borrow.Author.Needs.{needs}
 use Rattle.cast.proofs.fit_trailing.Statement.{statement}
 use Rattle.cast.proofs.fit_trailing.Tie as tie

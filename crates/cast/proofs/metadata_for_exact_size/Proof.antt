@@ -8,9 +8,9 @@ use Rattle.util.proofs.Tables.{told-by, refused-first, accepted-first, accepted
 use Rattle.layout.specs.Layout.{layoutCauses, checkFor}
 use Rattle.layout.specs.View.{layoutOf, checkSays}
 use Rattle.layout.proofs.Layouts.{layout-decided}
-use Rattle.cast.specs.Cast.{countIn}
-use Rattle.cast.specs.Exact.{noExact, exactFor}
-use Rattle.cast.proofs.Exact.{exact-meets}
+use Rattle.cast_defs.specs.Cast.{countIn}
+use Rattle.cast_defs.specs.Exact.{noExact, exactFor}
+use Rattle.cast_defs.proofs.Exact.{exact-meets}
 use borrow.Author.Needs.{needs}
 use Rattle.cast.proofs.metadata_for_exact_size.Statement.{statement}
 use Rattle.cast.proofs.metadata_for_exact_size.Tie as tie

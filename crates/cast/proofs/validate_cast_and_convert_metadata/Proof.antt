@@ -7,9 +7,9 @@ use Rattle.util.proofs.Tables.{told-by, refused-first, accepted-first, accepted
 use Rattle.layout.specs.Layout.{layoutCauses, checkFor}
 use Rattle.layout.specs.View.{layoutOf, checkSays}
 use Rattle.layout.proofs.Layouts.{layout-decided}
-use Rattle.cast.specs.Cast.{bytesCauses, greatestGrant, castFor}
+use Rattle.cast_defs.specs.Cast.{bytesCauses, greatestGrant, castFor}
 use Rattle.cast.specs.View.{sideOf}
-use Rattle.cast.proofs.Grants.{cast-meets}
+use Rattle.cast_defs.proofs.Grants.{cast-meets}
 use borrow.Author.Needs.{needs}
 use Rattle.cast.proofs.validate_cast_and_convert_metadata.Statement.{statement}
 use Rattle.cast.proofs.validate_cast_and_convert_metadata.Tie as tie

@@ -1,7 +1,7 @@
 -- `exports_converts::lukaripe_validate_cast_and_convert_metadata` meets its contract. Assumes nothing.
 use mathlib.Core.Path.{ap, _∙_}
 use Rattle.layout.specs.Layout.{Layout}
-use Rattle.cast.specs.Cast.{Side, castFor}
+use Rattle.cast_defs.specs.Cast.{Side, castFor}
 use Rattle.layout.specs.View.{layoutOf}
 use Rattle.exports_converts.specs.Converts.{castOut, sideGiven}
 use Rattle.exports_layouts.proofs.Given.{with-layout, with-refused}

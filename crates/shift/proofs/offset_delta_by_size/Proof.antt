@@ -9,7 +9,7 @@ use Rattle.trailing.specs.Size.{sizeAt}
 use Rattle.trailing.specs.View.{trailingOf}
 use Rattle.trailing.proofs.Told.{size-told, size-missing}
 use Rattle.layout.specs.View.{layoutOf}
-use Rattle.cast.specs.Exact.{exactFor}
+use Rattle.cast_defs.specs.Exact.{exactFor}
 use Rattle.shift_defs.specs.Shift.{answeredBy}
 use borrow.Author.Needs.{needs}
 use Rattle.shift.proofs.offset_delta_by_size.Statement.{statement}

@@ -1,9 +1,9 @@
 -- The exact count of a size, over any width w. Assumes nothing.
 use mathlib.Core.Path.{_≡_, sym, ap, _∙_, subst}
 use mathlib.Core.Bool.{Bool}
-use mathlib.Core.List.{[], _∷_, _++_}
+use mathlib.Core.List.{[], _∷_}
 use mathlib.Core.Logic.{inl, inr}
-use Prim.Native.Nat.{ℕ, _+_, _-_, _*_, _%_, _^_, _≤_, _<_}
+use Prim.Native.Nat.{ℕ, _*_, _^_, _≤_, _<_}
 use native.Mathlib.Nat.{zero-mod, mul-le-mul-right}
 use native.Mathlib.Omega.{arith}
 use Rattle.util.specs.Refusal.{Outcome, answered, Tells, holds, fails, None, First, Meets, answers, refuses}
@@ -14,9 +14,9 @@ use Rattle.trailing.specs.Count.{GreatestCount, countWithin}
 use Rattle.trailing.proofs.Sizes.{size-mono, greatest-count, one-count}
 use Rattle.layout.specs.Layout.{Info, fixed, trailing, Layout, noWord, layoutCauses}
 use Rattle.layout.proofs.Layouts.{layout-decided}
-use Rattle.cast.specs.Cast.{prefix, castCauses, Grant, GrantMeans, countIn}
-use Rattle.cast.specs.Exact.{splitIs, hasExact, ExactCount, ExactIn, noExact, exactCauses, exactFor}
-use Rattle.cast.proofs.Grants.{align-pos, cast-meets}
+use Rattle.cast_defs.specs.Cast.{prefix, castCauses, Grant, GrantMeans, countIn}
+use Rattle.cast_defs.specs.Exact.{splitIs, hasExact, ExactCount, ExactIn, noExact, exactCauses, exactFor}
+use Rattle.cast_defs.proofs.Grants.{align-pos, cast-meets}
 
 -- sizes grow with the count
 pub count-mono : (w : ℕ) (t : Trailing) (m n : ℕ) → 0 < A w t → m ≤ n → sizeAt w t m ≤ sizeAt w t n

@@ -1,6 +1,5 @@
 -- Greatest counts and their sizes, of any layout, over any width w. Assumes nothing.
 use mathlib.Core.Path.{_≡_, refl, sym, ap, _∙_, subst}
-use mathlib.Core.List.{[], _∷_, _++_}
 use Prim.Native.Nat.{ℕ, _+_, _-_, _*_, _/_, _%_, _^_, _≤_, _<_}
 use native.Mathlib.Nat.{div-add-mod', mod-le}
 use native.Mathlib.Omega.{arith}
@@ -19,7 +18,7 @@ use Rattle.trailing.proofs.Sizes.{size-within, size-mono, size-ge, greatest-byt
 use Rattle.layout.specs.Layout.{Info, fixed, trailing, Layout, IsCount, sizeIn, noWord, layoutCauses}
 use Rattle.padding.specs.Pad.{PaddedInfo, Padded}
 use Rattle.layout.proofs.Layouts.{layout-decided}
-use Rattle.cast.specs.Cast.{Side, suffix, testedAddress, Greatest, countIn, elemZero, tooSmall, bytesCauses, castCauses, Grant, greatestGrant, castFor, GrantMeans}
+use Rattle.cast_defs.specs.Cast.{Side, suffix, testedAddress, Greatest, countIn, elemZero, tooSmall, bytesCauses, castCauses, Grant, greatestGrant, castFor, GrantMeans}
 
 -- the alignment of a rounding word that is not 0
 pub align-pos : (w : ℕ) (t : Trailing) → 0 < w → (t .word ≡ 0 → ⊥) → 0 < A w t

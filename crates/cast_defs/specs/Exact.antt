@@ -8,7 +8,7 @@ use Rattle.util.specs.Refusal.{Outcome, answered, refused, Cause, unless}
 use Rattle.trailing.specs.Size.{Trailing, sizeAt, HasSize}
 use Rattle.layout.specs.Layout.{Info, fixed, trailing, Layout, layoutCauses}
 use Rattle.layout.specs.Extend.{isTrailing}
-use Rattle.cast.specs.Cast.{prefix, Grant, castFor, countIn}
+use Rattle.cast_defs.specs.Cast.{prefix, Grant, castFor, countIn}
 
 -- whether a cast is granted with this split
 abbrev pub splitIs : ℕ → Outcome Grant → Bool

@@ -3,9 +3,9 @@ use mathlib.Core.Path.{_≡_, sym, ap, _∙_}
 use Prim.Native.Nat.{ℕ}
 use native.Mathlib.Omega.{arith}
 use Rattle.layout.specs.Layout.{Info, fixed, trailing, sizeIn}
-use Rattle.cast.specs.Cast.{Side, splitAt, Grant, GrantMeans}
-use Rattle.cast.specs.Exact.{ExactIn}
-use Rattle.cast.proofs.Grants.{one-greatest}
+use Rattle.cast_defs.specs.Cast.{Side, splitAt, Grant, GrantMeans}
+use Rattle.cast_defs.specs.Exact.{ExactIn}
+use Rattle.cast_defs.proofs.Grants.{one-greatest}
 
 pub one-grant : {w : ℕ} {i : Info} {side : Side} {len : ℕ} (g h : Grant) → GrantMeans w i side len g → GrantMeans w i side len h → g ≡ h
 one-grant {w} {i} {side} {len} g h x y =

@@ -1,0 +1,1 @@
+// No code: the definitions of casts and of exact counts, and their laws over any width.
