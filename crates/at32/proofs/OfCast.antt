@@ -8,7 +8,7 @@ use Rattle.rounding.specs.Word.{IsWord}
 use Rattle.trailing.specs.Size.{Trailing, A, p, sizeAt}
 use Rattle.trailing.specs.Count.{GreatestBytes, bytesWithin, GreatestCount, countWithin}
 use Rattle.layout.specs.Layout.{Info, Layout, sizeIn, noWord, layoutCauses}
-use Rattle.padding.specs.Pad.{Padded}
+use Rattle.padding_defs.specs.Pad.{Padded}
 use Rattle.cast_defs.specs.Cast.{Side, suffix, testedAddress, Greatest, countIn, IsElemZero, elemZero, tooSmall, bytesCauses, castCauses, Grant, castFor, GrantMeans, prefix, greatestGrant}
 use Rattle.cast_defs.specs.Exact.{hasExact, ExactCount, ExactIn, noExact, exactCauses, exactFor}
 use mathlib.Core.Bool.{false}

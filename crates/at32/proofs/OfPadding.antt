@@ -1,4 +1,4 @@
--- The laws of `padding` at 32 bits: each holds at any width. Assumes nothing.
+-- The laws of `padding_defs` at 32 bits: each holds at any width. Assumes nothing.
 use mathlib.Core.Path.{_≡_}
 use mathlib.Core.List.{[], _∷_}
 use Prim.Native.Nat.{ℕ, _≤_, _<_, _^_}
@@ -12,12 +12,12 @@ use mathlib.Core.Logic.{_⊎_}
 use Rattle.util.specs.Power.{PowerOfTwo}
 use Rattle.util.specs.Round.{up}
 use Rattle.trailing.specs.Size.{Trailing, A, sizeAt}
-use Rattle.padding.specs.Pad.{coarser, paddedTail, padded, padCauses, padFor, Padded, paddedInfo, paddingNeeds, staticFor, DynamicPadding, dynamicPadding, dynamicFor}
+use Rattle.padding_defs.specs.Pad.{coarser, paddedTail, padded, padCauses, padFor, Padded, paddedInfo, paddingNeeds, staticFor, DynamicPadding, dynamicPadding, dynamicFor}
 use Rattle.rounding.specs.Word.{alignOf, alignFor}
-use Rattle.padding.proofs.Settled.{Settled}
-use Rattle.padding.proofs.Padding as Padding
-use Rattle.padding.proofs.Settled as Settled
-use Rattle.padding.proofs.Marks as Marks
+use Rattle.padding_defs.proofs.Settled.{Settled}
+use Rattle.padding_defs.proofs.Padding as Padding
+use Rattle.padding_defs.proofs.Settled as Settled
+use Rattle.padding_defs.proofs.Marks as Marks
 
 pub word-power : {a : ℕ} (t : Trailing) → PowerOfTwo a → a < 2 ^ 32 → (t .word ≡ 0 → ⊥) → PowerOfTwo (A 32 t)
 word-power {a} = Padding.word-power 32 {a = a}

@@ -16,7 +16,7 @@ use Rattle.trailing.specs.Size.{Trailing, A, p, sizeWith, sizeAt}
 use Rattle.trailing.specs.Count.{GreatestBytes, bytesWithin}
 use Rattle.trailing.proofs.Sizes.{size-within, size-mono, size-ge, greatest-bytes, greatest-count}
 use Rattle.layout.specs.Layout.{Info, fixed, trailing, Layout, IsCount, sizeIn, noWord, layoutCauses}
-use Rattle.padding.specs.Pad.{PaddedInfo, Padded}
+use Rattle.padding_defs.specs.Pad.{PaddedInfo, Padded}
 use Rattle.layout.proofs.Layouts.{layout-decided}
 use Rattle.cast_defs.specs.Cast.{Side, suffix, testedAddress, Greatest, countIn, elemZero, tooSmall, bytesCauses, castCauses, Grant, greatestGrant, castFor, GrantMeans}
 

@@ -13,7 +13,7 @@ use Rattle.util.specs.Helpers.{alignCauses}
 use Rattle.util.proofs.Tables.{answer-is}
 use Rattle.layout.specs.Layout.{fixed, Layout}
 use Rattle.make.specs.Make.{asked, emptyLayout, newZstFor}
-use Rattle.padding.specs.Pad.{padFor}
+use Rattle.padding_defs.specs.Pad.{padFor}
 use Rattle.record.specs.Record.{decodeFor}
 use Rattle.compose.specs.Compose.{Composed, composed, refusedAt, andThen, bind, memberStep, addMembers, composeMembers, composeStruct, membersOf, composeFor, structFor}
 

@@ -9,7 +9,7 @@ use Rattle.util.specs.Refusal.{Outcome, answered, refused}
 use Rattle.layout.specs.Layout.{Layout}
 use Rattle.make.specs.Make.{newZstFor}
 use Rattle.layout.specs.Extend.{extendFor}
-use Rattle.padding.specs.Pad.{padFor}
+use Rattle.padding_defs.specs.Pad.{padFor}
 use Rattle.record.specs.Record.{recordLength, decodeFor}
 
 -- a composed layout, or a refusal with its place: the index of the member at fault, the member count for final padding, else 0

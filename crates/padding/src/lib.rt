@@ -1,21 +1,20 @@
 // Final padding, and what padding a layout needs, after zerocopy's DstLayout.
 ghost use mathlib.Core.Path.{_≡_};
-ghost use mathlib.Core.Bool.{false, not};
+ghost use mathlib.Core.Bool.{false};
 ghost use mathlib.Core.List.{[], _∷_};
-ghost use Prim.Native.Nat.{_%_, _<_};
-ghost use lib.Dec.{eqb};
+ghost use Prim.Native.Nat.{_<_};
 ghost use Rattle.util.specs.Power.{PowerOfTwo};
 ghost use Rattle.util.specs.Round.{up};
 ghost use Rattle.util.specs.Refusal.{answered, unless, None, Meets, Tells};
 ghost use Rattle.util.specs.View.{decisionSays};
-ghost use Rattle.rounding.specs.Word.{IsWord, alignOf};
+ghost use Rattle.rounding.specs.Word.{IsWord};
 ghost use Rattle.trailing.specs.View.{trailingOf};
 ghost use Rattle.layout.specs.Layout.{trailing, noWord, layoutCauses};
 ghost use Rattle.layout.specs.Extend.{roundingPasses};
 ghost use Rattle.layout.specs.View.{infoOf, layoutOf, layoutSays, infoSays};
-ghost use Rattle.padding.specs.Pad.{fixedPart, coarser, finer, paddedTail, paddedInfo, paddedMark, padded};
-ghost use Rattle.padding.specs.Pad.{paddingNeeds, padCauses, padFor, Padded, staticFor, DynamicPadding};
-ghost use Rattle.padding.specs.Pad.{dynamicPadding, dynamicFor};
+ghost use Rattle.padding_defs.specs.Pad.{fixedPart, coarser, finer, paddedTail, paddedMark, padded};
+ghost use Rattle.padding_defs.specs.Pad.{paddingNeeds, padCauses, padFor, Padded, staticFor, DynamicPadding};
+ghost use Rattle.padding_defs.specs.Pad.{dynamicPadding, dynamicFor};
 use layout::Check;
 use layout::DstLayout;
 use layout::LayoutAnswer;

@@ -1,5 +1,5 @@
 -- `padding::pad_checked` meets its contract. Assumes nothing.
-use mathlib.Core.Path.{_≡_, sym, ap, ap₂, _∙_, subst}
+use mathlib.Core.Path.{sym, ap, ap₂, _∙_, subst}
 use mathlib.Core.Bool.{Bool}
 use mathlib.Core.List.{[], _∷_}
 use Prim.Native.Nat.{ℕ}
@@ -17,7 +17,7 @@ use Rattle.layout.specs.View.{infoOf, infoSays}
 use Rattle.layout.specs.declared.SizeInfo.{SizeInfo}
 use Rattle.layout.specs.declared.SizeInfo.the-variants.{SliceDst}
 use Rattle.layout.proofs.Passes.{round-power}
-use Rattle.padding.specs.Pad.{paddedInfo, paddedMark, paddedTail, padded, paddingNeeds}
+use Rattle.padding_defs.specs.Pad.{paddedInfo, paddedMark, paddedTail, padded, paddingNeeds}
 use borrow.Author.Needs.{needs}
 use Rattle.padding.proofs.pad_checked.Statement.{statement}
 use Rattle.padding.proofs.pad_checked.Tie as tie

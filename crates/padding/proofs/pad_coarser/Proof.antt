@@ -10,7 +10,7 @@ use Rattle.util.proofs.Masks.{mask-mod, mask-down}
 use Rattle.rounding.proofs.Words.{align-is, phase-is}
 use Rattle.trailing.specs.View.{trailingOf}
 use Rattle.layout.specs.Layout.{trailing}
-use Rattle.padding.specs.Pad.{fixedPart, coarser}
+use Rattle.padding_defs.specs.Pad.{fixedPart, coarser}
 use Rattle.layout.proofs.Passes.{within, past, up-told, up-refused, round-power}
 use borrow.Author.Needs.{needs}
 use Rattle.padding.proofs.pad_coarser.Statement.{statement}

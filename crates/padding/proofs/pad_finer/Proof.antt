@@ -8,7 +8,7 @@ use Rattle.util.specs.View.{numberSays}
 use Rattle.trailing.specs.View.{trailingOf}
 use Rattle.layout.specs.Layout.{trailing}
 use Rattle.layout.specs.Extend.{roundingPasses}
-use Rattle.padding.specs.Pad.{finer}
+use Rattle.padding_defs.specs.Pad.{finer}
 use Rattle.layout.proofs.Passes.{round-power}
 use Rattle.util.proofs.Tables.{told-by, answer-is, accepted-as, refused-as}
 use borrow.Author.Needs.{needs}

@@ -1,6 +1,6 @@
 -- `padding::pad_mark` meets its contract. Assumes nothing.
 use Rattle.util.proofs.Powers.{positive}
-use Rattle.padding.proofs.Padding.{up-same}
+use Rattle.padding_defs.proofs.Padding.{up-same}
 use borrow.Author.Needs.{needs}
 use Rattle.padding.proofs.pad_mark.Statement.{statement}
 use Rattle.padding.proofs.pad_mark.Tie as tie

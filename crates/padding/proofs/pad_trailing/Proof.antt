@@ -5,7 +5,7 @@ use Rattle.rounding.proofs.Words.{align-is}
 use Rattle.rounding.proofs.Told.{parts-told, parts-refused}
 use Rattle.trailing.specs.Size.{A}
 use Rattle.trailing.specs.View.{trailingOf}
-use Rattle.padding.specs.Pad.{paddedTail}
+use Rattle.padding_defs.specs.Pad.{paddedTail}
 use borrow.Author.Needs.{needs}
 use Rattle.padding.proofs.pad_trailing.Statement.{statement}
 use Rattle.padding.proofs.pad_trailing.Tie as tie

@@ -4,10 +4,10 @@ use mathlib.Core.Bool.{not}
 use native.Mathlib.Omega.{arith}
 use Rattle.util.proofs.Refusals.{told}
 use Rattle.layout.specs.Layout.{layoutCauses, checkFor}
-use Rattle.padding.specs.Pad.{staticFor}
+use Rattle.padding_defs.specs.Pad.{staticFor}
 use Rattle.layout.specs.View.{layoutOf, checkSays}
 use Rattle.util.proofs.Tables.{told-by, accepted-as, refused-as}
-use Rattle.padding.proofs.Marks.{static-meets}
+use Rattle.padding_defs.proofs.Marks.{static-meets}
 use borrow.Author.Needs.{needs}
 use Rattle.padding.proofs.requires_static_padding.Statement.{statement}
 use Rattle.padding.proofs.requires_static_padding.Tie as tie

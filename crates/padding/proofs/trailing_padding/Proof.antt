@@ -15,7 +15,7 @@ use Rattle.rounding.proofs.Words.{parts-of}
 use Rattle.trailing.specs.Size.{sizeAt}
 use Rattle.trailing.specs.View.{trailingOf}
 use Rattle.trailing.proofs.Told.{size-told, size-missing}
-use Rattle.padding.proofs.Marks.{align-answered}
+use Rattle.padding_defs.proofs.Marks.{align-answered}
 use borrow.Author.Needs.{needs}
 use Rattle.padding.proofs.trailing_padding.Statement.{statement}
 use Rattle.padding.proofs.trailing_padding.Tie as tie

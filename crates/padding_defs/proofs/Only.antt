@@ -10,7 +10,7 @@ use Rattle.rounding.proofs.Words.{same-word}
 use Rattle.trailing.specs.Size.{Trailing, A}
 use Rattle.layout.specs.Layout.{Info, fixed, trailing, Layout}
 use Rattle.layout.proofs.Only.{one-place}
-use Rattle.padding.specs.Pad.{PaddedTo, PaddedInfo, KeepsMark, Padded}
+use Rattle.padding_defs.specs.Pad.{PaddedTo, PaddedInfo, KeepsMark, Padded}
 
 one-tail : {w a : ℕ} {t : Trailing} (u v : Trailing) → PaddedTo w a t u → PaddedTo w a t v → u ≡ v
 one-tail {w} {a} {t} u v x y = go (tells-lt (A w t) a)

@@ -9,7 +9,7 @@ use Rattle.util.proofs.Refusals.{tells-eq, tells-lt, tells-not, tells-as, tells
 use Rattle.rounding.specs.Word.{alignOf, wordCauses, alignFor}
 use Rattle.trailing.specs.Size.{A, sizeAt}
 use Rattle.layout.specs.Layout.{Info, fixed, trailing, Layout, layoutCauses}
-use Rattle.padding.specs.Pad.{staticFor, DynamicPadding, dynamicPadding, dynamicFor}
+use Rattle.padding_defs.specs.Pad.{staticFor, DynamicPadding, dynamicPadding, dynamicFor}
 use Rattle.layout.proofs.Layouts.{layout-decided}
 
 -- the mark turned round tells whether it is unset

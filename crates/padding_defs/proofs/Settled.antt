@@ -15,9 +15,9 @@ use Rattle.util.proofs.Rounding.{down-multiple, down-le, up-multiple, up-whole}
 use Rattle.util.proofs.Helpers.{power}
 use Rattle.trailing.specs.Size.{Trailing, A}
 use Rattle.layout.specs.Layout.{Info, fixed, trailing, Layout, noWord}
-use Rattle.padding.specs.Pad.{fixedPart, coarser, finer, paddedTail, paddedInfo, paddedMark, padded, paddingNeeds, padCauses, padFor}
+use Rattle.padding_defs.specs.Pad.{fixedPart, coarser, finer, paddedTail, paddedInfo, paddedMark, padded, paddingNeeds, padCauses, padFor}
 use Rattle.util.proofs.Tables.{answer-is, accepted-none}
-use Rattle.padding.proofs.Padding.{coarser-align, pad-decided}
+use Rattle.padding_defs.proofs.Padding.{coarser-align, pad-decided}
 
 -- padding to a leaves i as it is, and refuses nothing
 pub record Settled (w a : ℕ) (i : Info) : Type 0 where

@@ -22,7 +22,7 @@ use Rattle.rounding.proofs.Words.{align-is, phase-is, align-power}
 use Rattle.trailing.specs.Size.{Trailing, A, p, sizeWith, sizeAt}
 use Rattle.layout.specs.Layout.{Info, fixed, trailing, Layout, sizeIn, noWord, layoutCauses}
 use Rattle.layout.specs.Extend.{roundingPasses}
-use Rattle.padding.specs.Pad.{fixedPart, coarser, finer, paddedTail, paddedInfo, padded, paddingNeeds, paddedMark, padCauses, padFor, PaddedTo, PaddedInfo, KeepsMark, Padded}
+use Rattle.padding_defs.specs.Pad.{fixedPart, coarser, finer, paddedTail, paddedInfo, padded, paddingNeeds, paddedMark, padCauses, padFor, PaddedTo, PaddedInfo, KeepsMark, Padded}
 use Rattle.util.proofs.Tables.{decided-both, none-both}
 use Rattle.layout.proofs.Layouts.{layout-decided}
 use Rattle.layout.proofs.Passes.{least-place}

@@ -1,0 +1,1 @@
+// No code: the definitions of final padding and of the questions on padding, and their laws over any width.
