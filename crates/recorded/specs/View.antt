@@ -2,7 +2,7 @@
 use mathlib.Core.Bool.{Bool, true, false}
 use Prim.Native.Nat.{ℕ}
 use lib.ListN.{replicate}
-use Rattle.recorded.specs.Lines as lines
+use Rattle.recorded_defs.specs.Lines as lines
 use Rattle.recorded.specs.declared.Number.{Number}
 use Rattle.recorded.specs.declared.Number.the-variants as Number
 use Rattle.recorded.specs.declared.Line.{Line}

@@ -5,7 +5,7 @@ ghost use mathlib.Core.Bool.{false};
 ghost use Prim.Native.Nat.{_+_, _≤_};
 ghost use lib.ListN.{length, drop, replicate};
 ghost use Rattle.io.specs.Counts.{Counts};
-ghost use Rattle.recorded.specs.Lines.{digitOf, endOf, numberFrom, unread, lineAt, Ahead, sameFrom, agreesWith, oneMore};
+ghost use Rattle.recorded_defs.specs.Lines.{digitOf, endOf, numberFrom, unread, lineAt, Ahead, sameFrom, agreesWith, oneMore};
 ghost use Rattle.recorded.specs.View.{numberSays, lineOut, counted};
 
 // A line has no more numbers than this.

@@ -2,8 +2,8 @@
 use mathlib.Core.Path.{_≡_, sym, _∙_}
 use Prim.Native.Nat.{_+_, _-_, _≤_}
 use native.Mathlib.Omega.{arith}
-use Rattle.recorded.specs.Lines.{sameFrom}
-use Rattle.recorded.proofs.Reading.{same-on, same-off, same-all, same-begun}
+use Rattle.recorded_defs.specs.Lines.{sameFrom}
+use Rattle.recorded_defs.proofs.Reading.{same-on, same-off, same-all, same-begun}
 use borrow.Author.Needs.{needs}
 use Rattle.recorded.proofs.is_same.Statement.{statement}
 use Rattle.recorded.proofs.is_same.Tie as tie

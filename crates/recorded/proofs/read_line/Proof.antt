@@ -4,9 +4,10 @@ use mathlib.Core.Bool.{Bool, true, false}
 use Prim.Native.Nat.{_-_, _≤_}
 use native.Mathlib.Omega.{arith}
 use lib.ListN.{length, drop}
-use Rattle.recorded.specs.Lines.{number, numberFrom, Read, lineFrom}
+use Rattle.recorded_defs.specs.Lines.{number, numberFrom, Read, lineFrom}
 use Rattle.recorded.specs.View.{numberSays, lineOut}
-use Rattle.recorded.proofs.Reading.{number-within, line-full, line-last, line-on, line-off, unread-out}
+use Rattle.recorded_defs.proofs.Reading.{number-within, line-full, line-last, line-on, line-off}
+use Rattle.recorded.proofs.Unread.{unread-out}
 use borrow.Author.Needs.{needs}
 use Rattle.recorded.proofs.read_line.Statement.{statement}
 use Rattle.recorded.proofs.read_line.Tie as tie

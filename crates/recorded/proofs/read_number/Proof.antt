@@ -8,8 +8,8 @@ use borrow.Author.Tests.{lt-ltb, le-ltb}
 use Rattle.util.specs.Width.{M}
 use lib.Dec.{ltb}
 use lib.ListN.{length, drop}
-use Rattle.recorded.specs.Lines.{numberFrom}
-use Rattle.recorded.proofs.Reading.{number-ends, number-passes, number-on, number-over}
+use Rattle.recorded_defs.specs.Lines.{numberFrom}
+use Rattle.recorded_defs.proofs.Reading.{number-ends, number-passes, number-on, number-over}
 use borrow.Author.Needs.{needs}
 use Rattle.recorded.proofs.read_number.Statement.{statement}
 use Rattle.recorded.proofs.read_number.Tie as tie

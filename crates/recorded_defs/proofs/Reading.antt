@@ -1,5 +1,5 @@
 -- Reading a line: one byte more of a number, one number more of a line, one number more that is the same. Assumes nothing.
-use mathlib.Core.Path.{_≡_, sym, ap, subst, _∙_}
+use mathlib.Core.Path.{_≡_, refl, sym, subst}
 use mathlib.Core.Bool.{Bool, true, false, cond}
 use mathlib.Core.List.{List, [], _∷_}
 use Prim.Native.Nat.{ℕ, suc, _+_, _-_, _*_, _≤_, _<_}
@@ -9,9 +9,21 @@ use lib.Dec.{eqb, ltb}
 use lib.ListN.{length, drop, getD, set, drop-of-length-le, length-drop}
 use lib.Seq.{drop-cons}
 use Rattle.util.specs.Width.{M}
-use Rattle.recorded.specs.Lines.{digitOf, Number, number, none, endOf, numberFrom, Read, line, unread, lineFrom, lineAt, Ahead, sameFrom}
-use Rattle.recorded.specs.View.{lineOut}
-use Rattle.recorded.specs.declared.Line.{Line}
+use Rattle.recorded_defs.specs.Lines.{digitOf, Number, number, none, endOf, numberFrom, line, unread, lineFrom, sameFrom}
+
+-- the byte before 0, 0, 9, and the byte after 9
+pub digit-edges : (digitOf 47 ≡ 10) × (digitOf 48 ≡ 0) × (digitOf 57 ≡ 9) × (digitOf 58 ≡ 10)
+digit-edges = (refl, refl, refl, refl)
+
+-- a byte from 48 to 57 is its digit, and no other byte is one
+pub digit-within : (b : ℕ) → 48 ≤ b → b ≤ 57 → digitOf b + 48 ≡ b
+digit-within b h g = rw (le-ltb b 48 h, le-ltb 57 b g) (omega arith)
+
+pub digit-below : (b : ℕ) → b < 48 → digitOf b ≡ 10
+digit-below b h = rw (lt-ltb b 48 h)
+
+pub digit-above : (b : ℕ) → 57 < b → digitOf b ≡ 10
+digit-above b h = rw (le-ltb b 48 (omega arith), lt-ltb 57 b h)
 
 -- a number: its end, a digit that is too much, a digit more
 module _ (s : List ℕ) (v at : ℕ) (digits : Bool) (h : at < length s) {d : ℕ} (e : d ≡ digitOf (getD s at 0)) where
@@ -83,13 +95,6 @@ module _ (s ns : List ℕ) (at count : ℕ) where
     pub line-off : numberFrom 0 false at (drop at s) ≡ none → lineFrom (64 - count) s at ns count ≡ unread
     unfolding lineFrom
     line-off e = let f : 64 - count ≡ suc (64 - (count + 1)) = omega arith in rw (f, e)
-
--- what comes back for a line that does not read as numbers
-pub unread-out : (s : List ℕ) (from : ℕ) {r : Line} → unread ≡ lineAt s from → r ≡ lineOut unread (length s)
-    → (r ≡ lineOut (lineAt s from) (length s)) × Ahead s from (r .next)
-unread-out s from {r} u e =
-    let n : r .next ≡ length s = ap (λ (l : Line). l .next) e in
-    (e ∙ ap (λ (o : Read). lineOut o (length s)) u, λ h. (omega (arith, n), omega (arith, n)))
 
 -- numbers of two lists: one more that is the same, one that is not, and none left
 module _ (xs ys : List ℕ) (n i k : ℕ) (h : k < n) where

@@ -1,0 +1,2 @@
+-- Laws of recorded answers.
+pub mod Reading
