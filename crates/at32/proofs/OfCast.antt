@@ -5,8 +5,8 @@ use Rattle.util.specs.Width.{M}
 use Rattle.util.specs.Round.{down}
 use Rattle.util.specs.Refusal.{answered, Tells, None, Meets, Decided, refused, unless}
 use Rattle.rounding.specs.Word.{IsWord}
-use Rattle.trailing.specs.Size.{Trailing, A, p, sizeAt}
-use Rattle.trailing.specs.Count.{GreatestBytes, bytesWithin, GreatestCount, countWithin}
+use Rattle.trailing_defs.specs.Size.{Trailing, A, p, sizeAt}
+use Rattle.trailing_defs.specs.Count.{GreatestBytes, bytesWithin, GreatestCount, countWithin}
 use Rattle.layout.specs.Layout.{Info, Layout, sizeIn, noWord, layoutCauses}
 use Rattle.padding_defs.specs.Pad.{Padded}
 use Rattle.cast_defs.specs.Cast.{Side, suffix, testedAddress, Greatest, countIn, IsElemZero, elemZero, tooSmall, bytesCauses, castCauses, Grant, castFor, GrantMeans, prefix, greatestGrant}

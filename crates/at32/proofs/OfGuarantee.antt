@@ -1,7 +1,7 @@
 -- The laws of `guarantee` at 32 bits: each holds at any width. Assumes nothing.
 use Prim.Native.Nat.{_<_}
 use lib.Dec.{lit<}
-use Rattle.trailing.specs.Sequence.{sameSequence}
+use Rattle.trailing_defs.specs.Sequence.{sameSequence}
 use Rattle.shift_defs.specs.Match.{Comparison, Sound}
 use Rattle.guarantee.specs.Demand.{Demand3}
 use Rattle.guarantee.proofs.Demand as Demand

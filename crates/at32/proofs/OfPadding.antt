@@ -11,7 +11,7 @@ use mathlib.Core.Bool.{_||_, false}
 use mathlib.Core.Logic.{_⊎_}
 use Rattle.util.specs.Power.{PowerOfTwo}
 use Rattle.util.specs.Round.{up}
-use Rattle.trailing.specs.Size.{Trailing, A, sizeAt}
+use Rattle.trailing_defs.specs.Size.{Trailing, A, sizeAt}
 use Rattle.padding_defs.specs.Pad.{coarser, paddedTail, padded, padCauses, padFor, Padded, paddedInfo, paddingNeeds, staticFor, DynamicPadding, dynamicPadding, dynamicFor}
 use Rattle.rounding.specs.Word.{alignOf, alignFor}
 use Rattle.padding_defs.proofs.Settled.{Settled}

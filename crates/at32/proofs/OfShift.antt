@@ -3,9 +3,9 @@ use mathlib.Core.Path.{_≡_}
 use mathlib.Core.Bool.{Bool}
 use Prim.Native.Nat.{ℕ, _+_, _*_, _^_, _<_}
 use Rattle.util.specs.Refusal.{Tells, Meets, None, Decided}
-use Rattle.trailing.specs.Size.{Trailing, sizeAt}
-use Rattle.trailing.specs.Sequence.{EqualSizes, sameSequence}
-use Rattle.trailing.specs.Calls.{sameCauses}
+use Rattle.trailing_defs.specs.Size.{Trailing, sizeAt}
+use Rattle.trailing_defs.specs.Sequence.{EqualSizes, sameSequence}
+use Rattle.trailing_defs.specs.Calls.{sameCauses}
 use Rattle.layout.specs.Layout.{trailing, Layout, layoutCauses}
 use Rattle.shift_defs.specs.Match.{Comparison, Sound, shifted, Matches, matchTest, matchFor, FoundMatch}
 use Rattle.shift_defs.specs.Shift.{by, shiftOf, IsShift, IsMultiple, shiftCauses, shiftFor, ShiftMeans}

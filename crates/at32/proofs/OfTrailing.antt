@@ -1,14 +1,14 @@
--- The laws of `trailing` at 32 bits: each holds at any width. Assumes nothing.
+-- The laws of `trailing_defs` and `trailing` at 32 bits: each holds at any width. Assumes nothing.
 use mathlib.Core.Path.{_≡_}
 use Prim.Native.Nat.{ℕ, _+_, _-_, _*_, _%_, _^_, _≤_, _<_}
 use lib.Bits.{bitAnd}
 use Rattle.util.specs.Power.{PowerOfTwo}
 use Rattle.util.specs.Round.{down, padding, up}
-use Rattle.trailing.specs.Size.{Trailing, A, p, sizeAt, HasSize, sizeWith, sizeOffset}
-use Rattle.trailing.specs.Count.{GreatestCount, countWithin}
-use Rattle.trailing.specs.Calls.{PaddingAt, paddingAt, sizeOffsetFor, SizeOffset, maxTrailingCauses, maxTrailingFor, GreatestIn, paddingForElems, sizeCauses, sizeFor, advanceCauses, advanced, advanceFor, Advanced, sameCauses, sameFor, FoundSame}
+use Rattle.trailing_defs.specs.Size.{Trailing, A, p, sizeAt, HasSize, sizeWith, sizeOffset}
+use Rattle.trailing_defs.specs.Count.{GreatestCount, countWithin}
+use Rattle.trailing_defs.specs.Calls.{PaddingAt, paddingAt, sizeOffsetFor, SizeOffset, maxTrailingCauses, maxTrailingFor, GreatestIn, paddingForElems, sizeCauses, sizeFor, advanceCauses, advanced, advanceFor, Advanced, sameCauses, sameFor, FoundSame}
 use Rattle.util.specs.Refusal.{Tells, answered, refused, Meets}
-use Rattle.trailing.specs.Sequence.{EqualSizes, SameStart, sameStart, SameSequence, sameSequence}
+use Rattle.trailing_defs.specs.Sequence.{EqualSizes, SameStart, sameStart, SameSequence, sameSequence}
 use Rattle.util.specs.Width.{M}
 use Rattle.rounding.specs.Word.{IsWord, wordCauses}
 use Rattle.util.specs.View.{numberSays}
@@ -20,9 +20,10 @@ use Rattle.trailing.specs.declared.AdvanceAnswer.{AdvanceAnswer}
 use Rattle.trailing.specs.declared.AdvanceAnswer.the-variants as Advance
 use Rattle.trailing.specs.declared.SizeAnswer.{SizeAnswer}
 use Rattle.trailing.specs.declared.SizeAnswer.the-variants as Size
-use Rattle.trailing.proofs.Sizes as Sizes
-use Rattle.trailing.proofs.Sequences as Sequences
-use Rattle.trailing.proofs.Calls as Calls
+use Rattle.trailing_defs.proofs.Sizes as Sizes
+use Rattle.trailing_defs.proofs.Sequences as Sequences
+use Rattle.trailing_defs.proofs.Calls as Calls
+use Rattle.trailing_defs.proofs.Told as Rooms
 use Rattle.trailing.proofs.Told as Told
 
 pub greatest-count : (t : Trailing) (L : ℕ) → 0 < A 32 t → 0 < t .elem → sizeAt 32 t 0 ≤ L → GreatestCount 32 t L (countWithin 32 t L)
@@ -131,10 +132,10 @@ pub size-offset-answered : (t : Trailing) → 0 < t .word → sizeOffsetFor 32 t
 size-offset-answered = Calls.size-offset-answered 32
 
 pub room-told : {m : ℕ} (t : Trailing) (L : ℕ) (r : Answer) → t .word < 2 ^ 32 → numberSays r ≡ maxTrailingFor 32 t L → r ≡ Answer.Number m → GreatestIn 32 t L m
-room-told {m} = Told.room-told {m = m} 32
+room-told {m} = Rooms.room-told {m = m} 32
 
 pub room-refused : {k : ℕ} (t : Trailing) (L : ℕ) (r : Answer) → 0 < t .word → t .word < 2 ^ 32 → numberSays r ≡ maxTrailingFor 32 t L → r ≡ Answer.Refused k → (x : ℕ) → sizeWith (t .base) (A 32 t) (p 32 t) x ≤ L → ⊥
-room-refused {k} = Told.room-refused {k = k} 32
+room-refused {k} = Rooms.room-refused {k = k} 32
 
 pub size-told : {s : ℕ} (t : Trailing) (n : ℕ) (r : SizeAnswer) → t .word < 2 ^ 32 → sizeSays r ≡ sizeFor 32 t n → r ≡ Size.Size s → HasSize 32 t n × (s ≡ sizeAt 32 t n)
 size-told {s} = Told.size-told {s = s} 32

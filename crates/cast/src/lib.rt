@@ -6,7 +6,7 @@ ghost use Prim.Native.Nat.{_+_, _^_, _≤_, _<_};
 ghost use Rattle.util.specs.Refusal.{answered, unless, None, Meets};
 ghost use Rattle.util.specs.View.{numberSays};
 ghost use Rattle.rounding.specs.Word.{AlignOf};
-ghost use Rattle.trailing.specs.Calls.{GreatestIn};
+ghost use Rattle.trailing_defs.specs.Calls.{GreatestIn};
 ghost use Rattle.trailing.specs.View.{trailingOf};
 ghost use Rattle.layout.specs.Layout.{trailing, layoutCauses};
 ghost use Rattle.layout.specs.Extend.{IsTrailing};

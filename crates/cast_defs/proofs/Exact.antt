@@ -9,9 +9,9 @@ use native.Mathlib.Omega.{arith}
 use Rattle.util.specs.Refusal.{Outcome, answered, Tells, holds, fails, None, First, Meets, answers, refuses}
 use Rattle.util.proofs.Refusals.{known, answered-means, tells-eq, tells-le, tells-not, tells-as, meets, clear}
 use Rattle.util.proofs.Tables.{none-both, both-none, decided-both}
-use Rattle.trailing.specs.Size.{Trailing, A, p, sizeAt}
-use Rattle.trailing.specs.Count.{GreatestCount, countWithin}
-use Rattle.trailing.proofs.Sizes.{size-mono, greatest-count, one-count}
+use Rattle.trailing_defs.specs.Size.{Trailing, A, p, sizeAt}
+use Rattle.trailing_defs.specs.Count.{GreatestCount, countWithin}
+use Rattle.trailing_defs.proofs.Sizes.{size-mono, greatest-count, one-count}
 use Rattle.layout.specs.Layout.{Info, fixed, trailing, Layout, noWord, layoutCauses}
 use Rattle.layout.proofs.Layouts.{layout-decided}
 use Rattle.cast_defs.specs.Cast.{prefix, castCauses, Grant, GrantMeans, countIn}

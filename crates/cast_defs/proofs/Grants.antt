@@ -12,9 +12,9 @@ use Rattle.util.proofs.Powers.{positive}
 use Rattle.util.proofs.Helpers.{power}
 use Rattle.rounding.specs.Word.{IsWord}
 use Rattle.rounding.proofs.Words.{parts-of, at-parts, not-zero, align-power}
-use Rattle.trailing.specs.Size.{Trailing, A, p, sizeWith, sizeAt}
-use Rattle.trailing.specs.Count.{GreatestBytes, bytesWithin}
-use Rattle.trailing.proofs.Sizes.{size-within, size-mono, size-ge, greatest-bytes, greatest-count}
+use Rattle.trailing_defs.specs.Size.{Trailing, A, p, sizeWith, sizeAt}
+use Rattle.trailing_defs.specs.Count.{GreatestBytes, bytesWithin}
+use Rattle.trailing_defs.proofs.Sizes.{size-within, size-mono, size-ge, greatest-bytes, greatest-count}
 use Rattle.layout.specs.Layout.{Info, fixed, trailing, Layout, IsCount, sizeIn, noWord, layoutCauses}
 use Rattle.padding_defs.specs.Pad.{PaddedInfo, Padded}
 use Rattle.layout.proofs.Layouts.{layout-decided}

@@ -6,7 +6,7 @@ use Prim.Native.Nat.{ℕ, _+_, _-_, _%_, _≤_, _<_}
 use lib.Dec.{eqb, ltb}
 use Rattle.util.specs.Width.{M}
 use Rattle.util.specs.Refusal.{Outcome, Cause, unless}
-use Rattle.trailing.specs.Count.{countWithin}
+use Rattle.trailing_defs.specs.Count.{countWithin}
 use Rattle.layout.specs.Layout.{Info, fixed, trailing, Layout, IsCount, sizeIn, layoutCauses}
 
 -- a cast takes its bytes from the front, or from the end

@@ -5,7 +5,7 @@ use mathlib.Core.List.{List, [], _∷_, _++_}
 use Prim.Native.Nat.{ℕ, _≤_, _<_}
 use lib.Dec.{eqb}
 use Rattle.util.specs.Refusal.{Outcome, answered, refused, Cause, unless}
-use Rattle.trailing.specs.Size.{Trailing, sizeAt, HasSize}
+use Rattle.trailing_defs.specs.Size.{Trailing, sizeAt, HasSize}
 use Rattle.layout.specs.Layout.{Info, fixed, trailing, Layout, layoutCauses}
 use Rattle.layout.specs.Extend.{isTrailing}
 use Rattle.cast_defs.specs.Cast.{prefix, Grant, castFor, countIn}

@@ -2,7 +2,7 @@
 ghost use mathlib.Core.Path.{_≡_};
 ghost use Rattle.util.specs.Refusal.{answered, None, Meets, unless};
 ghost use Rattle.util.specs.View.{numberSays};
-ghost use Rattle.trailing.specs.Sequence.{sameSequence};
+ghost use Rattle.trailing_defs.specs.Sequence.{sameSequence};
 ghost use Rattle.trailing.specs.View.{trailingOf};
 ghost use Rattle.layout.specs.Layout.{fixed, trailing, layoutCauses, FitsWidth};
 ghost use Rattle.layout.specs.View.{infoOf, layoutOf};

@@ -10,7 +10,7 @@ use Rattle.util.specs.Refusal.{Outcome, answered, refused, None, Meets, Decided
 use Rattle.util.proofs.Refusals.{known, tells-eq, tells-lt, meets, clear, answered-means}
 use Rattle.util.proofs.Tables.{apart, decided-both, none-both, both-none}
 use Rattle.util.proofs.Rounding.{multiple, same-multiple}
-use Rattle.trailing.specs.Size.{Trailing}
+use Rattle.trailing_defs.specs.Size.{Trailing}
 use Rattle.layout.specs.Layout.{Info, fixed, trailing, Layout, layoutCauses}
 use Rattle.layout.proofs.Layouts.{layout-decided}
 use Rattle.cast_defs.specs.Exact.{exactFor}

@@ -8,8 +8,8 @@ use native.Mathlib.Nat.{le-mul-of-pos-right}
 use native.Mathlib.Omega.{arith}
 use Rattle.util.specs.Width.{M}
 use Rattle.util.specs.Refusal.{None}
-use Rattle.trailing.specs.Size.{Trailing, A, p, sizeAt}
-use Rattle.trailing.proofs.Sizes.{size-ge}
+use Rattle.trailing_defs.specs.Size.{Trailing, A, p, sizeAt}
+use Rattle.trailing_defs.proofs.Sizes.{size-ge}
 use Rattle.layout.specs.Layout.{Info, Layout, sizeIn, layoutCauses, FitsWidth}
 use Rattle.cast_defs.proofs.Grants.{align-pos}
 use Rattle.shift_defs.specs.Match.{Comparison, Sound, Matches}

@@ -9,7 +9,7 @@ use Rattle.util.specs.Refusal.{Outcome, answered, refused, Tells, holds, fails,
 use Rattle.util.proofs.Refusals.{tells-eq, tells-lt, tells-not, tells-as}
 use Rattle.util.proofs.Tables.{apart}
 use Rattle.util.proofs.Rounding.{multiple}
-use Rattle.trailing.specs.Size.{Trailing}
+use Rattle.trailing_defs.specs.Size.{Trailing}
 use Rattle.layout.specs.Layout.{Info, fixed, trailing, Layout, layoutCauses}
 use Rattle.cast_defs.specs.Exact.{ExactCount, exactFor}
 use Rattle.cast_defs.proofs.Exact.{exact-sound, exact-complete}

@@ -6,7 +6,7 @@ use Prim.Native.Nat.{ℕ, _+_, _*_, _/_, _≤_, _<_}
 use lib.Dec.{ltb}
 use Rattle.util.specs.Width.{M}
 use Rattle.util.specs.Refusal.{Outcome, answered, refused, Cause, unless, None}
-use Rattle.trailing.specs.Size.{Trailing}
+use Rattle.trailing_defs.specs.Size.{Trailing}
 use Rattle.layout.specs.Layout.{Info, fixed, trailing, Layout, IsCount, sizeIn, layoutCauses}
 use Rattle.cast_defs.specs.Cast.{IsElemZero}
 use Rattle.cast_defs.specs.Exact.{ExactCount, exactFor}

@@ -1,6 +1,6 @@
 // The functions of casts and conversions for C and Rust: no logic of their own. include/lukaripe.h is their C side.
 ghost use mathlib.Core.Path.{_≡_};
-ghost use Rattle.trailing.specs.Sequence.{sameSequence};
+ghost use Rattle.trailing_defs.specs.Sequence.{sameSequence};
 ghost use Rattle.cast_defs.specs.Cast.{castFor};
 ghost use Rattle.cast_defs.specs.Exact.{exactFor};
 ghost use Rattle.cast.specs.View.{sideOf, castSays};

@@ -2,7 +2,7 @@
 // exports of casts and conversions each of these functions is called once, and inlined.
 ghost use mathlib.Core.Path.{_≡_};
 ghost use Rattle.util.specs.Refusal.{answered, refused};
-ghost use Rattle.trailing.specs.Sequence.{sameSequence};
+ghost use Rattle.trailing_defs.specs.Sequence.{sameSequence};
 ghost use Rattle.guarantee.specs.Demand.{answersOf};
 ghost use Rattle.guarantee.specs.View.{answersIn};
 ghost use Rattle.exports_layouts.specs.Layouts.{withLayout};

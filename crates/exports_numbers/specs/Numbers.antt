@@ -4,7 +4,7 @@ use mathlib.Core.Bool.{Bool, true, false}
 use Prim.Native.Nat.{ℕ}
 use Rattle.util.specs.Refusal.{Outcome, answered, refused}
 use Rattle.rounding.specs.Word.{Components}
-use Rattle.trailing.specs.Size.{Trailing}
+use Rattle.trailing_defs.specs.Size.{Trailing}
 use Rattle.exports_numbers.specs.declared.Number.{Number}
 use Rattle.exports_numbers.specs.declared.Components as declared
 use Rattle.exports_numbers.specs.declared.Trailing as given

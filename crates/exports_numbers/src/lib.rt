@@ -4,7 +4,7 @@ ghost use Rattle.util.specs.Power.{powerOfTwo};
 ghost use Rattle.util.specs.Helpers.{paddingFor, roundDownFor, maxFor, minFor};
 ghost use Rattle.util.specs.View.{numberSays, decisionSays};
 ghost use Rattle.rounding.specs.Word.{newFor, componentsFor, alignFor};
-ghost use Rattle.trailing.specs.Calls.{sizeOffsetFor, maxTrailingFor, paddingForElems, sizeFor, advanceFor, sameFor};
+ghost use Rattle.trailing_defs.specs.Calls.{sizeOffsetFor, maxTrailingFor, paddingForElems, sizeFor, advanceFor, sameFor};
 ghost use Rattle.trailing.specs.View.{trailingOf, advanceSays};
 ghost use Rattle.exports_numbers.specs.Numbers.{numberOut, decisionOut, componentsOut};
 ghost use Rattle.exports_numbers.specs.Numbers.{trailingIn, trailingWords, noTrailing, trailingOut};

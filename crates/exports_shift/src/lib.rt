@@ -2,7 +2,7 @@
 // so that
 // what it calls is called once here, and inlined.
 ghost use mathlib.Core.Path.{_≡_};
-ghost use Rattle.trailing.specs.Sequence.{sameSequence};
+ghost use Rattle.trailing_defs.specs.Sequence.{sameSequence};
 ghost use Rattle.shift_defs.specs.Match.{matchFor};
 ghost use Rattle.exports_numbers.specs.Numbers.{decisionOut, trailingIn};
 use exports_numbers::Number;

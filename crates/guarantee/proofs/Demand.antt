@@ -8,8 +8,8 @@ use Rattle.util.specs.Width.{M}
 use Rattle.util.specs.Refusal.{Outcome, answered, unless, None}
 use Rattle.util.proofs.Refusals.{clear}
 use Rattle.util.proofs.Tables.{both-none}
-use Rattle.trailing.specs.Size.{A, p}
-use Rattle.trailing.specs.Sequence.{sameSequence}
+use Rattle.trailing_defs.specs.Size.{A, p}
+use Rattle.trailing_defs.specs.Sequence.{sameSequence}
 use Rattle.layout.specs.Layout.{Info, fixed, trailing, Layout, IsCount, sizeIn, noWord, layoutCauses}
 use Rattle.cast_defs.specs.Cast.{prefix, Grant, countIn, IsElemZero, bytesCauses, castCauses, castFor}
 use Rattle.cast_defs.proofs.Grants.{align-pos, greatest-in, cast-decided}

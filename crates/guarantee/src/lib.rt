@@ -1,7 +1,7 @@
 // The conversion guarantee, of what the calls of a conversion and of the casts after it return.
 ghost use mathlib.Core.Path.{_≡_};
 ghost use Rattle.util.specs.View.{numberSays};
-ghost use Rattle.trailing.specs.Sequence.{sameSequence};
+ghost use Rattle.trailing_defs.specs.Sequence.{sameSequence};
 ghost use Rattle.layout.specs.View.{layoutOf};
 ghost use Rattle.convert.specs.View.{computeSays};
 ghost use Rattle.guarantee.specs.Demand.{countAfter, answersOf, Demand3Of};

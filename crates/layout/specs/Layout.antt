@@ -6,7 +6,7 @@ use Prim.Native.Nat.{ℕ, _^_, _<_}
 use Rattle.util.specs.Refusal.{Outcome, Cause, unless}
 use Rattle.util.specs.Helpers.{badAlign}
 use Rattle.rounding.specs.Word.{wordZero}
-use Rattle.trailing.specs.Size.{Trailing, sizeAt}
+use Rattle.trailing_defs.specs.Size.{Trailing, sizeAt}
 
 -- a layout is fixed, with a size, or trailing
 pub data Info : Type 0 where

@@ -7,7 +7,7 @@ use Rattle.util.specs.Width.{M}
 use Rattle.util.specs.Refusal.{answered, Tells, holds, fails, Meets}
 use Rattle.util.proofs.Refusals.{tells-eq, tells-lt, tells-not, tells-as, tells-or, meets, clear}
 use Rattle.rounding.specs.Word.{alignOf, wordCauses, alignFor}
-use Rattle.trailing.specs.Size.{A, sizeAt}
+use Rattle.trailing_defs.specs.Size.{A, sizeAt}
 use Rattle.layout.specs.Layout.{Info, fixed, trailing, Layout, layoutCauses}
 use Rattle.padding_defs.specs.Pad.{staticFor, DynamicPadding, dynamicPadding, dynamicFor}
 use Rattle.layout.proofs.Layouts.{layout-decided}

@@ -7,7 +7,7 @@ use Rattle.util.specs.Refusal.{Tells, holds, fails}
 use Rattle.util.proofs.Refusals.{agree, tells-lt}
 use Rattle.util.proofs.Only.{one-multiple}
 use Rattle.rounding.proofs.Words.{same-word}
-use Rattle.trailing.specs.Size.{Trailing, A}
+use Rattle.trailing_defs.specs.Size.{Trailing, A}
 use Rattle.layout.specs.Layout.{Info, fixed, trailing, Layout}
 use Rattle.layout.proofs.Only.{one-place}
 use Rattle.padding_defs.specs.Pad.{PaddedTo, PaddedInfo, KeepsMark, Padded}

@@ -19,7 +19,7 @@ use Rattle.util.proofs.Masks.{mask-mod}
 use Rattle.util.proofs.Helpers.{power}
 use Rattle.rounding.specs.Word.{IsWord}
 use Rattle.rounding.proofs.Words.{align-is, phase-is, align-power}
-use Rattle.trailing.specs.Size.{Trailing, A, p, sizeWith, sizeAt}
+use Rattle.trailing_defs.specs.Size.{Trailing, A, p, sizeWith, sizeAt}
 use Rattle.layout.specs.Layout.{Info, fixed, trailing, Layout, sizeIn, noWord, layoutCauses}
 use Rattle.layout.specs.Extend.{roundingPasses}
 use Rattle.padding_defs.specs.Pad.{fixedPart, coarser, finer, paddedTail, paddedInfo, padded, paddingNeeds, paddedMark, padCauses, padFor, PaddedTo, PaddedInfo, KeepsMark, Padded}

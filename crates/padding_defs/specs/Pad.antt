@@ -10,7 +10,7 @@ use Rattle.util.specs.Width.{M}
 use Rattle.util.specs.Round.{up, down, GreatestMultiple}
 use Rattle.util.specs.Refusal.{Outcome, Cause, unless, Tells}
 use Rattle.rounding.specs.Word.{IsWord}
-use Rattle.trailing.specs.Size.{Trailing, A, p, sizeAt, HasSize}
+use Rattle.trailing_defs.specs.Size.{Trailing, A, p, sizeAt, HasSize}
 use Rattle.layout.specs.Layout.{Info, fixed, trailing, Layout, IsCount, sizeIn, layoutCauses}
 use Rattle.layout.specs.Extend.{roundingPasses, LeastPlace}
 

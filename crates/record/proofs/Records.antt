@@ -11,7 +11,7 @@ use lib.Seq.{sets}
 use Rattle.util.specs.Refusal.{Cause, Outcome, answered, refused, unless, Tells, None, Meets, Decided}
 use Rattle.util.proofs.Refusals.{known, tells-eq, tells-le, tells-lt, tells-not, tells-and, meets}
 use Rattle.util.proofs.Helpers.{align-decided}
-use Rattle.trailing.specs.Size.{Trailing}
+use Rattle.trailing_defs.specs.Size.{Trailing}
 use Rattle.layout.specs.Layout.{fixed, trailing, Layout, checkFor}
 use Rattle.words.specs.Bytes.{bytesOf, wordAt, wordBytes, putInto}
 use Rattle.words.proofs.LittleEndian.{sets-whole, word-length, put-within, put-next, more}

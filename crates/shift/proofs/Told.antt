@@ -6,7 +6,7 @@ use native.Mathlib.Omega.{arith}
 use Rattle.util.specs.Refusal.{answered, None}
 use Rattle.util.proofs.Refusals.{clear}
 use Rattle.util.proofs.Tables.{told-by, apart, both-none}
-use Rattle.trailing.specs.Size.{Trailing}
+use Rattle.trailing_defs.specs.Size.{Trailing}
 use Rattle.layout.specs.Layout.{Info, trailing, Layout, layoutCauses}
 use Rattle.shift_defs.specs.Match.{Comparison}
 use Rattle.shift_defs.specs.Shift.{shiftOf, shiftBetween, shiftCauses, shiftFor}

@@ -6,11 +6,11 @@ use Rattle.util.specs.Width.{M}
 use Rattle.util.specs.Refusal.{Tells, Meets}
 use Rattle.util.proofs.Refusals.{yes, tells-true, tells-eq, tells-le, tells-and, tells-as, meets}
 use Rattle.rounding.proofs.Words.{not-zero}
-use Rattle.trailing.specs.Size.{Trailing, A, p, sizeWith, sizeAt, sizeOffset}
-use Rattle.trailing.specs.Sequence.{EqualSizes, sameSequence}
-use Rattle.trailing.specs.Calls.{sameCauses}
-use Rattle.trailing.proofs.Sequences.{tells-same, same-sizes}
-use Rattle.trailing.proofs.Calls.{advanced-word, advanced-word-lt, advanced-sizes}
+use Rattle.trailing_defs.specs.Size.{Trailing, A, p, sizeWith, sizeAt, sizeOffset}
+use Rattle.trailing_defs.specs.Sequence.{EqualSizes, sameSequence}
+use Rattle.trailing_defs.specs.Calls.{sameCauses}
+use Rattle.trailing_defs.proofs.Sequences.{tells-same, same-sizes}
+use Rattle.trailing_defs.proofs.Calls.{advanced-word, advanced-word-lt, advanced-sizes}
 use Rattle.shift_defs.specs.Match.{Comparison, Sound, shifted, Matches, matchTest, matchFor, FoundMatch}
 use Rattle.shift_defs.specs.Shift.{IsMultiple}
 

@@ -12,7 +12,7 @@ use Rattle.util.specs.Refusal.{Outcome, answered, refused, Tells, holds, fails,
 use Rattle.util.proofs.Refusals.{told-true, tells-eq, tells-le, tells-and, meets}
 use Rattle.util.proofs.Tables.{decided-both, none-both}
 use Rattle.util.proofs.Rounding.{multiple, same-multiple}
-use Rattle.trailing.specs.Size.{Trailing, sizeAt, HasSize, sizeOffset}
+use Rattle.trailing_defs.specs.Size.{Trailing, sizeAt, HasSize, sizeOffset}
 use Rattle.layout.specs.Layout.{Info, fixed, trailing, Layout, layoutCauses}
 use Rattle.layout.proofs.Layouts.{layout-decided}
 use Rattle.cast_defs.specs.Exact.{ExactCount, exactFor}

@@ -6,9 +6,9 @@ use Prim.Native.Nat.{ℕ, _+_, _*_, _^_, _≤_, _<_}
 use lib.Dec.{leb}
 use Rattle.util.specs.Width.{M}
 use Rattle.util.specs.Refusal.{Outcome, unless, YesMeans}
-use Rattle.trailing.specs.Size.{Trailing, sizeAt, HasSize, sizeOffset}
-use Rattle.trailing.specs.Sequence.{EqualSizes}
-use Rattle.trailing.specs.Calls.{advanced, sameCauses}
+use Rattle.trailing_defs.specs.Size.{Trailing, sizeAt, HasSize, sizeOffset}
+use Rattle.trailing_defs.specs.Sequence.{EqualSizes}
+use Rattle.trailing_defs.specs.Calls.{advanced, sameCauses}
 
 -- a comparison of two sequences of sizes, as `sameSequence` is one
 abbrev pub Comparison : Type 0

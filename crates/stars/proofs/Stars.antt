@@ -8,10 +8,10 @@ use Rattle.util.specs.Round.{up, down, padding}
 use Rattle.util.specs.Refusal.{unless}
 use Rattle.util.specs.Helpers.{paddingFor}
 use Rattle.rounding.specs.Word.{highestBit, componentsFor}
-use Rattle.trailing.specs.Size.{sizeWith, sizeAt}
-use Rattle.trailing.specs.Count.{bytesWithin, countWithin}
-use Rattle.trailing.specs.Sequence.{sameSequence}
-use Rattle.trailing.specs.Calls.{paddingForElems, sizeFor, advanced, sameFor}
+use Rattle.trailing_defs.specs.Size.{sizeWith, sizeAt}
+use Rattle.trailing_defs.specs.Count.{bytesWithin, countWithin}
+use Rattle.trailing_defs.specs.Sequence.{sameSequence}
+use Rattle.trailing_defs.specs.Calls.{paddingForElems, sizeFor, advanced, sameFor}
 use Rattle.cast_defs.specs.Cast.{castFor}
 use Rattle.cast_defs.specs.Exact.{exactFor}
 use Rattle.shift_defs.specs.Match.{matchTest}

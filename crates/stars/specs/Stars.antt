@@ -8,9 +8,9 @@ use Rattle.util.specs.Width.{M}
 use Rattle.util.specs.Refusal.{Outcome, answered, refused}
 use Rattle.util.specs.Helpers.{paddingFor}
 use Rattle.rounding.specs.Word.{Components, componentsFor}
-use Rattle.trailing.specs.Size.{Trailing, sizeAt}
-use Rattle.trailing.specs.Sequence.{sameSequence}
-use Rattle.trailing.specs.Calls.{paddingForElems, sizeFor, sameFor}
+use Rattle.trailing_defs.specs.Size.{Trailing, sizeAt}
+use Rattle.trailing_defs.specs.Sequence.{sameSequence}
+use Rattle.trailing_defs.specs.Calls.{paddingForElems, sizeFor, sameFor}
 use Rattle.layout.specs.Layout.{Layout, fixed, trailing}
 use Rattle.cast_defs.specs.Cast.{Side, prefix, suffix, Grant, castFor}
 use Rattle.shift_defs.specs.Shift.{Shift, by, missing, byOffset, matchedShift}

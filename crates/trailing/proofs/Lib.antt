@@ -1,5 +1,1 @@
-pub mod Sizes
-pub mod Sequences
-pub mod Calls
 pub mod Told
-pub mod Only

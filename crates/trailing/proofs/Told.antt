@@ -6,35 +6,17 @@ use Prim.Native.Nat.{ℕ, _+_, _^_, _≤_, _<_}
 use native.Mathlib.Omega.{arith}
 use Rattle.util.specs.Width.{M}
 use Rattle.util.specs.Refusal.{Outcome, Tells, holds, fails, First, Meets}
-use Rattle.util.specs.View.{numberSays}
-use Rattle.util.specs.declared.Answer.{Answer}
-use Rattle.util.specs.declared.Answer.the-variants as Answer
 use Rattle.util.proofs.Refusals.{answered-means, refused-means, known, clear, tells-eq, tells-le, tells-lt}
 use Rattle.util.proofs.Tables.{told-by, apart, answer-is, accepted-none}
-use Rattle.trailing.specs.Size.{Trailing, A, p, sizeWith, sizeAt, HasSize, sizeOffset}
-use Rattle.trailing.specs.Calls.{maxTrailingCauses, maxTrailingFor, GreatestIn, sizeCauses, sizeFor, advanceCauses, advanced, advanceFor}
+use Rattle.trailing_defs.specs.Size.{Trailing, sizeAt, HasSize, sizeOffset}
+use Rattle.trailing_defs.specs.Calls.{sizeCauses, sizeFor, advanceCauses, advanced, advanceFor}
 use Rattle.trailing.specs.View.{trailingOf, sizeSays, advanceSays}
 use Rattle.trailing.specs.declared.TrailingSliceLayout.{TrailingSliceLayout}
 use Rattle.trailing.specs.declared.AdvanceAnswer.{AdvanceAnswer}
 use Rattle.trailing.specs.declared.AdvanceAnswer.the-variants as Advance
 use Rattle.trailing.specs.declared.SizeAnswer.{SizeAnswer}
 use Rattle.trailing.specs.declared.SizeAnswer.the-variants as Size
-use Rattle.trailing.proofs.Calls.{max-trailing-meets, size-meets}
-
--- of `max_trailing_bytes`: the number is the greatest; refused, a layout whose word is not 0 has no size within the room
-pub room-told : {m : ℕ} (w : ℕ) (t : Trailing) (L : ℕ) (r : Answer) → t .word < 2 ^ w → numberSays r ≡ maxTrailingFor w t L → r ≡ Answer.Number m → GreatestIn w t L m
-room-told w t L r h e g =
-    answered-means (subst (λ (o : Outcome ℕ). Meets (maxTrailingCauses w t L) (GreatestIn w t L) o) (sym e ∙ ap numberSays g) (max-trailing-meets w t L h)) .1
-
-pub room-refused : {k : ℕ} (w : ℕ) (t : Trailing) (L : ℕ) (r : Answer) → 0 < t .word → t .word < 2 ^ w → numberSays r ≡ maxTrailingFor w t L → r ≡ Answer.Refused k
-    → (x : ℕ) → sizeWith (t .base) (A w t) (p w t) x ≤ L → ⊥
-room-refused {k} w t L r n h e g =
-    go (refused-means (subst (λ (o : Outcome ℕ). Meets (maxTrailingCauses w t L) (GreatestIn w t L) o) (sym e ∙ ap numberSays g) (max-trailing-meets w t L h)))
-  where
-    go : First (maxTrailingCauses w t L) k → (x : ℕ) → sizeWith (t .base) (A w t) (p w t) x ≤ L → ⊥
-    go (inl z) = absurd (omega (arith, z .0))
-    go (inr (z, inl y)) = y .0
-    go (inr (z, inr y)) = absurd (y .1)
+use Rattle.trailing_defs.proofs.Calls.{size-meets}
 
 -- of `size_for_elems`: the size, which exists; refused, a layout whose word is not 0 has none
 pub size-told : {s : ℕ} (w : ℕ) (t : Trailing) (n : ℕ) (r : SizeAnswer) → t .word < 2 ^ w → sizeSays r ≡ sizeFor w t n → r ≡ Size.Size s → HasSize w t n × (s ≡ sizeAt w t n)

@@ -1,5 +1,1 @@
-pub mod Size
-pub mod Count
-pub mod Sequence
-pub mod Calls
 pub mod View

@@ -1,7 +1,7 @@
 -- What the types of this crate are, over numbers: document 01's number and values for each case of an answer. Assumes nothing.
 use Prim.Native.Nat.{ℕ}
 use Rattle.util.specs.Refusal.{Outcome, answered, refused}
-use Rattle.trailing.specs.Size.{Trailing}
+use Rattle.trailing_defs.specs.Size.{Trailing}
 use Rattle.trailing.specs.declared.TrailingSliceLayout.{TrailingSliceLayout}
 use Rattle.trailing.specs.declared.SizeAnswer.{SizeAnswer}
 use Rattle.trailing.specs.declared.SizeAnswer.the-variants as Size

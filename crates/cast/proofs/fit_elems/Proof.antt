@@ -7,8 +7,8 @@ use native.Mathlib.Omega.{arith}
 use Rattle.util.specs.Round.{down}
 use Rattle.util.specs.Refusal.{answered}
 use Rattle.util.proofs.Masks.{mask-down}
-use Rattle.trailing.specs.Size.{sizeAt}
-use Rattle.trailing.specs.Count.{countWithin}
+use Rattle.trailing_defs.specs.Size.{sizeAt}
+use Rattle.trailing_defs.specs.Count.{countWithin}
 use Rattle.trailing.specs.View.{trailingOf}
 use Rattle.cast_defs.proofs.Grants.{grant-count, grant-size, grant-fits}
 use borrow.Author.Needs.{needs}

@@ -6,9 +6,9 @@ use borrow.Author.Tests.{lt-ltb, le-ltb}
 use native.Mathlib.Omega.{arith}
 use Rattle.util.specs.Refusal.{unless}
 use Rattle.rounding.proofs.Told.{align-told, align-refused}
-use Rattle.trailing.specs.Size.{A, p, sizeAt}
+use Rattle.trailing_defs.specs.Size.{A, p, sizeAt}
 use Rattle.trailing.specs.View.{trailingOf}
-use Rattle.trailing.proofs.Sizes.{size-mono}
+use Rattle.trailing_defs.proofs.Sizes.{size-mono}
 use Rattle.trailing.proofs.Told.{room-told, room-refused}
 use Rattle.cast_defs.proofs.Grants.{align-pos}
 use borrow.Author.Needs.{needs}

@@ -3,7 +3,7 @@ use mathlib.Core.Path.{refl, sym, ap, _∙_}
 use borrow.Author.Tests.{eq-eqb, ne-eqb}
 use Rattle.util.specs.View.{numberSays}
 use Rattle.util.proofs.Tables.{told-by}
-use Rattle.trailing.specs.Sequence.{sameSequence}
+use Rattle.trailing_defs.specs.Sequence.{sameSequence}
 use Rattle.layout.specs.Layout.{fixed}
 use Rattle.layout.specs.declared.SizeInfo.{SizeInfo}
 use Rattle.layout.specs.View.{infoOf, layoutOf}

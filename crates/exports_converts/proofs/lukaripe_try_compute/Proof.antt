@@ -2,7 +2,7 @@
 use mathlib.Core.Path.{ap, _∙_}
 use Rattle.layout.specs.Layout.{Layout}
 use Rattle.layout.specs.View.{layoutOf}
-use Rattle.trailing.specs.Sequence.{sameSequence}
+use Rattle.trailing_defs.specs.Sequence.{sameSequence}
 use Rattle.convert_defs.specs.Convert.{computeFor}
 use Rattle.exports_converts.specs.Converts.{paramsOut}
 use Rattle.exports_layouts.specs.Layouts.{withLayout}

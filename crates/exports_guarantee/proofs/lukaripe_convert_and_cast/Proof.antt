@@ -1,7 +1,7 @@
 -- `exports_guarantee::lukaripe_convert_and_cast` meets its contract. Assumes nothing.
 use mathlib.Core.Path.{ap, _∙_}
 use Rattle.util.specs.Refusal.{Outcome, answered}
-use Rattle.trailing.specs.Sequence.{sameSequence}
+use Rattle.trailing_defs.specs.Sequence.{sameSequence}
 use Rattle.layout.specs.Layout.{Layout}
 use Rattle.layout.specs.View.{layoutOf}
 use Rattle.guarantee.specs.Demand.{Answers, answersOf}

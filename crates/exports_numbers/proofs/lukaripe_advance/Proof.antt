@@ -1,7 +1,7 @@
 -- `exports_numbers::lukaripe_advance` meets its contract. Assumes nothing.
 use mathlib.Core.Path.{ap, _∙_}
-use Rattle.trailing.specs.Size.{Trailing}
-use Rattle.trailing.specs.Calls.{advanceFor}
+use Rattle.trailing_defs.specs.Size.{Trailing}
+use Rattle.trailing_defs.specs.Calls.{advanceFor}
 use Rattle.exports_numbers.specs.Numbers.{trailingOut}
 use borrow.Author.Needs.{needs}
 use Rattle.exports_numbers.proofs.lukaripe_advance.Statement.{statement}

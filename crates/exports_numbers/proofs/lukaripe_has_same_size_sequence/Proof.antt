@@ -1,7 +1,7 @@
 -- `exports_numbers::lukaripe_has_same_size_sequence` meets its contract. Assumes nothing.
 use mathlib.Core.Path.{ap, ap₂, _∙_}
-use Rattle.trailing.specs.Size.{Trailing}
-use Rattle.trailing.specs.Calls.{sameFor}
+use Rattle.trailing_defs.specs.Size.{Trailing}
+use Rattle.trailing_defs.specs.Calls.{sameFor}
 use Rattle.exports_numbers.specs.Numbers.{decisionOut}
 use borrow.Author.Needs.{needs}
 use Rattle.exports_numbers.proofs.lukaripe_has_same_size_sequence.Statement.{statement}

@@ -1,7 +1,7 @@
 -- `exports_numbers::lukaripe_size_for_elems` meets its contract. Assumes nothing.
 use mathlib.Core.Path.{sym, ap, _∙_}
-use Rattle.trailing.specs.Size.{Trailing}
-use Rattle.trailing.specs.Calls.{sizeFor}
+use Rattle.trailing_defs.specs.Size.{Trailing}
+use Rattle.trailing_defs.specs.Calls.{sizeFor}
 use Rattle.trailing.specs.declared.SizeAnswer.{SizeAnswer}
 use Rattle.trailing.specs.View.{sizeSays}
 use Rattle.exports_numbers.specs.Numbers.{numberOut}

@@ -1,7 +1,7 @@
 -- `exports_shift::lukaripe_size_sequences_match` meets its contract. Assumes nothing.
 use mathlib.Core.Path.{ap, ap₂, _∙_}
-use Rattle.trailing.specs.Size.{Trailing}
-use Rattle.trailing.specs.Sequence.{sameSequence}
+use Rattle.trailing_defs.specs.Size.{Trailing}
+use Rattle.trailing_defs.specs.Sequence.{sameSequence}
 use Rattle.shift_defs.specs.Match.{matchFor}
 use Rattle.exports_numbers.specs.Numbers.{decisionOut}
 use borrow.Author.Needs.{needs}

@@ -3,7 +3,7 @@ use native.Mathlib.Omega.{arith}
 use borrow.Author.Tests.{lt-ltb, le-ltb}
 use Rattle.rounding.proofs.Words.{align-is}
 use Rattle.rounding.proofs.Told.{parts-told, parts-refused}
-use Rattle.trailing.specs.Size.{A}
+use Rattle.trailing_defs.specs.Size.{A}
 use Rattle.trailing.specs.View.{trailingOf}
 use Rattle.padding_defs.specs.Pad.{paddedTail}
 use borrow.Author.Needs.{needs}

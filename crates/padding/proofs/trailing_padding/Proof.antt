@@ -12,7 +12,7 @@ use Rattle.util.proofs.Powers.{positive}
 use Rattle.util.proofs.Masks.{mask-mod}
 use Rattle.util.proofs.Told.{number-told, number-kept}
 use Rattle.rounding.proofs.Words.{parts-of}
-use Rattle.trailing.specs.Size.{sizeAt}
+use Rattle.trailing_defs.specs.Size.{sizeAt}
 use Rattle.trailing.specs.View.{trailingOf}
 use Rattle.trailing.proofs.Told.{size-told, size-missing}
 use Rattle.padding_defs.proofs.Marks.{align-answered}

@@ -2,7 +2,7 @@
 use mathlib.Core.Path.{refl, sym, ap₂, _∙_, subst}
 use native.Mathlib.Omega.{arith}
 use borrow.Author.Tests.{eq-eqb, ne-eqb}
-use Rattle.trailing.specs.Sequence.{sameSequence}
+use Rattle.trailing_defs.specs.Sequence.{sameSequence}
 use Rattle.trailing.specs.View.{trailingOf}
 use Rattle.layout.specs.Layout.{noWord}
 use Rattle.layout.specs.declared.SizeInfo.{SizeInfo}

@@ -6,7 +6,7 @@ use lib.Dec.{eqb, leb}
 use borrow.Author.Tests.{le-leb, lt-leb, eq-eqb, ne-eqb}
 use Rattle.util.proofs.Told.{number-told, number-kept}
 use Rattle.trailing.specs.View.{trailingOf}
-use Rattle.trailing.proofs.Calls.{size-offset-answered}
+use Rattle.trailing_defs.proofs.Calls.{size-offset-answered}
 use Rattle.shift_defs.specs.Shift.{Shift, by, missing}
 use borrow.Author.Needs.{needs}
 use Rattle.shift.proofs.exact_offset_delta_elems.Statement.{statement}

@@ -1,6 +1,6 @@
 -- `shift::matching_delta_elems` meets its contract. Assumes nothing.
 use mathlib.Core.Path.{sym, ap, _∙_}
-use Rattle.trailing.specs.Sequence.{sameSequence}
+use Rattle.trailing_defs.specs.Sequence.{sameSequence}
 use Rattle.trailing.specs.View.{trailingOf}
 use Rattle.layout.specs.View.{layoutOf}
 use Rattle.shift_defs.specs.Shift.{Shift, bySize, matchedShift, orElse, shiftOf}

@@ -1,6 +1,6 @@
 -- `shift::matching_shift` meets its contract. Assumes nothing.
 use mathlib.Core.Path.{refl, sym, ap, _∙_}
-use Rattle.trailing.specs.Sequence.{sameSequence}
+use Rattle.trailing_defs.specs.Sequence.{sameSequence}
 use Rattle.trailing.specs.View.{trailingOf}
 use Rattle.shift_defs.specs.Shift.{matchedShift}
 use Rattle.shift.specs.declared.Shift.{Shift}

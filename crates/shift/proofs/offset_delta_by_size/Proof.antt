@@ -5,7 +5,7 @@ use borrow.Author.Tests.{le-leb, lt-leb}
 use native.Mathlib.Omega.{arith}
 use Rattle.util.specs.View.{numberSays}
 use Rattle.util.proofs.Tables.{told-by}
-use Rattle.trailing.specs.Size.{sizeAt}
+use Rattle.trailing_defs.specs.Size.{sizeAt}
 use Rattle.trailing.specs.View.{trailingOf}
 use Rattle.trailing.proofs.Told.{size-told, size-missing}
 use Rattle.layout.specs.View.{layoutOf}

@@ -6,7 +6,7 @@ use native.Mathlib.Omega.{arith}
 use Rattle.util.specs.Refusal.{answered}
 use Rattle.util.proofs.Refusals.{told}
 use Rattle.util.proofs.Tables.{told-by, refused-as, accepted-as, refused-first, accepted-first, accepted-none}
-use Rattle.trailing.specs.Sequence.{sameSequence}
+use Rattle.trailing_defs.specs.Sequence.{sameSequence}
 use Rattle.layout.specs.Layout.{layoutCauses, checkFor}
 use Rattle.layout.specs.View.{layoutOf, checkSays}
 use Rattle.layout.proofs.Layouts.{layout-decided}

@@ -8,11 +8,11 @@ use Rattle.util.proofs.Refusals.{tells-true, yes, told-false, agree, tells-as}
 use Rattle.util.proofs.Tables.{told-by, apart}
 use Rattle.util.proofs.Told.{product-told, product-past}
 use Rattle.rounding.proofs.Words.{not-zero}
-use Rattle.trailing.specs.Sequence.{sameSequence}
-use Rattle.trailing.specs.Calls.{advanced, sameFor}
+use Rattle.trailing_defs.specs.Sequence.{sameSequence}
+use Rattle.trailing_defs.specs.Calls.{advanced, sameFor}
 use Rattle.trailing.specs.View.{trailingOf}
-use Rattle.trailing.proofs.Sequences.{tells-same}
-use Rattle.trailing.proofs.Calls.{advanced-word, same-answered}
+use Rattle.trailing_defs.proofs.Sequences.{tells-same}
+use Rattle.trailing_defs.proofs.Calls.{advanced-word, same-answered}
 use Rattle.trailing.proofs.Told.{advance-told, advance-missing}
 use Rattle.shift_defs.specs.Match.{shifted}
 use Rattle.shift_defs.proofs.Matching.{tells-matches}

@@ -4,7 +4,7 @@ use native.Mathlib.Omega.{arith}
 use borrow.Author.Tests.{eq-eqb, ne-eqb}
 use Rattle.util.specs.Refusal.{answered, unless}
 use Rattle.util.proofs.Refusals.{told}
-use Rattle.trailing.specs.Sequence.{sameSequence}
+use Rattle.trailing_defs.specs.Sequence.{sameSequence}
 use Rattle.trailing.specs.View.{trailingOf}
 use Rattle.shift_defs.specs.Match.{matchFor}
 use Rattle.shift_defs.proofs.Matching.{same-sound, match-meets}

@@ -1,6 +1,6 @@
 -- `trailing::same_stride` meets its contract. Assumes nothing.
 use Rattle.util.proofs.Powers.{positive}
-use Rattle.trailing.proofs.Sequences.{stride-first, stride-yes, stride-equal, stride-no}
+use Rattle.trailing_defs.proofs.Sequences.{stride-first, stride-yes, stride-equal, stride-no}
 use borrow.Author.Needs.{needs}
 use Rattle.trailing.proofs.same_stride.Statement.{statement}
 use Rattle.trailing.proofs.same_stride.Tie as tie

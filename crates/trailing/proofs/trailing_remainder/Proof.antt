@@ -1,6 +1,6 @@
 -- `trailing::trailing_remainder` meets its contract. Assumes nothing.
 use Rattle.util.proofs.Powers.{positive}
-use Rattle.trailing.proofs.Sizes.{remainder}
+use Rattle.trailing_defs.proofs.Sizes.{remainder}
 use borrow.Author.Needs.{needs}
 use Rattle.trailing.proofs.trailing_remainder.Statement.{statement}
 use Rattle.trailing.proofs.trailing_remainder.Tie as tie

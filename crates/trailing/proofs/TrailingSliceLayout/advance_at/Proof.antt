@@ -10,8 +10,8 @@ use Rattle.util.proofs.Powers.{positive, double}
 use Rattle.util.proofs.Masks.{mask-mod, mask-down}
 use Rattle.util.proofs.Rounding.{down-le}
 use Rattle.trailing.specs.View.{trailingOf}
-use Rattle.trailing.proofs.Sizes.{offset-fits, advance-fits}
-use Rattle.trailing.proofs.Calls.{advance-refused, advance-answered}
+use Rattle.trailing_defs.proofs.Sizes.{offset-fits, advance-fits}
+use Rattle.trailing_defs.proofs.Calls.{advance-refused, advance-answered}
 use Rattle.trailing.proofs.TrailingSliceLayout.advance_at.Statement.{statement}
 use Rattle.trailing.proofs.TrailingSliceLayout.advance_at.Tie as tie
 

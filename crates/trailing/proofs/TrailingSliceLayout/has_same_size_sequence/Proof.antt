@@ -5,9 +5,9 @@ use Rattle.util.specs.Refusal.{answered}
 use Rattle.util.proofs.Refusals.{told}
 use Rattle.rounding.proofs.Words.{not-zero, word-clear, word-stop}
 use Rattle.rounding.proofs.Told.{parts-told, parts-refused}
-use Rattle.trailing.specs.Calls.{sameFor}
+use Rattle.trailing_defs.specs.Calls.{sameFor}
 use Rattle.trailing.specs.View.{trailingOf}
-use Rattle.trailing.proofs.Calls.{same-meets, same-answered}
+use Rattle.trailing_defs.proofs.Calls.{same-meets, same-answered}
 use borrow.Author.Needs.{needs}
 use Rattle.trailing.proofs.TrailingSliceLayout.has_same_size_sequence.Statement.{statement}
 use Rattle.trailing.proofs.TrailingSliceLayout.has_same_size_sequence.Tie as tie

@@ -4,8 +4,8 @@ use native.Mathlib.Omega.{arith}
 use borrow.Author.Tests.{eq-eqb, ne-eqb}
 use Rattle.util.proofs.Powers.{double}
 use Rattle.rounding.proofs.Words.{not-zero, at-parts}
-use Rattle.trailing.specs.Size.{A, p}
-use Rattle.trailing.specs.Sequence.{sameStride, sameSequence}
+use Rattle.trailing_defs.specs.Size.{A, p}
+use Rattle.trailing_defs.specs.Sequence.{sameStride, sameSequence}
 use Rattle.trailing.specs.View.{trailingOf}
 use Rattle.trailing.proofs.TrailingSliceLayout.has_same_size_sequence_at.Statement.{statement}
 use Rattle.trailing.proofs.TrailingSliceLayout.has_same_size_sequence_at.Tie as tie

@@ -7,7 +7,7 @@ use Rattle.util.proofs.Powers.{positive}
 use Rattle.util.proofs.Rounding.{up-ge, down-le}
 use Rattle.util.proofs.Told.{down-told, down-kept}
 use Rattle.trailing.specs.View.{trailingOf}
-use Rattle.trailing.proofs.Calls.{max-trailing-refused, max-trailing-answered}
+use Rattle.trailing_defs.proofs.Calls.{max-trailing-refused, max-trailing-answered}
 use borrow.Author.Needs.{needs}
 use Rattle.trailing.proofs.TrailingSliceLayout.max_trailing_bytes_at.Statement.{statement}
 use Rattle.trailing.proofs.TrailingSliceLayout.max_trailing_bytes_at.Tie as tie

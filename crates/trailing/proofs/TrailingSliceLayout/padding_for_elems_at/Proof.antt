@@ -8,10 +8,10 @@ use Rattle.util.proofs.Powers.{positive, double}
 use Rattle.util.proofs.Rounding.{padding-mod}
 use Rattle.util.proofs.Told.{padding-told, padding-kept}
 use Rattle.rounding.proofs.Words.{parts-of, at-parts, not-zero}
-use Rattle.trailing.specs.Size.{A, p}
+use Rattle.trailing_defs.specs.Size.{A, p}
 use Rattle.trailing.specs.View.{trailingOf}
-use Rattle.trailing.proofs.Sizes.{padding-by-sums}
-use Rattle.trailing.proofs.Calls.{padding-answered}
+use Rattle.trailing_defs.proofs.Sizes.{padding-by-sums}
+use Rattle.trailing_defs.proofs.Calls.{padding-answered}
 use borrow.Author.Needs.{needs}
 use Rattle.trailing.proofs.TrailingSliceLayout.padding_for_elems_at.Statement.{statement}
 use Rattle.trailing.proofs.TrailingSliceLayout.padding_for_elems_at.Tie as tie

@@ -3,7 +3,7 @@ use mathlib.Core.Path.{sym, _∙_}
 use native.Mathlib.Omega.{arith}
 use Rattle.util.proofs.Refusals.{told-false, agree, tells-eq, tells-as}
 use Rattle.trailing.specs.View.{trailingOf}
-use Rattle.trailing.proofs.Sequences.{tells-start}
+use Rattle.trailing_defs.proofs.Sequences.{tells-start}
 use Rattle.trailing.proofs.Told.{size-told, size-missing}
 use borrow.Author.Needs.{needs}
 use Rattle.trailing.proofs.TrailingSliceLayout.same_start.Statement.{statement}

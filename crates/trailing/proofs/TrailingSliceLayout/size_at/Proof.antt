@@ -5,10 +5,10 @@ use lib.Pow.{pow-pos}
 use Rattle.util.specs.Refusal.{answered}
 use Rattle.util.proofs.Told.{number-told, number-kept}
 use Rattle.rounding.proofs.Words.{not-zero}
-use Rattle.trailing.specs.Calls.{paddingAt, PaddingAt}
+use Rattle.trailing_defs.specs.Calls.{paddingAt, PaddingAt}
 use Rattle.trailing.specs.View.{trailingOf}
-use Rattle.trailing.proofs.Sizes.{padding-congruent, size-by-end}
-use Rattle.trailing.proofs.Calls.{padding-answered}
+use Rattle.trailing_defs.proofs.Sizes.{padding-congruent, size-by-end}
+use Rattle.trailing_defs.proofs.Calls.{padding-answered}
 use borrow.Author.Needs.{needs}
 use Rattle.trailing.proofs.TrailingSliceLayout.size_at.Statement.{statement}
 use Rattle.trailing.proofs.TrailingSliceLayout.size_at.Tie as tie

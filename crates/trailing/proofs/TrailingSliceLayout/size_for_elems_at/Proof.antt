@@ -5,12 +5,12 @@ use native.Mathlib.Omega.{arith}
 use Rattle.util.proofs.Powers.{positive}
 use Rattle.util.proofs.Told.{product-told, product-past}
 use Rattle.rounding.proofs.Words.{not-zero, parts-of}
-use Rattle.trailing.specs.Size.{A, p, sizeAt, HasSize}
-use Rattle.trailing.specs.Calls.{GreatestIn}
+use Rattle.trailing_defs.specs.Size.{A, p, sizeAt, HasSize}
+use Rattle.trailing_defs.specs.Calls.{GreatestIn}
 use Rattle.trailing.specs.View.{trailingOf}
-use Rattle.trailing.proofs.Sizes.{size-ge, size-mono}
-use Rattle.trailing.proofs.Calls.{size-answered, size-refused}
-use Rattle.trailing.proofs.Told.{room-told, room-refused}
+use Rattle.trailing_defs.proofs.Sizes.{size-ge, size-mono}
+use Rattle.trailing_defs.proofs.Calls.{size-answered, size-refused}
+use Rattle.trailing_defs.proofs.Told.{room-told, room-refused}
 use borrow.Author.Needs.{needs}
 use Rattle.trailing.proofs.TrailingSliceLayout.size_for_elems_at.Statement.{statement}
 use Rattle.trailing.proofs.TrailingSliceLayout.size_for_elems_at.Tie as tie

@@ -6,8 +6,8 @@ use Rattle.util.specs.Round.{down}
 use Rattle.util.specs.Refusal.{answered}
 use Rattle.util.proofs.Told.{down-told, down-kept}
 use Rattle.trailing.specs.View.{trailingOf}
-use Rattle.trailing.proofs.Sizes.{offset-fits}
-use Rattle.trailing.proofs.Calls.{size-offset-parts}
+use Rattle.trailing_defs.proofs.Sizes.{offset-fits}
+use Rattle.trailing_defs.proofs.Calls.{size-offset-parts}
 use borrow.Author.Needs.{needs}
 use Rattle.trailing.proofs.TrailingSliceLayout.size_offset_at.Statement.{statement}
 use Rattle.trailing.proofs.TrailingSliceLayout.size_offset_at.Tie as tie

@@ -12,9 +12,9 @@ use Rattle.util.proofs.Refusals.{tells-lt, tells-as}
 use Rattle.util.proofs.Powers.{positive, divides, mod-through}
 use Rattle.util.proofs.Masks.{mask-mod}
 use Rattle.util.proofs.Rounding.{next-multiple, sum-multiple, up-down, down-up, up-ge, up-mono, up-multiple, up-whole, up-shift, up-is, up-padding, down-shift, down-mod, down-multiple, down-le, down-near, mod-cancel}
-use Rattle.trailing.specs.Size.{Trailing, A, p, sizeWith, sizeAt, HasSize}
-use Rattle.trailing.specs.Count.{GreatestBytes, bytesWithin, GreatestCount, countWithin}
-use Rattle.trailing.specs.Calls.{PaddingAt, paddingAt}
+use Rattle.trailing_defs.specs.Size.{Trailing, A, p, sizeWith, sizeAt, HasSize}
+use Rattle.trailing_defs.specs.Count.{GreatestBytes, bytesWithin, GreatestCount, countWithin}
+use Rattle.trailing_defs.specs.Calls.{PaddingAt, paddingAt}
 
 -- the size at count 0 is the base and the rounded phase
 pub size-zero : (b A p e : ℕ) → sizeWith b A p (0 * e) ≡ b + up p A

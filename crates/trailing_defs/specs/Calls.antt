@@ -9,9 +9,9 @@ use Rattle.util.specs.Width.{M}
 use Rattle.util.specs.Round.{down, GreatestMultiple}
 use Rattle.util.specs.Refusal.{Outcome, Cause, unless, YesMeans}
 use Rattle.rounding.specs.Word.{IsWord, wordZero, wordCauses}
-use Rattle.trailing.specs.Size.{Trailing, A, p, sizeWith, sizeAt, HasSize, sizeOffset}
-use Rattle.trailing.specs.Count.{GreatestBytes, bytesWithin}
-use Rattle.trailing.specs.Sequence.{EqualSizes, SameSequence, sameSequence}
+use Rattle.trailing_defs.specs.Size.{Trailing, A, p, sizeWith, sizeAt, HasSize, sizeOffset}
+use Rattle.trailing_defs.specs.Count.{GreatestBytes, bytesWithin}
+use Rattle.trailing_defs.specs.Sequence.{EqualSizes, SameSequence, sameSequence}
 
 -- `size_offset`: the greatest multiple of A that is at most b, and p more
 unfoldable pub sizeOffsetFor : ℕ → Trailing → Outcome ℕ

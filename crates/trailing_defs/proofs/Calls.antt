@@ -15,12 +15,12 @@ use Rattle.util.proofs.Powers.{positive, double}
 use Rattle.util.proofs.Rounding.{down-is}
 use Rattle.rounding.specs.Word.{IsWord, wordCauses}
 use Rattle.rounding.proofs.Words.{parts-of, at-parts, not-zero}
-use Rattle.trailing.specs.Size.{Trailing, A, p, sizeWith, sizeAt, HasSize, sizeOffset}
-use Rattle.trailing.specs.Count.{bytesWithin}
-use Rattle.trailing.specs.Sequence.{sameSequence}
-use Rattle.trailing.specs.Calls.{sizeOffsetFor, SizeOffset, maxTrailingCauses, maxTrailingFor, GreatestIn, paddingAt, paddingForElems, PaddingAt, sizeCauses, sizeFor, advanceCauses, advanced, advanceFor, Advanced, sameCauses, sameFor, FoundSame}
-use Rattle.trailing.proofs.Sizes.{size-zero, size-mono, greatest-bytes, tells-room, bytes-by-blocks, padding-congruent, one-padding, advanced-size}
-use Rattle.trailing.proofs.Sequences.{tells-same, same-sizes}
+use Rattle.trailing_defs.specs.Size.{Trailing, A, p, sizeWith, sizeAt, HasSize, sizeOffset}
+use Rattle.trailing_defs.specs.Count.{bytesWithin}
+use Rattle.trailing_defs.specs.Sequence.{sameSequence}
+use Rattle.trailing_defs.specs.Calls.{sizeOffsetFor, SizeOffset, maxTrailingCauses, maxTrailingFor, GreatestIn, paddingAt, paddingForElems, PaddingAt, sizeCauses, sizeFor, advanceCauses, advanced, advanceFor, Advanced, sameCauses, sameFor, FoundSame}
+use Rattle.trailing_defs.proofs.Sizes.{size-zero, size-mono, greatest-bytes, tells-room, bytes-by-blocks, padding-congruent, one-padding, advanced-size}
+use Rattle.trailing_defs.proofs.Sequences.{tells-same, same-sizes}
 
 -- the alignment of a word that is not 0
 pub align-pos : (w : ℕ) (t : Trailing) → (t .word ≡ 0 → ⊥) → t .word < 2 ^ w → 0 < A w t

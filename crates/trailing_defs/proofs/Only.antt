@@ -5,9 +5,9 @@ use native.Mathlib.Omega.{arith}
 use Rattle.util.specs.Round.{GreatestMultiple}
 use Rattle.util.proofs.Only.{one-multiple}
 use Rattle.rounding.proofs.Words.{same-align, same-phase, same-word}
-use Rattle.trailing.specs.Size.{Trailing, A, p, sizeWith, sizeAt}
-use Rattle.trailing.specs.Count.{GreatestBytes}
-use Rattle.trailing.specs.Calls.{SizeOffset, Advanced}
+use Rattle.trailing_defs.specs.Size.{Trailing, A, p, sizeWith, sizeAt}
+use Rattle.trailing_defs.specs.Count.{GreatestBytes}
+use Rattle.trailing_defs.specs.Calls.{SizeOffset, Advanced}
 
 pub one-size-offset : {t : Trailing} {r s : ℕ} → SizeOffset t r → SizeOffset t s → r ≡ s
 one-size-offset {t} x y =

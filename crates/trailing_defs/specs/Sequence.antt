@@ -5,7 +5,7 @@ use mathlib.Core.Logic.{_⊎_}
 use Prim.Native.Nat.{ℕ, _%_, max}
 use lib.Dec.{eqb, leb}
 use Rattle.util.specs.Width.{M}
-use Rattle.trailing.specs.Size.{Trailing, A, p, sizeAt, HasSize}
+use Rattle.trailing_defs.specs.Size.{Trailing, A, p, sizeAt, HasSize}
 
 -- equal sizes at every count
 abbrev pub EqualSizes : ℕ → Trailing → Trailing → Type 0

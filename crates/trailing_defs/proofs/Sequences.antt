@@ -15,8 +15,8 @@ use Rattle.util.proofs.Powers.{positive, power-divides, through, max-power}
 use Rattle.util.proofs.Masks.{mask-mod}
 use Rattle.util.proofs.Rounding.{multiple, up-shift}
 use Rattle.rounding.proofs.Words.{parts-of}
-use Rattle.trailing.specs.Size.{Trailing, A, p, sizeWith, sizeAt}
-use Rattle.trailing.specs.Sequence.{EqualSizes, SameStride, sameStride, SameStart, sameStart, SameSequence, sameSequence}
+use Rattle.trailing_defs.specs.Size.{Trailing, A, p, sizeWith, sizeAt}
+use Rattle.trailing_defs.specs.Sequence.{EqualSizes, SameStride, sameStride, SameStart, sameStart, SameSequence, sameSequence}
 
 -- elements of whole blocks add their bytes to the size at 0
 pub whole-blocks : (b A p e n : ℕ) → 0 < A → e % A ≡ 0 → sizeWith b A p (n * e) ≡ sizeWith b A p (0 * e) + n * e

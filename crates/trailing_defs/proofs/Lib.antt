@@ -1,0 +1,5 @@
+pub mod Sizes
+pub mod Sequences
+pub mod Calls
+pub mod Told
+pub mod Only

@@ -1,0 +1,4 @@
+pub mod Size
+pub mod Count
+pub mod Sequence
+pub mod Calls
