@@ -258,5 +258,5 @@ pub extern "C" fn lukaripe_advance(layout: Trailing, bytes: u64, elem_size: u64)
 pub extern "C" fn lukaripe_has_same_size_sequence(layout: Trailing, other: Trailing) -> Number
     ensures { λ r. ⌜ r ≡ decisionOut (sameFor 64 (trailingIn layout) (trailingIn other)) ⌝ }
 {
-    decision_out(trailing_in(layout).has_same_size_sequence(trailing_in(other)))
+    decision_out(sequence::has_same_size_sequence(trailing_in(layout), trailing_in(other)))
 }

@@ -47,7 +47,7 @@ fn sequences_match(src: TrailingSliceLayout, dst: TrailingSliceLayout, dst_base:
     let AdvanceAnswer::Layout(shifted_dst) = dst.advance(base_bytes, src.elem_size) else {
         return false;
     };
-    match src.has_same_size_sequence(shifted_dst) {
+    match sequence::has_same_size_sequence(src, shifted_dst) {
         Decision::Is(same) => same,
         Decision::Refused(_) => false,
     }

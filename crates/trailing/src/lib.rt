@@ -5,18 +5,15 @@ ghost use Prim.Native.Nat.{_*_, _%_, _<_};
 ghost use Rattle.util.specs.Power.{PowerOfTwo};
 ghost use Rattle.util.specs.Round.{up};
 ghost use Rattle.util.specs.Refusal.{answered, Meets};
-ghost use Rattle.util.specs.View.{numberSays, decisionSays};
+ghost use Rattle.util.specs.View.{numberSays};
 ghost use Rattle.rounding.specs.Word.{IsWord, wordCauses};
-ghost use Rattle.trailing_defs.specs.Sequence.{sameStart, sameStride, sameSequence};
 ghost use Rattle.trailing_defs.specs.Calls.{sizeOffsetFor, GreatestIn, SizeOffset, maxTrailingCauses, maxTrailingFor};
-ghost use Rattle.trailing_defs.specs.Calls.{paddingForElems, PaddingAt, sizeCauses, sizeFor, advanceCauses};
-ghost use Rattle.trailing_defs.specs.Calls.{advanceFor, Advanced, sameCauses, sameFor, FoundSame};
+ghost use Rattle.trailing_defs.specs.Calls.{paddingForElems, PaddingAt, sizeCauses, sizeFor, advanceCauses, advanceFor, Advanced};
 ghost use Rattle.trailing_defs.specs.Size.{sizeAt, HasSize};
 ghost use Rattle.trailing.specs.View.{trailingOf, sizeSays, advanceSays};
 use rounding::ComponentsAnswer;
 use rounding::RoundingAlignAndPhase;
 use util::Answer;
-use util::Decision;
 use util::Product;
 use util::refusal;
 
@@ -59,26 +56,6 @@ fn trailing_remainder(elems: u64, elem: u64, align: u64) -> u64
     let size_mask = align - 1;
     let elem_remainder = elem & size_mask;
     util::wrapping_mul(elems, elem_remainder) & size_mask
-}
-
-// The part of the comparison that looks past the sizes at 0: the element size is a multiple of the larger alignment, or both
-// alignments and both phases are equal. Either is enough for equal sizes at every count, and neither is needed. The larger of
-// two alignments is a multiple of the smaller, so that a multiple of it is one of both.
-fn same_stride(elem: u64, align: u64, phase: u64, align2: u64, phase2: u64) -> bool
-    requires { ⌜ PowerOfTwo align × PowerOfTwo align2 ⌝ }
-    ensures { λ r. ⌜ r ≡ sameStride elem align phase align2 phase2 ⌝ }
-{
-    if align > align2 {
-        return elem & (align - 1) == 0;
-    }
-    if elem & (align2 - 1) == 0 {
-        return true;
-    }
-    if align == align2 {
-        phase == phase2
-    } else {
-        false
-    }
 }
 
 // A function whose name ends in _at takes the parts of the layout's rounding word besides the layout.
@@ -261,73 +238,6 @@ impl TrailingSliceLayout {
                 self.advance_at(align, phase, bytes, elem_size)
             }
             ComponentsAnswer::Refused(number) => AdvanceAnswer::Refused(number),
-        }
-    }
-
-    // Whether the sizes at 0 exist and are equal.
-    fn same_start(self, other: TrailingSliceLayout) -> bool
-        requires { ⌜ (0 < trailingOf self .word) × (0 < trailingOf other .word) ⌝ }
-        ensures { λ r. ⌜ r ≡ sameStart 64 (trailingOf self) (trailingOf other) ⌝ }
-    {
-        let SizeAnswer::Size(self_size) = self.size_for_elems(0) else {
-            return false;
-        };
-        let SizeAnswer::Size(other_size) = other.size_for_elems(0) else {
-            return false;
-        };
-        self_size == other_size
-    }
-
-    fn has_same_size_sequence_at(
-        self,
-        align: u64,
-        phase: u64,
-        other: TrailingSliceLayout,
-        align2: u64,
-        phase2: u64,
-    ) -> bool
-        requires { ⌜
-            IsWord (self .«size_rounding_align_and_phase» .0) align phase × IsWord (other .«size_rounding_align_and_phase» .0)
-            align2 phase2
-            ⌝ }
-        ensures { λ r. ⌜ r ≡ sameSequence 64 (trailingOf self) (trailingOf other) ⌝ }
-    {
-        let elem = self.elem_size;
-        if elem != other.elem_size {
-            return false;
-        }
-        if self.same_start(other) {
-            same_stride(elem, align, phase, align2, phase2)
-        } else {
-            false
-        }
-    }
-
-    // Whether the two layouts are found to have the same size at every count. A no does not mean that they have not.
-    pub fn has_same_size_sequence(self, other: TrailingSliceLayout) -> Decision
-        ensures answer { λ r. ⌜ decisionSays r ≡ sameFor 64 (trailingOf self) (trailingOf other) ⌝ }
-        ensures meaning { λ r. ⌜
-            Meets (sameCauses (trailingOf self) (trailingOf other)) (FoundSame 64 (trailingOf self) (trailingOf other))
-            (decisionSays r)
-            ⌝ }
-    {
-        let word = self.size_rounding_align_and_phase;
-        let other_word = other.size_rounding_align_and_phase;
-        match word.components() {
-            ComponentsAnswer::Components { align, phase } => match other_word.components() {
-                ComponentsAnswer::Components {
-                    align: align2,
-                    phase: phase2,
-                } => Decision::Is(self.has_same_size_sequence_at(
-                    align,
-                    phase,
-                    other,
-                    align2,
-                    phase2,
-                )),
-                ComponentsAnswer::Refused(number) => Decision::Refused(number),
-            },
-            ComponentsAnswer::Refused(number) => Decision::Refused(number),
         }
     }
 }

@@ -1,4 +1,4 @@
--- `trailing::TrailingSliceLayout::has_same_size_sequence` meets its contract. Assumes nothing.
+-- `sequence::has_same_size_sequence` meets its contract. Assumes nothing.
 use mathlib.Core.Path.{sym, ap, _∙_}
 use native.Mathlib.Omega.{arith}
 use Rattle.util.specs.Refusal.{answered}
@@ -6,11 +6,11 @@ use Rattle.util.proofs.Refusals.{told}
 use Rattle.rounding.proofs.Words.{not-zero, word-clear, word-stop}
 use Rattle.rounding.proofs.Told.{parts-told, parts-refused}
 use Rattle.trailing_defs.specs.Calls.{sameFor}
 use Rattle.trailing.specs.View.{trailingOf}
 use Rattle.trailing_defs.proofs.Calls.{same-meets, same-answered}
 use borrow.Author.Needs.{needs}
-use Rattle.trailing.proofs.TrailingSliceLayout.has_same_size_sequence.Statement.{statement}
-use Rattle.trailing.proofs.TrailingSliceLayout.has_same_size_sequence.Tie as tie
+use Rattle.sequence.proofs.has_same_size_sequence.Statement.{statement}
+use Rattle.sequence.proofs.has_same_size_sequence.Tie as tie
 
 components-requires : tie.Need-components-requires
 components-requires c κs = search needs
@@ -41,22 +41,22 @@ returns c =
     let k = c .before .before .before .before .before .before .before .before .before .before .before in
     let x = parts-told (c .before .before .before .before .before .before .before .before .components .result) (c .before .before .before .before .before .before .before .before .components .ensures .1) (c .before .before .before .before .before .before .align .given .1) in
     let y = parts-told (c .before .before .before .before .components2 .result) (c .before .before .before .before .components2 .ensures .1) (c .before .before .align2 .given .1) in
-    told (same-meets 64 (trailingOf (k .args .self)) (trailingOf (k .args .other)) (omega arith) (omega arith))
-    (ap answered (c .has-same-size-sequence-at .ensures) ∙ sym (same-answered 64 (trailingOf (k .args .self)) (trailingOf (k .args .other)) (not-zero x) (not-zero y)))
+    told (same-meets 64 (trailingOf (k .args .first)) (trailingOf (k .args .other)) (omega arith) (omega arith))
+    (ap answered (c .has-same-size-sequence-at .ensures) ∙ sym (same-answered 64 (trailingOf (k .args .first)) (trailingOf (k .args .other)) (not-zero x) (not-zero y)))
 
 returns-2 : tie.Need-returns-2
 unfolding sameFor
 returns-2 c =
     let k = c .before .before .before .before .before .before .before .before .before .before in
     let x = parts-told (c .before .before .before .before .before .before .before .components .result) (c .before .before .before .before .before .before .before .components .ensures .1) (c .before .before .before .before .before .align .given .1) in
-    told (same-meets 64 (trailingOf (k .args .self)) (trailingOf (k .args .other)) (omega arith) (omega arith))
+    told (same-meets 64 (trailingOf (k .args .first)) (trailingOf (k .args .other)) (omega arith) (omega arith))
     (word-stop _ _ (parts-refused (c .before .before .before .components2 .result) (c .before .before .before .components2 .ensures .1) (c .before .number .given .1)) ∙ sym (word-clear _ _ _ (not-zero x)))
 
 returns-3 : tie.Need-returns-3
 unfolding sameFor
 returns-3 c =
     let k = c .before .before .before .before .before .before in
-    told (same-meets 64 (trailingOf (k .args .self)) (trailingOf (k .args .other)) (omega arith) (omega arith)) (word-stop _ _ (parts-refused (c .before .before .before .components .result) (c .before .before .before .components .ensures .1) (c .before .number2 .given .1)))
+    told (same-meets 64 (trailingOf (k .args .first)) (trailingOf (k .args .other)) (omega arith) (omega arith)) (word-stop _ _ (parts-refused (c .before .before .before .components .result) (c .before .before .before .components .ensures .1) (c .before .number2 .given .1)))
 
 pub has-same-size-sequence-spec : {M : Type 1} → statement M
 has-same-size-sequence-spec =

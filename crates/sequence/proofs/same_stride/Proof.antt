@@ -1,9 +1,9 @@
--- `trailing::same_stride` meets its contract. Assumes nothing.
+-- `sequence::same_stride` meets its contract. Assumes nothing.
 use Rattle.util.proofs.Powers.{positive}
 use Rattle.trailing_defs.proofs.Sequences.{stride-first, stride-yes, stride-equal, stride-no}
 use borrow.Author.Needs.{needs}
-use Rattle.trailing.proofs.same_stride.Statement.{statement}
-use Rattle.trailing.proofs.same_stride.Tie as tie
+use Rattle.sequence.proofs.same_stride.Statement.{statement}
+use Rattle.sequence.proofs.same_stride.Tie as tie
 
 sub-result : tie.Need-sub-result
 sub-result c = search needs
