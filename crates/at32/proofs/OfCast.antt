@@ -7,13 +7,13 @@ use Rattle.util.specs.Refusal.{answered, Tells, None, Meets, Decided, refused, 
 use Rattle.rounding.specs.Word.{IsWord}
 use Rattle.trailing_defs.specs.Size.{Trailing, A, p, sizeAt}
 use Rattle.trailing_defs.specs.Count.{GreatestBytes, bytesWithin, GreatestCount, countWithin}
-use Rattle.layout.specs.Layout.{Info, Layout, sizeIn, noWord, layoutCauses}
+use Rattle.layout_defs.specs.Layout.{Info, Layout, sizeIn, noWord, layoutCauses}
 use Rattle.padding_defs.specs.Pad.{Padded}
 use Rattle.cast_defs.specs.Cast.{Side, suffix, testedAddress, Greatest, countIn, IsElemZero, elemZero, tooSmall, bytesCauses, castCauses, Grant, castFor, GrantMeans, prefix, greatestGrant}
 use Rattle.cast_defs.specs.Exact.{hasExact, ExactCount, ExactIn, noExact, exactCauses, exactFor}
 use mathlib.Core.Bool.{false}
 use mathlib.Core.List.{[], _∷_}
-use Rattle.layout.specs.Extend.{IsTrailing, isTrailing}
+use Rattle.layout_defs.specs.Extend.{IsTrailing, isTrailing}
 use Rattle.cast.specs.View.{castSays}
 use Rattle.cast.specs.declared.CastAnswer.{CastAnswer}
 use Rattle.cast.specs.declared.CastAnswer.the-variants as Answer

@@ -1,4 +1,4 @@
--- The laws of `layout` at 32 bits: each holds at any width. Assumes nothing.
+-- The laws of `layout_defs` and `layout` at 32 bits: each holds at any width. Assumes nothing.
 use mathlib.Core.Path.{_≡_}
 use mathlib.Core.List.{[], _∷_}
 use Prim.Native.Nat.{ℕ, _≤_, _<_, _^_}
@@ -7,19 +7,20 @@ use Rattle.util.specs.Refusal.{answered, refused, unless, Meets, Decided, Tells
 use Rattle.util.specs.View.{numberSays}
 use Rattle.util.specs.declared.Answer.{Answer}
 use Rattle.util.specs.declared.Answer.the-variants as Answer
-use Rattle.layout.specs.Extend.{roundingPasses, LeastPlace, roundUpCauses, roundUpFor, memberAlign, extended, badPacking, memberPasses, placeCauses, stepCauses, extendCauses, extendFor, Extended}
+use Rattle.layout_defs.specs.Extend.{roundingPasses, LeastPlace, roundUpCauses, roundUpFor, memberAlign, extended, badPacking, greatestAlign, memberPasses, placeCauses, stepCauses, extendCauses, extendFor, Extended}
 use Rattle.layout.specs.declared.Check.{Check}
 use Rattle.layout.specs.declared.Check.the-variants as Check
 use Rattle.layout.specs.View.{checkSays}
-use Rattle.layout.specs.Layout.{Layout, layoutCauses, FitsWidth, checkFor, fixed}
+use Rattle.layout_defs.specs.Layout.{Layout, layoutCauses, FitsWidth, checkFor, fixed}
 use mathlib.Core.Bool.{Bool, _||_, true, false}
 use mathlib.Core.Logic.{_⊎_}
 use lib.Dec.{eqb}
 use Rattle.util.specs.Power.{PowerOfTwo, powerOfTwo}
 use Rattle.util.specs.Round.{up}
-use Rattle.layout.proofs.Passes as Passes
-use Rattle.layout.proofs.Layouts as Layouts
-use Rattle.layout.proofs.Steps as Steps
+use Rattle.layout_defs.proofs.Passes as Passes
+use Rattle.layout_defs.proofs.Layouts as Layouts
+use Rattle.layout_defs.proofs.Steps as Steps
+use Rattle.layout.proofs.Told as Told
 
 pub within : {T : Type 0} (v : ℕ) (x : T) → v ≤ M 32 → answered x ≡ unless (roundingPasses 32 v ∷ []) x
 within {T} = Passes.within {T = T} 32
@@ -55,7 +56,7 @@ pub fixed-refused : (a s : ℕ) (mark : Bool) → powerOfTwo 32 a ≡ false → 
 fixed-refused = Layouts.fixed-refused 32
 
 pub held-accepted : {l : Layout} (r : Check) → Meets (layoutCauses 32 l) (λ _. FitsWidth 32 l) (checkSays r) → r ≡ Check.Accepted → FitsWidth 32 l
-held-accepted {l} = Layouts.held-accepted {w = 32} {l = l}
+held-accepted {l} = Told.held-accepted {w = 32} {l = l}
 
 pub tells-packing : (packing : ℕ) → packing < 2 ^ 32 → Tells ((packing ≡ 0) ⊎ PowerOfTwo packing) (eqb packing 0 || powerOfTwo 32 packing)
 tells-packing = Steps.tells-packing 32
@@ -65,6 +66,9 @@ packing-power = Steps.packing-power 32
 
 pub member-power : {a : ℕ} (packing : ℕ) → PowerOfTwo a → packing < 2 ^ 32 → (badPacking 32 packing .means → ⊥) → PowerOfTwo (memberAlign a packing)
 member-power {a} = Steps.member-power 32 {a = a}
+
+pub step-above : (l m : Layout) (packing : ℕ) → badPacking 32 packing .test ≡ false → greatestAlign < m .align → refused 6 ≡ unless (stepCauses 32 l m packing) (extended l m packing)
+step-above = Steps.step-above 32
 
 pub extend-decided : (l m : Layout) (packing : ℕ) → l .align < 2 ^ 32 → m .align < 2 ^ 32 → packing < 2 ^ 32 → Decided (extendCauses 32 l m packing)
 extend-decided = Steps.extend-decided 32

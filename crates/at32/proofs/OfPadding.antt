@@ -6,7 +6,7 @@ use Rattle.util.specs.Width.{M}
 use Rattle.util.specs.Refusal.{answered, Meets, Decided, Tells, None}
 use Rattle.util.specs.declared.Answer.the-variants as Answer
 use Rattle.layout.specs.declared.Check.the-variants as Check
-use Rattle.layout.specs.Layout.{Layout, layoutCauses, Info, noWord}
+use Rattle.layout_defs.specs.Layout.{Layout, layoutCauses, Info, noWord}
 use mathlib.Core.Bool.{_||_, false}
 use mathlib.Core.Logic.{_⊎_}
 use Rattle.util.specs.Power.{PowerOfTwo}

@@ -6,7 +6,7 @@ use Rattle.util.specs.Refusal.{Tells, Meets, None, Decided}
 use Rattle.trailing_defs.specs.Size.{Trailing, sizeAt}
 use Rattle.trailing_defs.specs.Sequence.{EqualSizes, sameSequence}
 use Rattle.trailing_defs.specs.Calls.{sameCauses}
-use Rattle.layout.specs.Layout.{trailing, Layout, layoutCauses}
+use Rattle.layout_defs.specs.Layout.{trailing, Layout, layoutCauses}
 use Rattle.shift_defs.specs.Match.{Comparison, Sound, shifted, Matches, matchTest, matchFor, FoundMatch}
 use Rattle.shift_defs.specs.Shift.{by, shiftOf, IsShift, IsMultiple, shiftCauses, shiftFor, ShiftMeans}
 use Rattle.shift.specs.View.{shiftIn, shiftSays}

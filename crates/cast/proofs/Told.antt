@@ -8,8 +8,8 @@ use borrow.Author.Tests.{eq-eqb, ne-eqb}
 use Rattle.util.specs.Refusal.{answered, refused, unless}
 use Rattle.util.proofs.Refusals.{known, tells-le, yes, told-true, tells-lt}
 use Rattle.util.proofs.Tables.{told-by, answer-is, accepted-none}
-use Rattle.layout.specs.Layout.{Info, fixed, trailing, Layout, sizeIn, noWord}
-use Rattle.layout.specs.Extend.{IsTrailing, isTrailing}
+use Rattle.layout_defs.specs.Layout.{Info, fixed, trailing, Layout, sizeIn, noWord}
+use Rattle.layout_defs.specs.Extend.{IsTrailing, isTrailing}
 use Rattle.cast_defs.specs.Cast.{prefix, countIn, elemZero, tooSmall, castCauses, Grant, greatestGrant, castFor}
 use Rattle.cast_defs.specs.Exact.{splitIs, noExact}
 use Rattle.cast.specs.View.{castSays}

@@ -12,8 +12,8 @@ use Rattle.util.proofs.Tables.{none-both, both-none, decided-both}
 use Rattle.trailing_defs.specs.Size.{Trailing, A, p, sizeAt}
 use Rattle.trailing_defs.specs.Count.{GreatestCount, countWithin}
 use Rattle.trailing_defs.proofs.Sizes.{size-mono, greatest-count, one-count}
-use Rattle.layout.specs.Layout.{Info, fixed, trailing, Layout, noWord, layoutCauses}
-use Rattle.layout.proofs.Layouts.{layout-decided}
+use Rattle.layout_defs.specs.Layout.{Info, fixed, trailing, Layout, noWord, layoutCauses}
+use Rattle.layout_defs.proofs.Layouts.{layout-decided}
 use Rattle.cast_defs.specs.Cast.{prefix, castCauses, Grant, GrantMeans, countIn}
 use Rattle.cast_defs.specs.Exact.{splitIs, hasExact, ExactCount, ExactIn, noExact, exactCauses, exactFor}
 use Rattle.cast_defs.proofs.Grants.{align-pos, cast-meets}

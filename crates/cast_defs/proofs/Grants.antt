@@ -15,9 +15,9 @@ use Rattle.rounding.proofs.Words.{parts-of, at-parts, not-zero, align-power}
 use Rattle.trailing_defs.specs.Size.{Trailing, A, p, sizeWith, sizeAt}
 use Rattle.trailing_defs.specs.Count.{GreatestBytes, bytesWithin}
 use Rattle.trailing_defs.proofs.Sizes.{size-within, size-mono, size-ge, greatest-bytes, greatest-count}
-use Rattle.layout.specs.Layout.{Info, fixed, trailing, Layout, IsCount, sizeIn, noWord, layoutCauses}
+use Rattle.layout_defs.specs.Layout.{Info, fixed, trailing, Layout, IsCount, sizeIn, noWord, layoutCauses}
 use Rattle.padding_defs.specs.Pad.{PaddedInfo, Padded}
-use Rattle.layout.proofs.Layouts.{layout-decided}
+use Rattle.layout_defs.proofs.Layouts.{layout-decided}
 use Rattle.cast_defs.specs.Cast.{Side, suffix, testedAddress, Greatest, countIn, elemZero, tooSmall, bytesCauses, castCauses, Grant, greatestGrant, castFor, GrantMeans}
 
 -- the alignment of a rounding word that is not 0

@@ -2,7 +2,7 @@
 use mathlib.Core.Path.{_≡_, sym, ap, _∙_}
 use Prim.Native.Nat.{ℕ}
 use native.Mathlib.Omega.{arith}
-use Rattle.layout.specs.Layout.{Info, fixed, trailing, sizeIn}
+use Rattle.layout_defs.specs.Layout.{Info, fixed, trailing, sizeIn}
 use Rattle.cast_defs.specs.Cast.{Side, splitAt, Grant, GrantMeans}
 use Rattle.cast_defs.specs.Exact.{ExactIn}
 use Rattle.cast_defs.proofs.Grants.{one-greatest}

@@ -4,7 +4,7 @@ use Prim.Native.Nat.{ℕ, _+_, _%_, _^_, _<_}
 use Rattle.util.specs.Refusal.{refused, unless, None}
 use Rattle.util.proofs.Refusals.{told-true, told-false, tells-eq, tells-lt, tells-not}
 use Rattle.util.specs.Width.{M}
-use Rattle.layout.specs.Layout.{Layout, layoutCauses}
+use Rattle.layout_defs.specs.Layout.{Layout, layoutCauses}
 use Rattle.cast_defs.specs.Cast.{Side, testedAddress, IsElemZero, castFor}
 use Rattle.cast_defs.proofs.Grants.{elem-decided, cast-accepted}
 

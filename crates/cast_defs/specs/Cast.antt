@@ -7,7 +7,7 @@ use lib.Dec.{eqb, ltb}
 use Rattle.util.specs.Width.{M}
 use Rattle.util.specs.Refusal.{Outcome, Cause, unless}
 use Rattle.trailing_defs.specs.Count.{countWithin}
-use Rattle.layout.specs.Layout.{Info, fixed, trailing, Layout, IsCount, sizeIn, layoutCauses}
+use Rattle.layout_defs.specs.Layout.{Info, fixed, trailing, Layout, IsCount, sizeIn, layoutCauses}
 
 -- a cast takes its bytes from the front, or from the end
 pub data Side : Type 0 where

@@ -6,8 +6,8 @@ use Prim.Native.Nat.{ℕ, _≤_, _<_}
 use lib.Dec.{eqb}
 use Rattle.util.specs.Refusal.{Outcome, answered, refused, Cause, unless}
 use Rattle.trailing_defs.specs.Size.{Trailing, sizeAt, HasSize}
-use Rattle.layout.specs.Layout.{Info, fixed, trailing, Layout, layoutCauses}
-use Rattle.layout.specs.Extend.{isTrailing}
+use Rattle.layout_defs.specs.Layout.{Info, fixed, trailing, Layout, layoutCauses}
+use Rattle.layout_defs.specs.Extend.{isTrailing}
 use Rattle.cast_defs.specs.Cast.{prefix, Grant, castFor, countIn}
 
 -- whether a cast is granted with this split

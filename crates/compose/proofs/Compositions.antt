@@ -11,7 +11,7 @@ use lib.Seq.{drop-drop}
 use Rattle.util.specs.Refusal.{answered, refused}
 use Rattle.util.specs.Helpers.{alignCauses}
 use Rattle.util.proofs.Tables.{answer-is}
-use Rattle.layout.specs.Layout.{fixed, Layout}
+use Rattle.layout_defs.specs.Layout.{fixed, Layout}
 use Rattle.make.specs.Make.{asked, emptyLayout, newZstFor}
 use Rattle.padding_defs.specs.Pad.{padFor}
 use Rattle.record.specs.Record.{decodeFor}

@@ -6,9 +6,9 @@ use Prim.Native.Nat.{ℕ, zero, suc, _-_, _*_, _/_, _%_}
 use lib.Dec.{eqb}
 use lib.ListN.{length, take, drop}
 use Rattle.util.specs.Refusal.{Outcome, answered, refused}
-use Rattle.layout.specs.Layout.{Layout}
+use Rattle.layout_defs.specs.Layout.{Layout}
 use Rattle.make.specs.Make.{newZstFor}
-use Rattle.layout.specs.Extend.{extendFor}
+use Rattle.layout_defs.specs.Extend.{extendFor}
 use Rattle.padding_defs.specs.Pad.{padFor}
 use Rattle.record.specs.Record.{recordLength, decodeFor}
 

@@ -4,7 +4,7 @@ ghost use Rattle.util.specs.Refusal.{answered, None, Meets, unless};
 ghost use Rattle.util.specs.View.{numberSays};
 ghost use Rattle.trailing_defs.specs.Sequence.{sameSequence};
 ghost use Rattle.trailing.specs.View.{trailingOf};
-ghost use Rattle.layout.specs.Layout.{fixed, trailing, layoutCauses, FitsWidth};
+ghost use Rattle.layout_defs.specs.Layout.{fixed, trailing, layoutCauses, FitsWidth};
 ghost use Rattle.layout.specs.View.{infoOf, layoutOf};
 ghost use Rattle.convert_defs.specs.Reasons.{conversionCauses};
 ghost use Rattle.convert_defs.specs.Convert.{Params, paramsOf, byKinds};

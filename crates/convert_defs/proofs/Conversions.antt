@@ -11,8 +11,8 @@ use Rattle.util.proofs.Refusals.{known, tells-eq, tells-lt, meets, clear, answe
 use Rattle.util.proofs.Tables.{apart, decided-both, none-both, both-none}
 use Rattle.util.proofs.Rounding.{multiple, same-multiple}
 use Rattle.trailing_defs.specs.Size.{Trailing}
-use Rattle.layout.specs.Layout.{Info, fixed, trailing, Layout, layoutCauses}
-use Rattle.layout.proofs.Layouts.{layout-decided}
+use Rattle.layout_defs.specs.Layout.{Info, fixed, trailing, Layout, layoutCauses}
+use Rattle.layout_defs.proofs.Layouts.{layout-decided}
 use Rattle.cast_defs.specs.Exact.{exactFor}
 use Rattle.cast_defs.proofs.Exact.{exact-sound, exact-complete}
 use Rattle.shift_defs.specs.Match.{Comparison}

@@ -10,7 +10,7 @@ use Rattle.util.specs.Width.{M}
 use Rattle.util.specs.Refusal.{None}
 use Rattle.trailing_defs.specs.Size.{Trailing, A, p, sizeAt}
 use Rattle.trailing_defs.proofs.Sizes.{size-ge}
-use Rattle.layout.specs.Layout.{Info, Layout, sizeIn, layoutCauses, FitsWidth}
+use Rattle.layout_defs.specs.Layout.{Info, Layout, sizeIn, layoutCauses, FitsWidth}
 use Rattle.cast_defs.proofs.Grants.{align-pos}
 use Rattle.shift_defs.specs.Match.{Comparison, Sound, Matches}
 use Rattle.shift_defs.specs.Shift.{IsShift}

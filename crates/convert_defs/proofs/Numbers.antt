@@ -12,7 +12,7 @@ use Rattle.trailing_defs.specs.Size.{sizeWith}
 use Rattle.trailing_defs.specs.Count.{bytesWithin, countWithin}
 use Rattle.trailing_defs.specs.Sequence.{sameSequence}
 use Rattle.trailing_defs.specs.Calls.{advanced}
-use Rattle.layout.specs.Layout.{fixed, trailing, Layout}
+use Rattle.layout_defs.specs.Layout.{fixed, trailing, Layout}
 use Rattle.cast_defs.specs.Cast.{castFor}
 use Rattle.cast_defs.specs.Exact.{exactFor}
 use Rattle.shift_defs.specs.Match.{matchTest}

@@ -10,7 +10,7 @@ use Rattle.util.proofs.Refusals.{tells-eq, tells-lt, tells-not, tells-as}
 use Rattle.util.proofs.Tables.{apart}
 use Rattle.util.proofs.Rounding.{multiple}
 use Rattle.trailing_defs.specs.Size.{Trailing}
-use Rattle.layout.specs.Layout.{Info, fixed, trailing, Layout, layoutCauses}
+use Rattle.layout_defs.specs.Layout.{Info, fixed, trailing, Layout, layoutCauses}
 use Rattle.cast_defs.specs.Exact.{ExactCount, exactFor}
 use Rattle.cast_defs.proofs.Exact.{exact-sound, exact-complete}
 use Rattle.shift_defs.specs.Match.{Comparison}

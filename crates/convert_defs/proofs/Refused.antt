@@ -9,7 +9,7 @@ use native.Mathlib.Omega.{arith}
 use Rattle.util.specs.Refusal.{Outcome, answered, refused, First, Meets}
 use Rattle.util.proofs.Refusals.{answered-means, refused-means, no-number}
 use Rattle.util.proofs.Tables.{first-both, number-among}
-use Rattle.layout.specs.Layout.{Info, fixed, trailing, Layout, noWord, layoutCauses}
+use Rattle.layout_defs.specs.Layout.{Info, fixed, trailing, Layout, noWord, layoutCauses}
 use Rattle.shift_defs.specs.Match.{Comparison}
 use Rattle.convert_defs.specs.Reasons.{conversionCauses, firstReason, lastReason}
 use Rattle.convert_defs.specs.Convert.{Params, Converts, computeCauses, computeFor, NoConversion}

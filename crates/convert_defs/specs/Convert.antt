@@ -7,7 +7,7 @@ use lib.Dec.{ltb}
 use Rattle.util.specs.Width.{M}
 use Rattle.util.specs.Refusal.{Outcome, answered, refused, Cause, unless, None}
 use Rattle.trailing_defs.specs.Size.{Trailing}
-use Rattle.layout.specs.Layout.{Info, fixed, trailing, Layout, IsCount, sizeIn, layoutCauses}
+use Rattle.layout_defs.specs.Layout.{Info, fixed, trailing, Layout, IsCount, sizeIn, layoutCauses}
 use Rattle.cast_defs.specs.Cast.{IsElemZero}
 use Rattle.cast_defs.specs.Exact.{ExactCount, exactFor}
 use Rattle.shift_defs.specs.Match.{Comparison}

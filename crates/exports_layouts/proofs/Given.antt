@@ -3,7 +3,7 @@ use mathlib.Core.Path.{_≡_, sym, ap}
 use Prim.Native.Nat.{ℕ}
 use Rattle.util.specs.Refusal.{Outcome, refused}
 use Rattle.util.proofs.Tables.{told-by}
-use Rattle.layout.specs.Layout.{Layout}
+use Rattle.layout_defs.specs.Layout.{Layout}
 use Rattle.layout.specs.declared.DstLayout.{DstLayout}
 use Rattle.layout.specs.declared.LayoutAnswer.{LayoutAnswer}
 use Rattle.layout.specs.declared.LayoutAnswer.the-variants as Answer

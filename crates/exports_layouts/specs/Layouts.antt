@@ -1,7 +1,7 @@
 -- How layouts, records and member lists cross to C: a layout as the six words of its record. Assumes nothing.
 use Prim.Native.Nat.{ℕ}
 use Rattle.util.specs.Refusal.{Outcome, answered, refused}
-use Rattle.layout.specs.Layout.{Layout}
+use Rattle.layout_defs.specs.Layout.{Layout}
 use Rattle.record.specs.Record.{Words, wordsOf, wordsFor}
 use Rattle.compose.specs.Compose.{Composed, composed, refusedAt}
 use Rattle.exports_layouts.specs.declared.Layout as given

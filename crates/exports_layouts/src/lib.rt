@@ -3,7 +3,7 @@ ghost use mathlib.Core.Path.{_≡_};
 ghost use mathlib.Core.Bool.{true, false};
 ghost use lib.ListN.{length};
 ghost use Rattle.make.specs.Make.{newZstFor, typeFor, sliceFor};
-ghost use Rattle.layout.specs.Extend.{extendFor};
+ghost use Rattle.layout_defs.specs.Extend.{extendFor};
 ghost use Rattle.layout.specs.View.{layoutOf, layoutSays};
 ghost use Rattle.padding_defs.specs.Pad.{padFor, staticFor, dynamicFor};
 ghost use Rattle.record.specs.Record.{wordsFor, decodeFor, encodeWordsFor, encodedWordsInto};

@@ -10,7 +10,7 @@ use Rattle.util.proofs.Refusals.{clear}
 use Rattle.util.proofs.Tables.{both-none}
 use Rattle.trailing_defs.specs.Size.{A, p}
 use Rattle.trailing_defs.specs.Sequence.{sameSequence}
-use Rattle.layout.specs.Layout.{Info, fixed, trailing, Layout, IsCount, sizeIn, noWord, layoutCauses}
+use Rattle.layout_defs.specs.Layout.{Info, fixed, trailing, Layout, IsCount, sizeIn, noWord, layoutCauses}
 use Rattle.cast_defs.specs.Cast.{prefix, Grant, countIn, IsElemZero, bytesCauses, castCauses, castFor}
 use Rattle.cast_defs.proofs.Grants.{align-pos, greatest-in, cast-decided}
 use Rattle.cast_defs.proofs.Exact.{count-mono}

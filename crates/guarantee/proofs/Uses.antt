@@ -13,7 +13,7 @@ use Rattle.trailing_defs.specs.Size.{sizeWith}
 use Rattle.trailing_defs.specs.Count.{bytesWithin, countWithin}
 use Rattle.trailing_defs.specs.Sequence.{sameSequence}
 use Rattle.trailing_defs.specs.Calls.{advanced}
-use Rattle.layout.specs.Layout.{trailing, Layout, IsCount, sizeIn}
+use Rattle.layout_defs.specs.Layout.{trailing, Layout, IsCount, sizeIn}
 use Rattle.cast_defs.specs.Cast.{Greatest, Grant, countIn, castFor}
 use Rattle.cast_defs.specs.Exact.{exactFor}
 use Rattle.cast_defs.proofs.Grants.{greatest-in, one-greatest}

@@ -4,7 +4,7 @@ use mathlib.Core.Path.{_≡_}
 use Prim.Native.Nat.{ℕ, _+_, _%_, _≤_}
 use Rattle.util.specs.Width.{M}
 use Rattle.util.specs.Refusal.{Outcome, answered, refused, None}
-use Rattle.layout.specs.Layout.{Layout, IsCount, sizeIn, layoutCauses, FitsWidth}
+use Rattle.layout_defs.specs.Layout.{Layout, IsCount, sizeIn, layoutCauses, FitsWidth}
 use Rattle.cast_defs.specs.Cast.{prefix, Greatest, Grant, castFor}
 use Rattle.shift_defs.specs.Match.{Comparison}
 use Rattle.convert_defs.specs.Convert.{Params, Converts, computeFor, converted, metadataFor}

@@ -1,7 +1,7 @@
 -- What the types of this crate are, over numbers: document 01's number and values for each case of an answer. Assumes nothing.
 use Rattle.util.specs.Refusal.{Outcome, answered, refused}
 use Rattle.trailing.specs.View.{trailingOf}
-use Rattle.layout.specs.Layout.{Info, fixed, trailing, Layout}
+use Rattle.layout_defs.specs.Layout.{Info, fixed, trailing, Layout}
 use Rattle.layout.specs.declared.SizeInfo.{SizeInfo}
 use Rattle.layout.specs.declared.SizeInfo.the-variants.{Sized, SliceDst}
 use Rattle.layout.specs.declared.DstLayout.{DstLayout}

@@ -7,7 +7,7 @@ use Prim.Native.Nat.{ℕ, _%_}
 use lib.Dec.{eqb}
 use Rattle.util.specs.Refusal.{Outcome, Cause, unless}
 use Rattle.util.specs.Helpers.{badAlign, alignCauses}
-use Rattle.layout.specs.Layout.{Layout, fixed, trailing}
+use Rattle.layout_defs.specs.Layout.{Layout, fixed, trailing}
 
 -- an alignment parameter: 0 means that none was asked for, and the least is taken
 abbrev pub asked : ℕ → ℕ

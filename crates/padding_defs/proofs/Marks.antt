@@ -8,9 +8,9 @@ use Rattle.util.specs.Refusal.{answered, Tells, holds, fails, Meets}
 use Rattle.util.proofs.Refusals.{tells-eq, tells-lt, tells-not, tells-as, tells-or, meets, clear}
 use Rattle.rounding.specs.Word.{alignOf, wordCauses, alignFor}
 use Rattle.trailing_defs.specs.Size.{A, sizeAt}
-use Rattle.layout.specs.Layout.{Info, fixed, trailing, Layout, layoutCauses}
+use Rattle.layout_defs.specs.Layout.{Info, fixed, trailing, Layout, layoutCauses}
 use Rattle.padding_defs.specs.Pad.{staticFor, DynamicPadding, dynamicPadding, dynamicFor}
-use Rattle.layout.proofs.Layouts.{layout-decided}
+use Rattle.layout_defs.proofs.Layouts.{layout-decided}
 
 -- the mark turned round tells whether it is unset
 tells-unset : (b : Bool) → Tells (b ≡ false) (not b)

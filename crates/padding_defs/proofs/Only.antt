@@ -8,8 +8,8 @@ use Rattle.util.proofs.Refusals.{agree, tells-lt}
 use Rattle.util.proofs.Only.{one-multiple}
 use Rattle.rounding.proofs.Words.{same-word}
 use Rattle.trailing_defs.specs.Size.{Trailing, A}
-use Rattle.layout.specs.Layout.{Info, fixed, trailing, Layout}
-use Rattle.layout.proofs.Only.{one-place}
+use Rattle.layout_defs.specs.Layout.{Info, fixed, trailing, Layout}
+use Rattle.layout_defs.proofs.Only.{one-place}
 use Rattle.padding_defs.specs.Pad.{PaddedTo, PaddedInfo, KeepsMark, Padded}
 
 one-tail : {w a : ℕ} {t : Trailing} (u v : Trailing) → PaddedTo w a t u → PaddedTo w a t v → u ≡ v

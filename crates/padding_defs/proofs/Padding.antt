@@ -20,12 +20,12 @@ use Rattle.util.proofs.Helpers.{power}
 use Rattle.rounding.specs.Word.{IsWord}
 use Rattle.rounding.proofs.Words.{align-is, phase-is, align-power}
 use Rattle.trailing_defs.specs.Size.{Trailing, A, p, sizeWith, sizeAt}
-use Rattle.layout.specs.Layout.{Info, fixed, trailing, Layout, sizeIn, noWord, layoutCauses}
-use Rattle.layout.specs.Extend.{roundingPasses}
+use Rattle.layout_defs.specs.Layout.{Info, fixed, trailing, Layout, sizeIn, noWord, layoutCauses}
+use Rattle.layout_defs.specs.Extend.{roundingPasses}
 use Rattle.padding_defs.specs.Pad.{fixedPart, coarser, finer, paddedTail, paddedInfo, padded, paddingNeeds, paddedMark, padCauses, padFor, PaddedTo, PaddedInfo, KeepsMark, Padded}
 use Rattle.util.proofs.Tables.{decided-both, none-both}
-use Rattle.layout.proofs.Layouts.{layout-decided}
-use Rattle.layout.proofs.Passes.{least-place}
+use Rattle.layout_defs.proofs.Layouts.{layout-decided}
+use Rattle.layout_defs.proofs.Passes.{least-place}
 
 -- rounding up to A first changes nothing where A divides a
 pub up-up : (v A a : ℕ) → 0 < A → 0 < a → a % A ≡ 0 → up (up v A) a ≡ up v a

@@ -14,7 +14,7 @@ use Rattle.util.proofs.Powers.{positive}
 use Rattle.util.proofs.Rounding.{down-multiple, down-le, up-multiple, up-whole}
 use Rattle.util.proofs.Helpers.{power}
 use Rattle.trailing_defs.specs.Size.{Trailing, A}
-use Rattle.layout.specs.Layout.{Info, fixed, trailing, Layout, noWord}
+use Rattle.layout_defs.specs.Layout.{Info, fixed, trailing, Layout, noWord}
 use Rattle.padding_defs.specs.Pad.{fixedPart, coarser, finer, paddedTail, paddedInfo, paddedMark, padded, paddingNeeds, padCauses, padFor}
 use Rattle.util.proofs.Tables.{answer-is, accepted-none}
 use Rattle.padding_defs.proofs.Padding.{coarser-align, pad-decided}

@@ -11,8 +11,8 @@ use Rattle.util.specs.Round.{up, down, GreatestMultiple}
 use Rattle.util.specs.Refusal.{Outcome, Cause, unless, Tells}
 use Rattle.rounding.specs.Word.{IsWord}
 use Rattle.trailing_defs.specs.Size.{Trailing, A, p, sizeAt, HasSize}
-use Rattle.layout.specs.Layout.{Info, fixed, trailing, Layout, IsCount, sizeIn, layoutCauses}
-use Rattle.layout.specs.Extend.{roundingPasses, LeastPlace}
+use Rattle.layout_defs.specs.Layout.{Info, fixed, trailing, Layout, IsCount, sizeIn, layoutCauses}
+use Rattle.layout_defs.specs.Extend.{roundingPasses, LeastPlace}
 
 -- a trailing layout under an alignment a above A: f = up(b, A) + p, new base down(f, a), new word a + (f mod a)
 abbrev pub fixedPart : ℕ → Trailing → ℕ

@@ -2,7 +2,7 @@
 use mathlib.Core.Path.{_≡_, refl, sym, ap, _∙_}
 use mathlib.Core.Bool.{Bool, true, false}
 use Prim.Native.Nat.{ℕ}
-use Rattle.layout.specs.Layout.{Info, fixed, trailing, Layout}
+use Rattle.layout_defs.specs.Layout.{Info, fixed, trailing, Layout}
 use Rattle.record.specs.Record.{Words, wordsOf, wordsLayout, Decodes}
 
 -- the layout of a layout's words is that layout

@@ -12,7 +12,7 @@ use Rattle.util.specs.Refusal.{Cause, Outcome, answered, refused, unless, Tells
 use Rattle.util.proofs.Refusals.{known, tells-eq, tells-le, tells-lt, tells-not, tells-and, meets}
 use Rattle.util.proofs.Helpers.{align-decided}
 use Rattle.trailing_defs.specs.Size.{Trailing}
-use Rattle.layout.specs.Layout.{fixed, trailing, Layout, checkFor}
+use Rattle.layout_defs.specs.Layout.{fixed, trailing, Layout, checkFor}
 use Rattle.words.specs.Bytes.{bytesOf, wordAt, wordBytes, putInto}
 use Rattle.words.proofs.LittleEndian.{sets-whole, word-length, put-within, put-next, more}
 use Rattle.record.specs.Record.{Words, wordsAt, recordBytes, wordsOf, wordsLayout, laterWord, trailingWordZero, wordsCauses, recordCauses, wordsFor, decodeFor, Decodes, infoWords, writeFor, after, writtenInto, encodeFor}

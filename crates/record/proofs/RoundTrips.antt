@@ -12,7 +12,7 @@ use Rattle.util.specs.Refusal.{Outcome, answered, refused, unless}
 use Rattle.util.proofs.Refusals.{no, known, tells-eq, tells-lt, tells-not}
 use Rattle.util.proofs.Tables.{apart, answer-is, accepted-as}
 use Rattle.util.specs.Helpers.{badAlign}
-use Rattle.layout.specs.Layout.{Info, fixed, trailing, Layout, layoutCauses, checkFor}
+use Rattle.layout_defs.specs.Layout.{Info, fixed, trailing, Layout, layoutCauses, checkFor}
 use Rattle.words.specs.Bytes.{bytesOf, wordAt}
 use Rattle.words.proofs.LittleEndian.{value-bytes, AllBytes, word-back}
 use Rattle.record.specs.Record.{Words, wordsAt, recordBytes, wordsOf, wordsLayout, laterWord, wordsCauses, badLength, wordsFor, decodeFor, encodeFor, after, encodedInto, encodeWordsFor, writeFor}

@@ -7,7 +7,7 @@ use lib.Dec.{eqb, leb, ltb}
 use lib.ListN.{length}
 use Rattle.util.specs.Refusal.{Outcome, answered, refused, Cause, unless}
 use Rattle.util.specs.Helpers.{badAlign}
-use Rattle.layout.specs.Layout.{Info, fixed, trailing, Layout, layoutCauses}
+use Rattle.layout_defs.specs.Layout.{Info, fixed, trailing, Layout, layoutCauses}
 use Rattle.words.specs.Bytes.{wordLength, wordAt, wordBytes}
 
 -- the six words of a record: alignment, kind, size or base, o, e, rounding word

@@ -6,7 +6,7 @@ use Prim.Native.Nat.{ℕ, _<_}
 use lib.Dec.{ltb}
 use lib.ListN.{getD}
 use Rattle.util.specs.Refusal.{Outcome, Cause, unless}
-use Rattle.layout.specs.Layout.{Layout}
+use Rattle.layout_defs.specs.Layout.{Layout}
 use Rattle.make.specs.Make.{typeLayout}
 
 -- a target: the sizes and the alignments of the scalars 0 u8, 1 u16, 2 u32, 3 u64, 4 f32, 5 f64, 6 char, 7 bool, 8 usize

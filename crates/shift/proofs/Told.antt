@@ -7,7 +7,7 @@ use Rattle.util.specs.Refusal.{answered, None}
 use Rattle.util.proofs.Refusals.{clear}
 use Rattle.util.proofs.Tables.{told-by, apart, both-none}
 use Rattle.trailing_defs.specs.Size.{Trailing}
-use Rattle.layout.specs.Layout.{Info, trailing, Layout, layoutCauses}
+use Rattle.layout_defs.specs.Layout.{Info, trailing, Layout, layoutCauses}
 use Rattle.shift_defs.specs.Match.{Comparison}
 use Rattle.shift_defs.specs.Shift.{shiftOf, shiftBetween, shiftCauses, shiftFor}
 use Rattle.shift.specs.View.{shiftIn, shiftSays}

@@ -7,7 +7,7 @@ ghost use Rattle.util.specs.View.{decisionSays};
 ghost use Rattle.trailing_defs.specs.Sequence.{sameSequence};
 ghost use Rattle.trailing_defs.specs.Calls.{sameCauses};
 ghost use Rattle.trailing.specs.View.{trailingOf};
-ghost use Rattle.layout.specs.Layout.{noWord};
+ghost use Rattle.layout_defs.specs.Layout.{noWord};
 ghost use Rattle.layout.specs.View.{infoOf, layoutOf};
 ghost use Rattle.shift_defs.specs.Match.{matchTest, matchFor, FoundMatch};
 ghost use Rattle.shift_defs.specs.Shift.{byOffset, bySize, matchedShift, shiftOf, shiftBetween, shiftCauses, shiftFor};

@@ -13,8 +13,8 @@ use Rattle.util.proofs.Refusals.{told-true, tells-eq, tells-le, tells-and, meet
 use Rattle.util.proofs.Tables.{decided-both, none-both}
 use Rattle.util.proofs.Rounding.{multiple, same-multiple}
 use Rattle.trailing_defs.specs.Size.{Trailing, sizeAt, HasSize, sizeOffset}
-use Rattle.layout.specs.Layout.{Info, fixed, trailing, Layout, layoutCauses}
-use Rattle.layout.proofs.Layouts.{layout-decided}
+use Rattle.layout_defs.specs.Layout.{Info, fixed, trailing, Layout, layoutCauses}
+use Rattle.layout_defs.proofs.Layouts.{layout-decided}
 use Rattle.cast_defs.specs.Exact.{ExactCount, exactFor}
 use Rattle.cast_defs.proofs.Exact.{exact-sound, exact-complete}
 use Rattle.shift_defs.specs.Match.{Comparison, Matches}

@@ -8,7 +8,7 @@ use lib.Dec.{eqb, leb}
 use Rattle.util.specs.Width.{M}
 use Rattle.util.specs.Refusal.{Outcome, answered, refused, Cause, unless}
 use Rattle.trailing_defs.specs.Size.{Trailing, sizeAt, HasSize, sizeOffset}
-use Rattle.layout.specs.Layout.{Info, fixed, trailing, Layout, layoutCauses}
+use Rattle.layout_defs.specs.Layout.{Info, fixed, trailing, Layout, layoutCauses}
 use Rattle.cast_defs.specs.Exact.{ExactCount, exactFor}
 use Rattle.shift_defs.specs.Match.{Comparison, Matches, matchTest}
 

@@ -11,7 +11,7 @@ use Rattle.rounding.specs.Word.{Components, componentsFor}
 use Rattle.trailing_defs.specs.Size.{Trailing, sizeAt}
 use Rattle.trailing_defs.specs.Sequence.{sameSequence}
 use Rattle.trailing_defs.specs.Calls.{paddingForElems, sizeFor, sameFor}
-use Rattle.layout.specs.Layout.{Layout, fixed, trailing}
+use Rattle.layout_defs.specs.Layout.{Layout, fixed, trailing}
 use Rattle.cast_defs.specs.Cast.{Side, prefix, suffix, Grant, castFor}
 use Rattle.shift_defs.specs.Shift.{Shift, by, missing, byOffset, matchedShift}
 use Rattle.convert_defs.specs.Convert.{Params, sizedToSized, sizedToUnsized, unsizedToUnsized, computeFor, metadataFor}

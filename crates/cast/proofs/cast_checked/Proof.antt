@@ -15,7 +15,7 @@ use Rattle.util.proofs.Powers.{positive}
 use Rattle.util.proofs.Masks.{mask-mod}
 use Rattle.util.proofs.Helpers.{power}
 use Rattle.trailing.specs.View.{trailingOf}
-use Rattle.layout.specs.Layout.{fixed, trailing, noWord}
+use Rattle.layout_defs.specs.Layout.{fixed, trailing, noWord}
 use Rattle.layout.specs.declared.SizeInfo.{SizeInfo}
 use Rattle.layout.specs.View.{infoOf, layoutOf}
 use Rattle.cast_defs.specs.Cast.{Grant, elemZero, prefix, testedAddress, splitAt, isElemZero, tooSmall, bytesCauses, greatestGrant}

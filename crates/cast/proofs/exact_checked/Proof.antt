@@ -1,6 +1,6 @@
 -- `cast::exact_checked` meets its contract. Assumes nothing.
 use mathlib.Core.Path.{sym, ap, subst}
-use Rattle.layout.specs.Extend.{IsTrailing, isTrailing}
+use Rattle.layout_defs.specs.Extend.{IsTrailing, isTrailing}
 use Rattle.layout.specs.declared.SizeInfo.{SizeInfo}
 use Rattle.layout.specs.View.{infoOf, layoutOf}
 use Rattle.cast.proofs.Told.{exact-fixed}

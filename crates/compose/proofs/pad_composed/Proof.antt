@@ -2,7 +2,7 @@
 use mathlib.Core.Path.{sym, ap}
 use Rattle.util.specs.Refusal.{Outcome}
 use Rattle.util.proofs.Tables.{told-by}
-use Rattle.layout.specs.Layout.{Layout}
+use Rattle.layout_defs.specs.Layout.{Layout}
 use Rattle.layout.specs.View.{layoutSays}
 use Rattle.compose.specs.Compose.{composed, andThen}
 use borrow.Author.Needs.{needs}

@@ -4,7 +4,7 @@ use borrow.Author.Tests.{eq-eqb, ne-eqb}
 use Rattle.util.specs.View.{numberSays}
 use Rattle.util.proofs.Tables.{told-by}
 use Rattle.trailing_defs.specs.Sequence.{sameSequence}
-use Rattle.layout.specs.Layout.{fixed}
+use Rattle.layout_defs.specs.Layout.{fixed}
 use Rattle.layout.specs.declared.SizeInfo.{SizeInfo}
 use Rattle.layout.specs.View.{infoOf, layoutOf}
 use Rattle.convert_defs.specs.Convert.{Params, withCount, byKinds}

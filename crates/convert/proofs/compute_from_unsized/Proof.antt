@@ -2,7 +2,7 @@
 use mathlib.Core.Path.{sym, ap, _∙_}
 use Rattle.trailing_defs.specs.Sequence.{sameSequence}
 use Rattle.trailing.specs.View.{trailingOf}
-use Rattle.layout.specs.Layout.{trailing}
+use Rattle.layout_defs.specs.Layout.{trailing}
 use Rattle.layout.specs.declared.SizeInfo.{SizeInfo}
 use Rattle.layout.specs.View.{infoOf, layoutOf}
 use Rattle.convert_defs.specs.Convert.{byKinds}

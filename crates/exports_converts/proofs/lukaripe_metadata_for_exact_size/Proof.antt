@@ -1,6 +1,6 @@
 -- `exports_converts::lukaripe_metadata_for_exact_size` meets its contract. Assumes nothing.
 use mathlib.Core.Path.{ap, _∙_}
-use Rattle.layout.specs.Layout.{Layout}
+use Rattle.layout_defs.specs.Layout.{Layout}
 use Rattle.cast_defs.specs.Exact.{exactFor}
 use Rattle.exports_numbers.specs.Numbers.{numberOut}
 use Rattle.exports_layouts.proofs.Given.{with-layout, with-refused}

@@ -1,6 +1,6 @@
 -- `exports_converts::lukaripe_try_compute` meets its contract. Assumes nothing.
 use mathlib.Core.Path.{ap, _∙_}
-use Rattle.layout.specs.Layout.{Layout}
+use Rattle.layout_defs.specs.Layout.{Layout}
 use Rattle.layout.specs.View.{layoutOf}
 use Rattle.trailing_defs.specs.Sequence.{sameSequence}
 use Rattle.convert_defs.specs.Convert.{computeFor}

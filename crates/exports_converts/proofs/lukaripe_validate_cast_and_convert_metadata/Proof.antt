@@ -1,6 +1,6 @@
 -- `exports_converts::lukaripe_validate_cast_and_convert_metadata` meets its contract. Assumes nothing.
 use mathlib.Core.Path.{ap, _∙_}
-use Rattle.layout.specs.Layout.{Layout}
+use Rattle.layout_defs.specs.Layout.{Layout}
 use Rattle.cast_defs.specs.Cast.{Side, castFor}
 use Rattle.layout.specs.View.{layoutOf}
 use Rattle.exports_converts.specs.Converts.{castOut, sideGiven}

@@ -2,7 +2,7 @@
 use mathlib.Core.Path.{ap, _∙_}
 use Rattle.util.specs.Refusal.{Outcome, answered}
 use Rattle.trailing_defs.specs.Sequence.{sameSequence}
-use Rattle.layout.specs.Layout.{Layout}
+use Rattle.layout_defs.specs.Layout.{Layout}
 use Rattle.layout.specs.View.{layoutOf}
 use Rattle.guarantee.specs.Demand.{Answers, answersOf}
 use Rattle.exports_layouts.specs.Layouts.{withLayout}

@@ -1,8 +1,8 @@
 -- `exports_layouts::lukaripe_extend` meets its contract. Assumes nothing.
 use mathlib.Core.Path.{ap, _∙_}
-use Rattle.layout.specs.Layout.{Layout}
+use Rattle.layout_defs.specs.Layout.{Layout}
 use Rattle.layout.specs.View.{layoutOf}
-use Rattle.layout.specs.Extend.{extendFor}
+use Rattle.layout_defs.specs.Extend.{extendFor}
 use Rattle.exports_layouts.specs.Layouts.{layoutOut, withLayout}
 use Rattle.exports_layouts.proofs.Given.{with-layout, with-refused}
 use borrow.Author.Needs.{needs}

@@ -1,6 +1,6 @@
 -- `exports_layouts::lukaripe_pad_to_align` meets its contract. Assumes nothing.
 use mathlib.Core.Path.{ap, _∙_}
-use Rattle.layout.specs.Layout.{Layout}
+use Rattle.layout_defs.specs.Layout.{Layout}
 use Rattle.padding_defs.specs.Pad.{padFor}
 use Rattle.exports_layouts.specs.Layouts.{layoutOut}
 use Rattle.exports_layouts.proofs.Given.{with-layout, with-refused}

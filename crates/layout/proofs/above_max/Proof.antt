@@ -1,6 +1,6 @@
 -- `layout::above_max` meets its contract. Assumes nothing.
 use borrow.Author.Tests.{le-ltb, lt-ltb}
-use Rattle.layout.specs.Extend.{greatestAlign}
+use Rattle.layout_defs.specs.Extend.{greatestAlign}
 use Rattle.layout.proofs.above_max.Statement.{statement}
 use Rattle.layout.proofs.above_max.Tie as tie
 

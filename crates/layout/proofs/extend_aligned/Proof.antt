@@ -3,10 +3,10 @@ use mathlib.Core.Path.{ap, _∙_}
 use native.Mathlib.Omega.{arith}
 use Rattle.util.specs.Round.{up}
 use Rattle.util.specs.Refusal.{refused}
-use Rattle.layout.specs.Extend.{extended}
+use Rattle.layout_defs.specs.Extend.{extended}
 use Rattle.layout.specs.View.{layoutOf}
-use Rattle.layout.proofs.Passes.{up-told, up-refused, round-power}
-use Rattle.layout.proofs.Steps.{step-placed, step-past}
+use Rattle.layout_defs.proofs.Passes.{up-told, up-refused, round-power}
+use Rattle.layout_defs.proofs.Steps.{step-placed, step-past}
 use borrow.Author.Needs.{needs}
 use Rattle.layout.proofs.extend_aligned.Statement.{statement}
 use Rattle.layout.proofs.extend_aligned.Tie as tie

@@ -2,7 +2,7 @@
 use mathlib.Core.Path.{sym, _∙_}
 use mathlib.Core.List.{[], _∷_}
 use Rattle.util.specs.Refusal.{answered}
-use Rattle.layout.specs.Extend.{placedAt, memberPasses}
+use Rattle.layout_defs.specs.Extend.{placedAt, memberPasses}
 use Rattle.layout.specs.View.{layoutOf, infoSays}
 use Rattle.util.proofs.Tables.{told-by, answer-is, accepted-as, refused-as}
 use borrow.Author.Needs.{needs}

@@ -4,7 +4,7 @@ use Rattle.util.specs.Power.{PowerOfTwo}
 use Rattle.util.specs.Refusal.{unless}
 use Rattle.util.proofs.Refusals.{no, tells-not}
 use Rattle.util.proofs.Told.{number-told, number-kept}
-use Rattle.layout.proofs.Steps.{tells-packing, member-power}
+use Rattle.layout_defs.proofs.Steps.{tells-packing, member-power}
 use borrow.Author.Needs.{needs}
 use Rattle.layout.proofs.extend_checked.Statement.{statement}
 use Rattle.layout.proofs.extend_checked.Tie as tie

@@ -4,10 +4,10 @@ use native.Mathlib.Omega.{arith}
 use Rattle.util.proofs.Refusals.{told, yes}
 use Rattle.util.proofs.Helpers.{power}
 use Rattle.util.proofs.Tables.{told-by, accepted-none}
-use Rattle.layout.specs.Layout.{layoutCauses, checkFor}
+use Rattle.layout_defs.specs.Layout.{layoutCauses, checkFor}
 use Rattle.layout.specs.View.{layoutOf, sizedOf, checkSays}
-use Rattle.layout.proofs.Layouts.{layout-decided, fixed-accepted, fixed-refused}
-use Rattle.layout.proofs.Steps.{extend-meets, extend-own, extend-member, extend-step}
+use Rattle.layout_defs.proofs.Layouts.{layout-decided, fixed-accepted, fixed-refused}
+use Rattle.layout_defs.proofs.Steps.{extend-meets, extend-own, extend-member, extend-step}
 use borrow.Author.Needs.{needs}
 use Rattle.layout.proofs.extend_sized.Statement.{statement}
 use Rattle.layout.proofs.extend_sized.Tie as tie

@@ -2,7 +2,7 @@
 use mathlib.Core.Path.{_∙_}
 use borrow.Author.Tests.{eq-eqb, ne-eqb}
 use Rattle.util.proofs.Helpers.{min-answered}
-use Rattle.layout.proofs.Steps.{packing-power}
+use Rattle.layout_defs.proofs.Steps.{packing-power}
 use borrow.Author.Needs.{needs}
 use Rattle.layout.proofs.packed_align.Statement.{statement}
 use Rattle.layout.proofs.packed_align.Tie as tie

@@ -16,8 +16,8 @@ use Rattle.util.proofs.Powers.{positive}
 use Rattle.util.proofs.Rounding.{up-padding}
 use Rattle.util.proofs.Helpers.{power, align-decided, padding-answered}
 use Rattle.util.proofs.Told.{number-told}
-use Rattle.layout.proofs.Passes.{within, past, round-meets, round-power}
-use Rattle.layout.specs.Extend.{roundingPasses, roundUpFor}
+use Rattle.layout_defs.proofs.Passes.{within, past, round-meets, round-power}
+use Rattle.layout_defs.specs.Extend.{roundingPasses, roundUpFor}
 use borrow.Author.Needs.{needs}
 use Rattle.layout.proofs.round_up.Statement.{statement}
 use Rattle.layout.proofs.round_up.Tie as tie

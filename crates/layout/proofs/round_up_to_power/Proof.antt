@@ -6,7 +6,7 @@ use Rattle.util.specs.Round.{up}
 use Rattle.util.specs.Refusal.{answered}
 use Rattle.util.proofs.Powers.{positive}
 use Rattle.util.proofs.Rounding.{up-padding}
-use Rattle.layout.proofs.Passes.{within, past, round-power}
+use Rattle.layout_defs.proofs.Passes.{within, past, round-power}
 use borrow.Author.Needs.{needs}
 use Rattle.layout.proofs.round_up_to_power.Statement.{statement}
 use Rattle.layout.proofs.round_up_to_power.Tie as tie

@@ -1,7 +1,7 @@
 -- `padding::dynamic_padding` meets its contract. Assumes nothing.
 use mathlib.Core.Path.{subst}
 use native.Mathlib.Omega.{arith}
-use Rattle.layout.specs.Layout.{noWord}
+use Rattle.layout_defs.specs.Layout.{noWord}
 use Rattle.layout.specs.View.{infoOf}
 use Rattle.layout.specs.declared.SizeInfo.{SizeInfo}
 use Rattle.layout.specs.declared.SizeInfo.the-variants.{SliceDst}

@@ -11,12 +11,12 @@ use Rattle.util.specs.View.{numberSays}
 use Rattle.util.proofs.Helpers.{power}
 use Rattle.util.proofs.Tables.{told-by, answer-is, accepted-as, refused-as}
 use Rattle.trailing.specs.View.{trailingOf}
-use Rattle.layout.specs.Layout.{Info, Layout, fixed, trailing, noWord}
-use Rattle.layout.specs.Extend.{roundingPasses}
+use Rattle.layout_defs.specs.Layout.{Info, Layout, fixed, trailing, noWord}
+use Rattle.layout_defs.specs.Extend.{roundingPasses}
 use Rattle.layout.specs.View.{infoOf, infoSays}
 use Rattle.layout.specs.declared.SizeInfo.{SizeInfo}
 use Rattle.layout.specs.declared.SizeInfo.the-variants.{SliceDst}
-use Rattle.layout.proofs.Passes.{round-power}
+use Rattle.layout_defs.proofs.Passes.{round-power}
 use Rattle.padding_defs.specs.Pad.{paddedInfo, paddedMark, paddedTail, padded, paddingNeeds}
 use borrow.Author.Needs.{needs}
 use Rattle.padding.proofs.pad_checked.Statement.{statement}

@@ -9,9 +9,9 @@ use Rattle.util.proofs.Powers.{positive, double}
 use Rattle.util.proofs.Masks.{mask-mod, mask-down}
 use Rattle.rounding.proofs.Words.{align-is, phase-is}
 use Rattle.trailing.specs.View.{trailingOf}
-use Rattle.layout.specs.Layout.{trailing}
+use Rattle.layout_defs.specs.Layout.{trailing}
 use Rattle.padding_defs.specs.Pad.{fixedPart, coarser}
-use Rattle.layout.proofs.Passes.{within, past, up-told, up-refused, round-power}
+use Rattle.layout_defs.proofs.Passes.{within, past, up-told, up-refused, round-power}
 use borrow.Author.Needs.{needs}
 use Rattle.padding.proofs.pad_coarser.Statement.{statement}
 use Rattle.padding.proofs.pad_coarser.Tie as tie

@@ -6,10 +6,10 @@ use Rattle.util.specs.Round.{up}
 use Rattle.util.specs.Refusal.{answered}
 use Rattle.util.specs.View.{numberSays}
 use Rattle.trailing.specs.View.{trailingOf}
-use Rattle.layout.specs.Layout.{trailing}
-use Rattle.layout.specs.Extend.{roundingPasses}
+use Rattle.layout_defs.specs.Layout.{trailing}
+use Rattle.layout_defs.specs.Extend.{roundingPasses}
 use Rattle.padding_defs.specs.Pad.{finer}
-use Rattle.layout.proofs.Passes.{round-power}
+use Rattle.layout_defs.proofs.Passes.{round-power}
 use Rattle.util.proofs.Tables.{told-by, answer-is, accepted-as, refused-as}
 use borrow.Author.Needs.{needs}
 use Rattle.padding.proofs.pad_finer.Statement.{statement}

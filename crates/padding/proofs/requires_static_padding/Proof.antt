@@ -3,7 +3,7 @@ use mathlib.Core.Path.{sym}
 use mathlib.Core.Bool.{not}
 use native.Mathlib.Omega.{arith}
 use Rattle.util.proofs.Refusals.{told}
-use Rattle.layout.specs.Layout.{layoutCauses, checkFor}
+use Rattle.layout_defs.specs.Layout.{layoutCauses, checkFor}
 use Rattle.padding_defs.specs.Pad.{staticFor}
 use Rattle.layout.specs.View.{layoutOf, checkSays}
 use Rattle.util.proofs.Tables.{told-by, accepted-as, refused-as}

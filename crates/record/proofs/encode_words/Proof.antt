@@ -4,7 +4,7 @@ use Prim.Native.Nat.{ℕ}
 use lib.Seq.{sets}
 use Rattle.util.specs.Refusal.{Outcome, answered, unless}
 use Rattle.util.proofs.Tables.{told-by, accepted-as, refused-as}
-use Rattle.layout.specs.Layout.{Layout}
+use Rattle.layout_defs.specs.Layout.{Layout}
 use Rattle.layout.specs.View.{layoutSays}
 use Rattle.record.specs.Record.{Words, recordBytes, wordsLayout, wordsCauses, wordsFor, encodeWordsFor}
 use Rattle.record.specs.View.{wordsIn}

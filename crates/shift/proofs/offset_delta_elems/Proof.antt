@@ -7,9 +7,9 @@ use Rattle.util.specs.Refusal.{answered}
 use Rattle.util.proofs.Refusals.{told}
 use Rattle.util.proofs.Tables.{told-by, refused-as, accepted-as, refused-first, accepted-first, accepted-none}
 use Rattle.trailing_defs.specs.Sequence.{sameSequence}
-use Rattle.layout.specs.Layout.{layoutCauses, checkFor}
+use Rattle.layout_defs.specs.Layout.{layoutCauses, checkFor}
 use Rattle.layout.specs.View.{layoutOf, checkSays}
-use Rattle.layout.proofs.Layouts.{layout-decided}
+use Rattle.layout_defs.proofs.Layouts.{layout-decided}
 use Rattle.shift_defs.specs.Shift.{shiftBetween, shiftFor}
 use Rattle.shift_defs.proofs.Shifts.{shift-meets}
 use borrow.Author.Needs.{needs}

@@ -3,9 +3,9 @@ use mathlib.Core.Path.{_≡_, sym, _∙_}
 use Rattle.util.specs.Refusal.{refused, unless}
 use Rattle.util.proofs.Refusals.{told-true}
 use Rattle.util.proofs.Tables.{told-by}
-use Rattle.layout.specs.Extend.{extended, stepCauses}
+use Rattle.layout_defs.specs.Extend.{extended, stepCauses}
 use Rattle.layout.specs.View.{layoutOf, checkSays}
-use Rattle.layout.proofs.Steps.{tells-trailing, extend-own, extend-member, extend-step}
+use Rattle.layout_defs.proofs.Steps.{tells-trailing, extend-own, extend-member, extend-step}
 use borrow.Author.Needs.{needs}
 use Rattle.layout.proofs.DstLayout.after_trailing.Statement.{statement}
 use Rattle.layout.proofs.DstLayout.after_trailing.Tie as tie

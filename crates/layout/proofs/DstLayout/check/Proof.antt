@@ -4,10 +4,10 @@ use native.Mathlib.Omega.{arith}
 use borrow.Author.Tests.{eq-eqb, ne-eqb}
 use Rattle.util.specs.Refusal.{unless}
 use Rattle.util.proofs.Refusals.{told}
-use Rattle.layout.specs.Layout.{WordFits, checkFor}
+use Rattle.layout_defs.specs.Layout.{WordFits, checkFor}
 use Rattle.layout.specs.declared.SizeInfo.{SizeInfo}
 use Rattle.layout.specs.View.{infoOf, layoutOf}
-use Rattle.layout.proofs.Layouts.{check-meets, check-refused}
+use Rattle.layout_defs.proofs.Layouts.{check-meets, check-refused}
 use borrow.Author.Needs.{needs}
 use Rattle.layout.proofs.DstLayout.check.Statement.{statement}
 use Rattle.layout.proofs.DstLayout.check.Tie as tie

@@ -2,10 +2,10 @@
 use mathlib.Core.Path.{sym, subst}
 use native.Mathlib.Omega.{arith}
 use Rattle.util.proofs.Refusals.{told}
-use Rattle.layout.specs.Extend.{IsTrailing}
+use Rattle.layout_defs.specs.Extend.{IsTrailing}
 use Rattle.layout.specs.View.{infoOf, layoutOf}
 use Rattle.layout.specs.declared.SizeInfo.{SizeInfo}
-use Rattle.layout.proofs.Steps.{extend-meets}
+use Rattle.layout_defs.proofs.Steps.{extend-meets}
 use borrow.Author.Needs.{needs}
 use Rattle.layout.proofs.DstLayout.extend.Statement.{statement}
 use Rattle.layout.proofs.DstLayout.extend.Tie as tie

@@ -11,7 +11,7 @@ use Rattle.util.specs.Power.{PowerOfTwo, powerOfTwo}
 use Rattle.util.specs.Round.{up}
 use Rattle.util.specs.Refusal.{Outcome, Cause, unless, Tells}
 use Rattle.util.specs.Helpers.{badAlign, Larger}
-use Rattle.layout.specs.Layout.{Info, fixed, trailing, Layout, layoutCauses}
+use Rattle.layout_defs.specs.Layout.{Info, fixed, trailing, Layout, layoutCauses}
 
 -- a member's alignment: the smaller of its own and the packing; packing 0 means that none was asked for
 abbrev pub memberAlign : ℕ → ℕ → ℕ

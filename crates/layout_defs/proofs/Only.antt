@@ -6,8 +6,8 @@ use native.Mathlib.Omega.{arith}
 use Rattle.util.specs.Refusal.{Tells}
 use Rattle.util.proofs.Refusals.{agree}
 use Rattle.util.proofs.Only.{one-larger}
-use Rattle.layout.specs.Layout.{fixed, Layout}
-use Rattle.layout.specs.Extend.{memberAlign, placedAt, LeastPlace, Extended}
+use Rattle.layout_defs.specs.Layout.{fixed, Layout}
+use Rattle.layout_defs.specs.Extend.{memberAlign, placedAt, LeastPlace, Extended}
 
 pub one-place : {s a q r : ℕ} → LeastPlace s a q → LeastPlace s a r → q ≡ r
 one-place {s} {a} {q} {r} g h = omega (arith, g .least r (h .after) (h .aligned), h .least q (g .after) (g .aligned))

@@ -4,12 +4,9 @@ use mathlib.Core.Bool.{Bool, true, false}
 use Prim.Native.Nat.{ℕ, _^_, _<_}
 use Rattle.util.specs.Power.{powerOfTwo}
 use Rattle.util.specs.Refusal.{Outcome, answered, refused, unless, Tells, fails, Meets, refuses, Decided}
-use Rattle.util.proofs.Refusals.{tells-eq, meets, answered-means, refused-means}
+use Rattle.util.proofs.Refusals.{tells-eq, meets, refused-means}
 use Rattle.util.proofs.Helpers.{align-decided}
-use Rattle.layout.specs.declared.Check.{Check}
-use Rattle.layout.specs.declared.Check.the-variants as Check
-use Rattle.layout.specs.View.{checkSays}
-use Rattle.layout.specs.Layout.{Info, fixed, trailing, Layout, noWord, layoutCauses, FitsWidth, checkFor}
+use Rattle.layout_defs.specs.Layout.{Info, fixed, trailing, Layout, noWord, layoutCauses, FitsWidth, checkFor}
 
 -- a fixed layout has no rounding word; that of a trailing one is tested
 pub word-decided : (i : Info) → Tells (noWord i .means) (noWord i .test)
@@ -30,10 +27,6 @@ check-refused {k} w l h e = (e, refuses (refused-means m))
   where
     m : Meets (layoutCauses w l) (λ (_ : Unit {0}). Unit {0}) (refused k)
     m = subst (λ (o : Outcome (Unit {0})). Meets (layoutCauses w l) (λ (_ : Unit {0}). Unit {0}) o) (sym e) (meets (layoutCauses w l) tt (layout-decided w l h) (λ _. tt))
-
--- the numbers of a layout that passed its check are held
-pub held-accepted : {w : ℕ} {l : Layout} (r : Check) → Meets (layoutCauses w l) (λ _. FitsWidth w l) (checkSays r) → r ≡ Check.Accepted → FitsWidth w l
-held-accepted {w} {l} r m e = answered-means (subst (λ (x : Check). Meets (layoutCauses w l) (λ _. FitsWidth w l) (checkSays x)) e m) .1
 
 -- a fixed layout is accepted exactly when its alignment is a power of two
 pub fixed-accepted : (w a s : ℕ) (mark : Bool) → powerOfTwo w a ≡ true → checkFor w (record { align = a; info = fixed s; mark = mark }) ≡ answered tt

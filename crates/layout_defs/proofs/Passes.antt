@@ -17,7 +17,7 @@ use Rattle.util.proofs.Refusals.{tells-lt, meets, clear}
 use Rattle.util.proofs.Powers.{positive}
 use Rattle.util.proofs.Rounding.{up-multiple, up-ge, up-least}
 use Rattle.util.proofs.Helpers.{power, align-decided}
-use Rattle.layout.specs.Extend.{roundingPasses, LeastPlace, roundUpCauses, roundUpFor}
+use Rattle.layout_defs.specs.Extend.{roundingPasses, LeastPlace, roundUpCauses, roundUpFor}
 use Rattle.util.proofs.Tables.{apart, accepted-first}
 
 -- a number that is at most M is not refused; one above M is, by 8

@@ -6,7 +6,7 @@ use mathlib.Core.Logic.{_⊎_, inl, inr}
 use Prim.Native.Nat.{ℕ, _+_, _^_, _≤_, _<_, max, min}
 use native.Mathlib.Nat.{min-eq-left, min-eq-right, min-le-left, le-of-lt}
 use native.Mathlib.Omega.{arith}
-use lib.Dec.{eqb, leb}
+use lib.Dec.{eqb, leb, ltb}
 use borrow.Author.Tests.{leb-true, leb-false, le-ltb, lt-ltb}
 use Rattle.util.specs.Width.{M}
 use Rattle.util.specs.Power.{PowerOfTwo, powerOfTwo}
@@ -16,11 +16,11 @@ use Rattle.util.specs.Helpers.{Larger, alignsCauses}
 use Rattle.util.proofs.Refusals.{known, tells-true, tells-eq, tells-lt, tells-not, tells-and, tells-or, meets, answered-means}
 use Rattle.util.proofs.Powers.{positive, tells-power}
 use Rattle.util.proofs.Helpers.{power, max-meets, max-answered}
-use Rattle.layout.specs.Layout.{Info, fixed, trailing, Layout, layoutCauses, checkFor}
-use Rattle.layout.specs.Extend.{memberAlign, placeOf, extended, badPacking, greatestAlign, IsTrailing, isTrailing, MemberPastM, isMemberPastM, memberPasses, placeCauses, stepCauses, extendCauses, extendFor, Extended}
+use Rattle.layout_defs.specs.Layout.{Info, fixed, trailing, Layout, layoutCauses, checkFor}
+use Rattle.layout_defs.specs.Extend.{memberAlign, placeOf, extended, badPacking, greatestAlign, IsTrailing, isTrailing, MemberPastM, isMemberPastM, memberPasses, placeCauses, stepCauses, extendCauses, extendFor, Extended}
 use Rattle.util.proofs.Tables.{decided-both, none-both, refused-first, accepted-first}
-use Rattle.layout.proofs.Layouts.{layout-decided}
-use Rattle.layout.proofs.Passes.{least-place}
+use Rattle.layout_defs.proofs.Layouts.{layout-decided}
+use Rattle.layout_defs.proofs.Passes.{least-place}
 
 -- the smaller of two powers is a power
 pub min-power : {a b : ℕ} → PowerOfTwo a → PowerOfTwo b → PowerOfTwo (min a b)
@@ -79,6 +79,16 @@ step-decided w l m packing h = (
     ),
   ),
 )
+
+-- 6 is of a member's own alignment, whatever the packing leaves of it
+pub step-above : (w : ℕ) (l m : Layout) (packing : ℕ) → badPacking w packing .test ≡ false → greatestAlign < m .align
+    → refused 6 ≡ unless (stepCauses w l m packing) (extended l m packing)
+unfolding unless
+step-above w l m packing e h = go (ltb greatestAlign (l .align)) refl
+  where
+    go : (b : Bool) → ltb greatestAlign (l .align) ≡ b → refused 6 ≡ unless (stepCauses w l m packing) (extended l m packing)
+    go true g = simp (e, g)
+    go false g = simp (e, g, lt-ltb greatestAlign (m .align) h)
 
 pub extend-decided : (w : ℕ) (l m : Layout) (packing : ℕ) → l .align < 2 ^ w → m .align < 2 ^ w → packing < 2 ^ w → Decided (extendCauses w l m packing)
 extend-decided w l m packing hl hm hp =
