@@ -26,7 +26,7 @@ fn member_step(l: DstLayout, repr_packed: u64, member: &[u8]) -> LayoutAnswer
     ensures { λ r. ⌜ layoutSays r ≡ memberStep 64 «repr_packed» (layoutOf l) (decodeFor 64 (now (member .entry))) ⌝ }
 {
     match record::decode(member) {
-        LayoutAnswer::Layout(field) => l.extend(field, repr_packed),
+        LayoutAnswer::Layout(field) => extend::extend(l, field, repr_packed),
         LayoutAnswer::Refused(number) => LayoutAnswer::Refused(number),
     }
 }
@@ -36,7 +36,7 @@ fn sized_step(own: SizedLayout, repr_packed: u64, member: &[u8]) -> LayoutAnswer
     ensures { λ r. ⌜ layoutSays r ≡ memberStep 64 «repr_packed» (sizedOf own) (decodeFor 64 (now (member .entry))) ⌝ }
 {
     match record::decode(member) {
-        LayoutAnswer::Layout(field) => layout::extend_sized(own, field, repr_packed),
+        LayoutAnswer::Layout(field) => extend::extend_sized(own, field, repr_packed),
         LayoutAnswer::Refused(number) => LayoutAnswer::Refused(number),
     }
 }

@@ -69,7 +69,7 @@ fn with_member(l: DstLayout, m: DstLayout, repr_packed: u64) -> LayoutAnswer
 {
     let size_info = l.size_info;
     match size_info {
-        SizeInfo::Sized { size } => layout::extend_sized(
+        SizeInfo::Sized { size } => extend::extend_sized(
             SizedLayout {
                 align: l.align,
                 size,
@@ -78,7 +78,7 @@ fn with_member(l: DstLayout, m: DstLayout, repr_packed: u64) -> LayoutAnswer
             m,
             repr_packed,
         ),
-        SizeInfo::SliceDst(tail) => LayoutAnswer::Refused(layout::extend_trailing(
+        SizeInfo::SliceDst(tail) => LayoutAnswer::Refused(extend::extend_trailing(
             l.align,
             tail,
             l.statically_shallow_unpadded,

@@ -110,7 +110,7 @@ fn print_second(zero: u64, word: u64, word_then_zero: u64, zero_then_word: u64) 
 }
 
 fn extended(l: DstLayout, field: DstLayout) -> u64 {
-    of_layout(l.extend(field, 0))
+    of_layout(extend::extend(l, field, 0))
 }
 
 fn computed(src: DstLayout, dst: DstLayout) -> u64 {
