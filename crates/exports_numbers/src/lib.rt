@@ -250,7 +250,7 @@ pub extern "C" fn lukaripe_size_for_elems(layout: Trailing, elems: u64) -> Numbe
 pub extern "C" fn lukaripe_advance(layout: Trailing, bytes: u64, elem_size: u64) -> TrailingAnswer
     ensures { λ r. ⌜ r ≡ trailingOut (advanceFor 64 (trailingIn layout) bytes «elem_size») ⌝ }
 {
-    trailing_out(trailing_in(layout).advance(bytes, elem_size))
+    trailing_out(advance::advance(trailing_in(layout), bytes, elem_size))
 }
 
 // Whether two layouts are found to have the same size at every count.

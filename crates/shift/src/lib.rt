@@ -44,7 +44,7 @@ fn sequences_match(src: TrailingSliceLayout, dst: TrailingSliceLayout, dst_base:
     let Product::Fits(base_bytes) = util::checked_mul(dst_base, dst.elem_size) else {
         return false;
     };
-    let AdvanceAnswer::Layout(shifted_dst) = dst.advance(base_bytes, src.elem_size) else {
+    let AdvanceAnswer::Layout(shifted_dst) = advance::advance(dst, base_bytes, src.elem_size) else {
         return false;
     };
     match sequence::has_same_size_sequence(src, shifted_dst) {

@@ -8,9 +8,9 @@ ghost use Rattle.util.specs.Refusal.{answered, Meets};
 ghost use Rattle.util.specs.View.{numberSays};
 ghost use Rattle.rounding.specs.Word.{IsWord, wordCauses};
 ghost use Rattle.trailing_defs.specs.Calls.{sizeOffsetFor, GreatestIn, SizeOffset, maxTrailingCauses, maxTrailingFor};
-ghost use Rattle.trailing_defs.specs.Calls.{paddingForElems, PaddingAt, sizeCauses, sizeFor, advanceCauses, advanceFor, Advanced};
+ghost use Rattle.trailing_defs.specs.Calls.{paddingForElems, PaddingAt, sizeCauses, sizeFor};
 ghost use Rattle.trailing_defs.specs.Size.{sizeAt, HasSize};
-ghost use Rattle.trailing.specs.View.{trailingOf, sizeSays, advanceSays};
+ghost use Rattle.trailing.specs.View.{trailingOf, sizeSays};
 use rounding::ComponentsAnswer;
 use rounding::RoundingAlignAndPhase;
 use util::Answer;
@@ -200,44 +200,6 @@ impl TrailingSliceLayout {
                 self.size_for_elems_at(align, phase, elems)
             }
             ComponentsAnswer::Refused(number) => SizeAnswer::Refused(number),
-        }
-    }
-
-    fn advance_at(self, align: u64, phase: u64, bytes: u64, elem: u64) -> AdvanceAnswer
-        requires { ⌜ IsWord (self .«size_rounding_align_and_phase» .0) align phase ⌝ }
-        ensures { λ r. ⌜ advanceSays r ≡ advanceFor 64 (trailingOf self) bytes elem ⌝ }
-    {
-        let align_mask = align - 1;
-        let phase_capacity = u64::MAX - (self.size_base & !align_mask);
-        // The base rounded down and the phase fit, so this does not go below 0.
-        let max_advance = phase_capacity - phase;
-        if bytes > max_advance {
-            return AdvanceAnswer::Refused(refusal::ADVANCE_PASSES_MAX);
-        }
-        let advanced_phase = phase + bytes;
-        let normalized_phase = advanced_phase & align_mask;
-        let whole_bytes = advanced_phase & !align_mask;
-        AdvanceAnswer::Layout(TrailingSliceLayout {
-            offset: self.offset,
-            elem_size: elem,
-            size_base: self.size_base + whole_bytes,
-            size_rounding_align_and_phase: RoundingAlignAndPhase(align + normalized_phase),
-        })
-    }
-
-    // The layout advanced by bytes, with another element size: its sizes are the old ones with that many bytes more.
-    pub fn advance(self, bytes: u64, elem_size: u64) -> AdvanceAnswer
-        ensures answer { λ r. ⌜ advanceSays r ≡ advanceFor 64 (trailingOf self) bytes «elem_size» ⌝ }
-        ensures meaning { λ r. ⌜
-            Meets (advanceCauses 64 (trailingOf self) bytes) (Advanced 64 (trailingOf self) bytes «elem_size») (advanceSays r)
-            ⌝ }
-    {
-        let word = self.size_rounding_align_and_phase;
-        match word.components() {
-            ComponentsAnswer::Components { align, phase } => {
-                self.advance_at(align, phase, bytes, elem_size)
-            }
-            ComponentsAnswer::Refused(number) => AdvanceAnswer::Refused(number),
         }
     }
 }

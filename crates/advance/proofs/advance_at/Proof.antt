@@ -1,4 +1,4 @@
--- `trailing::TrailingSliceLayout::advance_at` meets its contract. Assumes nothing.
+-- `advance::advance_at` meets its contract. Assumes nothing.
 use mathlib.Core.Path.{_≡_, sym, ap₂, _∙_}
 use Prim.Native.Nat.{ℕ, _+_, _-_, _^_, _<_}
 use lib.Bits.{bitAnd}
@@ -9,15 +9,15 @@ use Rattle.util.specs.Refusal.{answered}
 use Rattle.util.proofs.Powers.{positive, double}
 use Rattle.util.proofs.Masks.{mask-mod, mask-down}
 use Rattle.util.proofs.Rounding.{down-le}
 use Rattle.trailing.specs.View.{trailingOf}
 use Rattle.trailing_defs.proofs.Sizes.{offset-fits, advance-fits}
 use Rattle.trailing_defs.proofs.Calls.{advance-refused, advance-answered}
-use Rattle.trailing.proofs.TrailingSliceLayout.advance_at.Statement.{statement}
-use Rattle.trailing.proofs.TrailingSliceLayout.advance_at.Tie as tie
+use Rattle.advance.proofs.advance_at.Statement.{statement}
+use Rattle.advance.proofs.advance_at.Tie as tie
 
 -- the base, and the phase with the bytes, rounded down by the mask
-based : (k : tie.Start) → bitAnd (k .args .self .«size_base») (2 ^ 64 - 1 - (k .args .align - 1)) ≡ down (k .args .self .«size_base») (k .args .align)
-based k = mask-down 64 (k .args .self .«size_base») (k .pre .power) (k .fits .align .fits) (omega arith)
+based : (k : tie.Start) → bitAnd (k .args .tail .«size_base») (2 ^ 64 - 1 - (k .args .align - 1)) ≡ down (k .args .tail .«size_base») (k .args .align)
+based k = mask-down 64 (k .args .tail .«size_base») (k .pre .power) (k .fits .align .fits) (omega arith)
 
 moved : (k : tie.Start) → k .args .phase + k .args .bytes < 2 ^ 64
     → bitAnd (k .args .phase + k .args .bytes) (2 ^ 64 - 1 - (k .args .align - 1)) ≡ down (k .args .phase + k .args .bytes) (k .args .align)
@@ -27,17 +27,17 @@ sub-align-mask : tie.Need-sub-align-mask
 sub-align-mask c = positive (c .pre .power)
 
 sub-phase-capacity : tie.Need-sub-phase-capacity
-sub-phase-capacity c = let k = c .before in omega (arith, based k, down-le (k .args .self .«size_base») (k .args .align))
+sub-phase-capacity c = let k = c .before in omega (arith, based k, down-le (k .args .tail .«size_base») (k .args .align))
 
 sub-max-advance : tie.Need-sub-max-advance
 sub-max-advance c =
     let k = c .before in
-    omega (arith, based k, offset-fits 64 (k .args .self .«size_base») (k .pre .power) (k .fits .align .fits) (omega arith) (k .pre .below))
+    omega (arith, based k, offset-fits 64 (k .args .tail .«size_base») (k .pre .power) (k .fits .align .fits) (omega arith) (k .pre .below))
 
 returns : tie.Need-returns
 returns c =
     let k = c .before .before in
-    sym (advance-refused 64 (trailingOf (k .args .self)) (k .args .bytes) (k .args .elem) (k .pre) (omega arith) (omega (arith, based k)))
+    sym (advance-refused 64 (trailingOf (k .args .tail)) (k .args .bytes) (k .args .elem) (k .pre) (omega arith) (omega (arith, based k)))
 
 add-advanced-phase : tie.Need-add-advanced-phase
 add-advanced-phase c = let k = c .before .before in omega (arith, based k)
@@ -45,7 +45,7 @@ add-advanced-phase c = let k = c .before .before in omega (arith, based k)
 add-t13 : tie.Need-add-t13
 add-t13 c =
     let k = c .before .before .before in
-    omega (arith, moved k (omega (arith, based k)), advance-fits 64 (k .args .self .«size_base») (k .args .phase) (k .args .bytes) (k .pre .power) (k .fits .align .fits) (omega (arith, based k, offset-fits 64 (k .args .self .«size_base») (k .pre .power) (k .fits .align .fits) (omega arith) (k .pre .below))))
+    omega (arith, moved k (omega (arith, based k)), advance-fits 64 (k .args .tail .«size_base») (k .args .phase) (k .args .bytes) (k .pre .power) (k .fits .align .fits) (omega (arith, based k, offset-fits 64 (k .args .tail .«size_base») (k .pre .power) (k .fits .align .fits) (omega arith) (k .pre .below))))
 
 add-t12 : tie.Need-add-t12
 add-t12 c =
@@ -55,10 +55,10 @@ add-t12 c =
 returns-2 : tie.Need-returns-2
 returns-2 c =
     let k = c .before .before .before in
-    let t = trailingOf (k .args .self) in
+    let t = trailingOf (k .args .tail) in
     let f : k .args .phase + k .args .bytes < 2 ^ 64 = omega (arith, based k) in
     ap₂ (λ (b m : ℕ). answered (record { offset = t .offset; elem = k .args .elem; base = t .base + b; word = k .args .align + m })) (moved k f) (mask-mod (k .args .phase + k .args .bytes) (k .pre .power))
-    ∙ sym (advance-answered 64 t (k .args .bytes) (k .args .elem) (k .pre) (omega arith) (omega (arith, based k, offset-fits 64 (k .args .self .«size_base») (k .pre .power) (k .fits .align .fits) (omega arith) (k .pre .below))))
+    ∙ sym (advance-answered 64 t (k .args .bytes) (k .args .elem) (k .pre) (omega arith) (omega (arith, based k, offset-fits 64 (k .args .tail .«size_base») (k .pre .power) (k .fits .align .fits) (omega arith) (k .pre .below))))
 
 pub advance-at-spec : {M : Type 1} → statement M
 advance-at-spec =
