@@ -9,7 +9,7 @@ use Rattle.rounding.proofs.Told.{align-told, align-refused}
 use Rattle.trailing_defs.specs.Size.{A, p, sizeAt}
 use Rattle.trailing.specs.View.{trailingOf}
 use Rattle.trailing_defs.proofs.Sizes.{size-mono}
-use Rattle.trailing.proofs.Told.{room-told, room-refused}
+use Rattle.trailing_defs.proofs.Told.{room-told, room-refused}
 use Rattle.cast_defs.proofs.Grants.{align-pos}
 use borrow.Author.Needs.{needs}
 use Rattle.cast.proofs.fit_trailing.Statement.{statement}

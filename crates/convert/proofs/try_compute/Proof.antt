@@ -8,7 +8,8 @@ use Rattle.util.proofs.Tables.{told-by, apart, refused-first, accepted-first, a
 use Rattle.trailing_defs.specs.Sequence.{sameSequence}
 use Rattle.layout_defs.specs.Layout.{layoutCauses, checkFor}
 use Rattle.layout.specs.View.{layoutOf, checkSays}
-use Rattle.layout_defs.proofs.Layouts.{layout-decided, held-accepted}
+use Rattle.layout_defs.proofs.Layouts.{layout-decided}
+use Rattle.layout.proofs.Told.{held-accepted}
 use Rattle.convert_defs.specs.Convert.{paramsOf, computeFor}
 use Rattle.convert_defs.specs.Reasons.{conversionCauses}
 use Rattle.convert_defs.proofs.Conversions.{compute-meets}
