@@ -27,6 +27,12 @@ int main(void) {
                padding.value);
     }
 
+    /* Refused a size, the program learns the most that it may ask for. */
+    lukaripe_number size = lukaripe_size_for_elems(record, UINT64_MAX);
+    if (size.refusal != LUKARIPE_REFUSED_NO_SIZE)
+        return refused("size_for_elems", size.refusal);
+    printf("%s; the greatest count that has one is %" PRIu64 "\n", lukaripe_refusal_text(size.refusal), size.value);
+
     for (uint64_t bytes = 11; bytes <= 15; bytes += 4) {
         lukaripe_number room = lukaripe_max_trailing_bytes(record, bytes);
         if (room.refusal == LUKARIPE_REFUSED_NO_ROOM)

@@ -79,7 +79,8 @@ enum {
     LUKARIPE_REFUSED_TARGET_ELEM_SIZE_ZERO = 29,
     LUKARIPE_REFUSED_SOURCE_ELEM_SMALLER = 30,
     LUKARIPE_REFUSED_ELEM_NO_MULTIPLE = 31,
-    LUKARIPE_REFUSED_NO_SHIFT = 32
+    LUKARIPE_REFUSED_NO_SHIFT = 32,
+    LUKARIPE_REFUSED_NO_SIZE_AT_ZERO = 39
 };
 
 /* The cause of a refusal in words. "accepted" for 0, and "unknown refusal" for a number that this version does not have. */
@@ -147,6 +148,8 @@ static inline const char *lukaripe_refusal_text(uint64_t refusal) {
         return "the size of the source's elements is no whole multiple of the target's";
     case LUKARIPE_REFUSED_NO_SHIFT:
         return "no shift lines the sizes of source and target up";
+    case LUKARIPE_REFUSED_NO_SIZE_AT_ZERO:
+        return "the size without elements overflows";
     default:
         return "unknown refusal";
     }
@@ -216,7 +219,8 @@ LUKARIPE_USE_RESULT lukaripe_number lukaripe_max_trailing_bytes(lukaripe_trailin
 /* The size at elems less where the elements end, modulo 2^64, whether or not there is a size. Refusals: 2. */
 LUKARIPE_USE_RESULT lukaripe_number lukaripe_padding_for_elems(lukaripe_trailing layout, uint64_t elems);
 
-/* The size at elems. Refusals: 2, 15. */
+/* The size at elems. Refusals: 2; 39, where not even 0 elements have a size; 15, beside which the value is the greatest count
+ * that has one, and 0 beside the others. */
 LUKARIPE_USE_RESULT lukaripe_number lukaripe_size_for_elems(lukaripe_trailing layout, uint64_t elems);
 
 /* The layout whose sizes are these with so many bytes more before the rounding, and with another element size.

@@ -40,7 +40,11 @@ pub const ROUNDING: &[Spoil] = &[(1, |c| c.align = 0), (1, |c| c.align *= 3), (3
 pub const TAIL: &[Spoil] = &[(2, |c| c.tail.0[3] = 0)];
 pub const TAILS: &[Spoil] = &[(2, |c| c.tail.0[3] = 0), (2, |c| c.other_tail.0[3] = 0)];
 pub const ROOM: &[Spoil] = &[(2, |c| c.tail.0[3] = 0), (16, |c| c.len = c.tail.0[0] - 1)];
-pub const COUNT: &[Spoil] = &[(2, |c| c.tail.0[3] = 0), (15, |c| c.count = u64::MAX)];
+pub const COUNT: &[Spoil] = &[
+    (2, |c| c.tail.0[3] = 0),
+    (15, |c| c.count = u64::MAX),
+    (39, |c| c.tail.0 = [u64::MAX, c.tail.0[1], c.tail.0[2], 3]),
+];
 pub const ADVANCE: &[Spoil] = &[
     (2, |c| c.tail.0[3] = 0),
     (17, |c| {

@@ -147,6 +147,19 @@ macro_rules! functions {
     };
 }
 
+/// With 15 comes the greatest count that has a size.
+pub extern "C" fn size_for_elems(layout: Trailing, elems: u64) -> Told<1> {
+    let layout = match tail(layout) {
+        Ok(layout) => layout,
+        Err(refusal) => return told(Err(refusal)),
+    };
+    match (layout.size_for_elems(elems as usize), layout.max_trailing_bytes(usize::MAX)) {
+        (Some(size), _) => told(Ok([size as u64])),
+        (None, Some(bytes)) => Told { refusal: 15, values: [(bytes / layout.elem_size) as u64] },
+        (None, None) => told(Err(39)),
+    }
+}
+
 functions! {
     padding_needed_for(len: u64, align: u64) -> 1 {
         number(util::padding_needed_for(len as usize, alignment(align)?))
@@ -175,7 +188,6 @@ functions! {
         number_or(tail(layout)?.max_trailing_bytes(len as usize), 16)
     }
     padding_for_elems(layout: Trailing, elems: u64) -> 1 { number(tail(layout)?.padding_for_elems(elems as usize)) }
-    size_for_elems(layout: Trailing, elems: u64) -> 1 { number_or(tail(layout)?.size_for_elems(elems as usize), 15) }
     advance(layout: Trailing, bytes: u64, elem_size: u64) -> 4 {
         tail(layout)?.advance(bytes as usize, elem_size as usize).map(trailing_numbers).ok_or(17)
     }

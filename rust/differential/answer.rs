@@ -6,8 +6,8 @@ use crate::exports::{Carried, Told};
 const MOST: usize = 12;
 
 /// The refusal number, 0 where there is none, and the numbers of the answer. Those not used are 0, and on a refusal all
-/// of them but a list's place and the other answers of a chain, so that a refusal that hands back anything is a
-/// difference.
+/// of them but a list's place, the count that comes with 15 and the other answers of a chain, so that a refusal that
+/// hands back anything else is a difference.
 #[derive(Clone, Copy, PartialEq, Eq)]
 pub struct Answer {
     pub refusal: u64,
@@ -29,6 +29,11 @@ impl Answer {
 
     pub fn refused(refusal: u64) -> Answer {
         Answer::new(refusal, [])
+    }
+
+    /// A refusal that a number comes with.
+    pub fn refused_with(refusal: u64, value: u64) -> Answer {
+        Answer::new(refusal, [value])
     }
 
     /// A refusal of a list.

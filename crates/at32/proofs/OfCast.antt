@@ -70,9 +70,6 @@ address-next = Order.address-next 32
 pub align-next : (l : Layout) (side : Side) (addr len : ℕ) → l .align < 2 ^ 32 → None (layoutCauses 32 l) → (IsElemZero (l .info) → ⊥) → (M 32 < addr + len → ⊥) → (testedAddress side addr len % l .align ≡ 0 → ⊥) → castFor 32 l side addr len ≡ refused 12
 align-next = Order.align-next 32
 
-pub count-mono : (t : Trailing) (m n : ℕ) → 0 < A 32 t → m ≤ n → sizeAt 32 t m ≤ sizeAt 32 t n
-count-mono = Exact.count-mono 32
-
 pub exact-greatest : {t : Trailing} {s n : ℕ} → 0 < A 32 t → ExactCount 32 t s n → GreatestCount 32 t s n
 exact-greatest {t} {s} {n} = Exact.exact-greatest {w = 32} {t = t} {s = s} {n = n}
 

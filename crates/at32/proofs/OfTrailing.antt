@@ -1,6 +1,6 @@
 -- The laws of `trailing_defs` and `trailing` at 32 bits: each holds at any width. Assumes nothing.
 use mathlib.Core.Path.{_≡_}
-use Prim.Native.Nat.{ℕ, _+_, _-_, _*_, _%_, _^_, _≤_, _<_}
+use Prim.Native.Nat.{ℕ, _/_, _+_, _-_, _*_, _%_, _^_, _≤_, _<_}
 use lib.Bits.{bitAnd}
 use Rattle.util.specs.Power.{PowerOfTwo}
 use Rattle.util.specs.Round.{down, padding, up}
@@ -22,6 +22,13 @@ use Rattle.trailing.specs.declared.SizeAnswer.{SizeAnswer}
 use Rattle.trailing.specs.declared.SizeAnswer.the-variants as Size
 use Rattle.trailing_defs.proofs.Sizes as Sizes
 use Rattle.trailing_defs.proofs.Sequences as Sequences
+use Rattle.trailing_defs.specs.Sized.{SizeOutcome, sized, noneAbove, refusedBy, sizeGiven, Most, SizeMeans}
+use Rattle.trailing_defs.specs.Count.{countWithin}
+use Rattle.trailing.proofs.SizeAnswer.{the-type}
+use denote.Enum.Declared.{tagOf}
+use types.Run.{OneOf}
+use mathlib.Core.List.{[], _∷_}
+use Rattle.trailing_defs.proofs.Sized as Sized
 use Rattle.trailing_defs.proofs.Calls as Calls
 use Rattle.trailing_defs.proofs.Told as Rooms
 use Rattle.trailing.proofs.Told as Told
@@ -92,14 +99,42 @@ padding-meets = Calls.padding-meets 32
 pub padding-answered : (t : Trailing) (n r : ℕ) → 0 < t .word → PaddingAt 32 t n r → paddingForElems 32 t n ≡ answered r
 padding-answered = Calls.padding-answered 32
 
-pub size-meets : (t : Trailing) (n : ℕ) → t .word < 2 ^ 32 → Meets (sizeCauses 32 t n) (λ s. s ≡ sizeAt 32 t n) (sizeFor 32 t n)
-size-meets = Calls.size-meets 32
+pub size-meets : (t : Trailing) (n : ℕ) → Meets (sizeCauses 32 t n) (λ s. s ≡ sizeAt 32 t n) (sizeFor 32 t n)
+size-meets = Sized.size-meets 32
 
-pub size-answered : (t : Trailing) (n : ℕ) → 0 < t .word → HasSize 32 t n → sizeFor 32 t n ≡ answered (sizeAt 32 t n)
-size-answered = Calls.size-answered 32
+pub given-zero : (t : Trailing) (n : ℕ) → t .word ≡ 0 → sizeGiven 32 t n ≡ refusedBy 2
+given-zero = Sized.given-zero 32
 
-pub size-refused : (t : Trailing) (n : ℕ) → 0 < t .word → M 32 < sizeAt 32 t n → sizeFor 32 t n ≡ refused 15
-size-refused = Calls.size-refused 32
+pub given-none : (t : Trailing) (n : ℕ) → 0 < t .word → M 32 < sizeAt 32 t 0 → sizeGiven 32 t n ≡ refusedBy 39
+given-none = Sized.given-none 32
+
+pub given-above : (t : Trailing) (n : ℕ) → 0 < t .word → HasSize 32 t 0 → M 32 < sizeAt 32 t n → sizeGiven 32 t n ≡ noneAbove (countWithin 32 t (M 32))
+given-above = Sized.given-above 32
+
+pub given-size : (t : Trailing) (n : ℕ) → 0 < t .word → t .word < 2 ^ 32 → HasSize 32 t n → sizeGiven 32 t n ≡ sized (sizeAt 32 t n)
+given-size = Sized.given-size 32
+
+pub elem-some : (t : Trailing) (n : ℕ) → HasSize 32 t 0 → M 32 < sizeAt 32 t n → 0 < t .elem
+elem-some = Sized.elem-some 32
+
+pub most : (t : Trailing) (n : ℕ) → 0 < t .word → t .word < 2 ^ 32 → HasSize 32 t 0 → M 32 < sizeAt 32 t n → Most 32 t n (countWithin 32 t (M 32))
+most = Sized.most 32
+
+pub size-means : (t : Trailing) (n : ℕ) → t .word < 2 ^ 32 → SizeMeans 32 t n (sizeGiven 32 t n)
+size-means = Sized.size-means 32
+
+pub one-size : (t : Trailing) (n : ℕ) (a b : SizeOutcome) → SizeMeans 32 t n a → SizeMeans 32 t n b → a ≡ b
+one-size = Sized.one-size 32
+
+pub elem-zero-never : (t : Trailing) (n g : ℕ) → t .elem ≡ 0 → SizeMeans 32 t n (noneAbove g) → ⊥
+elem-zero-never = Sized.elem-zero-never 32
+
+pub above-told : {m : ℕ} (t : Trailing) (n : ℕ) (r : Answer) → 0 < t .word → t .word < 2 ^ 32 → numberSays r ≡ maxTrailingFor 32 t (M 32) → r ≡ Answer.Number m
+    → M 32 < sizeAt 32 t n → (0 < t .elem) × (noneAbove (m / t .elem) ≡ sizeGiven 32 t n)
+above-told = Rooms.above-told 32
+
+pub count-mono : (t : Trailing) (m n : ℕ) → 0 < A 32 t → m ≤ n → sizeAt 32 t m ≤ sizeAt 32 t n
+count-mono = Sizes.count-mono 32
 
 pub advanced-word : (t : Trailing) (y e : ℕ) → 0 < t .word → t .word < 2 ^ 32 → IsWord (advanced 32 t y e .word) (A 32 t) ((p 32 t + y) % A 32 t)
 advanced-word = Calls.advanced-word 32
@@ -137,11 +172,12 @@ room-told {m} = Rooms.room-told {m = m} 32
 pub room-refused : {k : ℕ} (t : Trailing) (L : ℕ) (r : Answer) → 0 < t .word → t .word < 2 ^ 32 → numberSays r ≡ maxTrailingFor 32 t L → r ≡ Answer.Refused k → (x : ℕ) → sizeWith (t .base) (A 32 t) (p 32 t) x ≤ L → ⊥
 room-refused {k} = Rooms.room-refused {k = k} 32
 
-pub size-told : {s : ℕ} (t : Trailing) (n : ℕ) (r : SizeAnswer) → t .word < 2 ^ 32 → sizeSays r ≡ sizeFor 32 t n → r ≡ Size.Size s → HasSize 32 t n × (s ≡ sizeAt 32 t n)
-size-told {s} = Told.size-told {s = s} 32
+pub size-told : {s : ℕ} (t : Trailing) (n : ℕ) (r : SizeAnswer) → SizeMeans 32 t n (sizeSays r) → r ≡ Size.Size s → HasSize 32 t n × (s ≡ sizeAt 32 t n)
+size-told = Told.size-told 32
 
-pub size-missing : {k : ℕ} (t : Trailing) (n : ℕ) (r : SizeAnswer) → 0 < t .word → t .word < 2 ^ 32 → sizeSays r ≡ sizeFor 32 t n → r ≡ Size.Refused k → M 32 < sizeAt 32 t n
-size-missing {k} = Told.size-missing {k = k} 32
+pub size-not : (t : Trailing) (n : ℕ) (r : SizeAnswer) → 0 < t .word → t .word < 2 ^ 32 → SizeMeans 32 t n (sizeSays r)
+    → OneOf (1 ∷ 2 ∷ []) (tagOf the-type r) → M 32 < sizeAt 32 t n
+size-not = Told.size-not 32
 
 pub advance-told : {m : TrailingSliceLayout} (t : Trailing) (y e : ℕ) (r : AdvanceAnswer) → advanceSays r ≡ advanceFor 32 t y e → r ≡ Advance.Layout m → (trailingOf m ≡ advanced 32 t y e) × (sizeOffset 32 t + y ≤ M 32)
 advance-told {m} = Told.advance-told {m = m} 32

@@ -3,24 +3,20 @@ use mathlib.Core.Path.{_≡_, sym, ap, _∙_, subst}
 use mathlib.Core.Bool.{Bool}
 use mathlib.Core.List.{[], _∷_}
 use mathlib.Core.Logic.{inl, inr}
-use Prim.Native.Nat.{ℕ, _*_, _^_, _≤_, _<_}
-use native.Mathlib.Nat.{zero-mod, mul-le-mul-right}
+use Prim.Native.Nat.{ℕ, _^_, _≤_, _<_}
+use native.Mathlib.Nat.{zero-mod}
 use native.Mathlib.Omega.{arith}
 use Rattle.util.specs.Refusal.{Outcome, answered, Tells, holds, fails, None, First, Meets, answers, refuses}
 use Rattle.util.proofs.Refusals.{known, answered-means, tells-eq, tells-le, tells-not, tells-as, meets, clear}
 use Rattle.util.proofs.Tables.{none-both, both-none, decided-both}
-use Rattle.trailing_defs.specs.Size.{Trailing, A, p, sizeAt}
+use Rattle.trailing_defs.specs.Size.{Trailing, A, sizeAt}
 use Rattle.trailing_defs.specs.Count.{GreatestCount, countWithin}
-use Rattle.trailing_defs.proofs.Sizes.{size-mono, greatest-count, one-count}
+use Rattle.trailing_defs.proofs.Sizes.{greatest-count, one-count, count-mono}
 use Rattle.layout_defs.specs.Layout.{Info, fixed, trailing, Layout, noWord, layoutCauses}
 use Rattle.layout_defs.proofs.Layouts.{layout-decided}
 use Rattle.cast_defs.specs.Cast.{prefix, castCauses, Grant, GrantMeans, countIn}
 use Rattle.cast_defs.specs.Exact.{splitIs, hasExact, ExactCount, ExactIn, noExact, exactCauses, exactFor}
 use Rattle.cast_defs.proofs.Grants.{align-pos, cast-meets}
-
--- sizes grow with the count
-pub count-mono : (w : ℕ) (t : Trailing) (m n : ℕ) → 0 < A w t → m ≤ n → sizeAt w t m ≤ sizeAt w t n
-count-mono w t m n h l = size-mono (t .base) (A w t) (p w t) (m * t .elem) (n * t .elem) h (mul-le-mul-right (t .elem) l)
 
 -- the exact count of s is the greatest count within s
 pub exact-greatest : {w : ℕ} {t : Trailing} {s n : ℕ} → 0 < A w t → ExactCount w t s n → GreatestCount w t s n

@@ -1,10 +1,12 @@
--- How an outcome crosses to C: the refusal number first, 0 where there is none, and what was answered, 0 where it was refused.
+-- How an outcome crosses to C: the refusal number first, 0 where there is none, and what was answered, 0 where it was refused
+-- (but for the count that comes with 15).
 -- Numbers and trailing layouts. Assumes nothing.
 use mathlib.Core.Bool.{Bool, true, false}
 use Prim.Native.Nat.{ℕ}
 use Rattle.util.specs.Refusal.{Outcome, answered, refused}
 use Rattle.rounding.specs.Word.{Components}
 use Rattle.trailing_defs.specs.Size.{Trailing}
+use Rattle.trailing_defs.specs.Sized.{SizeOutcome, sized, noneAbove, refusedBy}
 use Rattle.exports_numbers.specs.declared.Number.{Number}
 use Rattle.exports_numbers.specs.declared.Components as declared
 use Rattle.exports_numbers.specs.declared.Trailing as given
@@ -13,6 +15,12 @@ use Rattle.exports_numbers.specs.declared.TrailingAnswer.{TrailingAnswer
 abbrev pub numberOut : Outcome ℕ → Number
 numberOut (answered n) = record { refusal = 0; value = n }
 numberOut (refused k) = record { refusal = k; value = 0 }
+
+-- a size; beside 15 the greatest count that has one
+abbrev pub sizeOut : SizeOutcome → Number
+sizeOut (sized s) = record { refusal = 0; value = s }
+sizeOut (noneAbove g) = record { refusal = 15; value = g }
+sizeOut (refusedBy k) = record { refusal = k; value = 0 }
 
 -- a yes is 1, a no is 0
 abbrev pub bit : Bool → ℕ

@@ -4,9 +4,10 @@ ghost use Rattle.util.specs.Power.{powerOfTwo};
 ghost use Rattle.util.specs.Helpers.{paddingFor, roundDownFor, maxFor, minFor};
 ghost use Rattle.util.specs.View.{numberSays, decisionSays};
 ghost use Rattle.rounding.specs.Word.{newFor, componentsFor, alignFor};
-ghost use Rattle.trailing_defs.specs.Calls.{sizeOffsetFor, maxTrailingFor, paddingForElems, sizeFor, advanceFor, sameFor};
+ghost use Rattle.trailing_defs.specs.Calls.{sizeOffsetFor, maxTrailingFor, paddingForElems, advanceFor, sameFor};
+ghost use Rattle.trailing_defs.specs.Sized.{sizeGiven};
 ghost use Rattle.trailing.specs.View.{trailingOf, advanceSays};
-ghost use Rattle.exports_numbers.specs.Numbers.{numberOut, decisionOut, componentsOut};
+ghost use Rattle.exports_numbers.specs.Numbers.{numberOut, sizeOut, decisionOut, componentsOut};
 ghost use Rattle.exports_numbers.specs.Numbers.{trailingIn, trailingWords, noTrailing, trailingOut};
 use rounding::ComponentsAnswer;
 use rounding::NewAnswer;
@@ -16,6 +17,7 @@ use trailing::SizeAnswer;
 use trailing::TrailingSliceLayout;
 use util::Answer;
 use util::Decision;
+use util::refusal;
 
 #[repr(C)]
 pub struct Number {
@@ -234,14 +236,21 @@ pub extern "C" fn lukaripe_padding_for_elems(layout: Trailing, elems: u64) -> Nu
     number_out(trailing_in(layout).padding_for_elems(elems))
 }
 
-// The size at elems elements.
+// The size at elems elements; beside 15 the value is the greatest count that has a size.
 #[no_mangle]
 pub extern "C" fn lukaripe_size_for_elems(layout: Trailing, elems: u64) -> Number
-    ensures { λ r. ⌜ r ≡ numberOut (sizeFor 64 (trailingIn layout) elems) ⌝ }
+    ensures { λ r. ⌜ r ≡ sizeOut (sizeGiven 64 (trailingIn layout) elems) ⌝ }
 {
     match trailing_in(layout).size_for_elems(elems) {
         SizeAnswer::Size(value) => Number { refusal: 0, value },
-        SizeAnswer::Refused(refusal) => Number { refusal, value: 0 },
+        SizeAnswer::NoSize { greatest } => Number {
+            refusal: refusal::NO_SIZE,
+            value: greatest,
+        },
+        SizeAnswer::Refused(number) => Number {
+            refusal: number,
+            value: 0,
+        },
     }
 }
 

@@ -13,7 +13,7 @@ use Rattle.trailing_defs.specs.Sequence.{sameSequence}
 use Rattle.layout_defs.specs.Layout.{Info, fixed, trailing, Layout, IsCount, sizeIn, noWord, layoutCauses}
 use Rattle.cast_defs.specs.Cast.{prefix, Grant, countIn, IsElemZero, bytesCauses, castCauses, castFor}
 use Rattle.cast_defs.proofs.Grants.{align-pos, greatest-in, cast-decided}
-use Rattle.cast_defs.proofs.Exact.{count-mono}
+use Rattle.trailing_defs.proofs.Sizes.{count-mono}
 use Rattle.shift_defs.specs.Match.{Comparison, Sound}
 use Rattle.shift_defs.proofs.Matching.{same-sound}
 use Rattle.convert_defs.specs.Convert.{Params}

@@ -12,6 +12,7 @@ use Rattle.trailing_defs.specs.Size.{sizeWith, sizeAt}
 use Rattle.trailing_defs.specs.Count.{bytesWithin, countWithin}
 use Rattle.trailing_defs.specs.Sequence.{sameSequence}
 use Rattle.trailing_defs.specs.Calls.{paddingForElems, sizeFor, advanced, sameFor}
+use Rattle.trailing_defs.specs.Sized.{sizeGiven}
 use Rattle.cast_defs.specs.Cast.{castFor}
 use Rattle.cast_defs.specs.Exact.{exactFor}
 use Rattle.shift_defs.specs.Match.{matchTest}
@@ -24,5 +25,5 @@ unfolding sizeWith up highestBit
 sizes-alike n = ap (λ (x : ℕ). x ∷ []) (omega arith)
 
 pub stars-hold : Claim 64 stars
-unfolding powerOfTwo up down padding unless paddingFor highestBit componentsFor sizeWith bytesWithin countWithin sameSequence paddingForElems sizeFor advanced sameFor castFor exactFor matchTest shiftOf computeFor metadataFor
+unfolding powerOfTwo up down padding unless paddingFor highestBit componentsFor sizeWith bytesWithin countWithin sameSequence paddingForElems sizeFor sizeGiven advanced sameFor castFor exactFor matchTest shiftOf computeFor metadataFor
 stars-hold n = ap (λ (x : List ℕ). x ∷ said n computed) (sizes-alike n)

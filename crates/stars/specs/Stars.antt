@@ -10,7 +10,8 @@ use Rattle.util.specs.Helpers.{paddingFor}
 use Rattle.rounding.specs.Word.{Components, componentsFor}
 use Rattle.trailing_defs.specs.Size.{Trailing, sizeAt}
 use Rattle.trailing_defs.specs.Sequence.{sameSequence}
-use Rattle.trailing_defs.specs.Calls.{paddingForElems, sizeFor, sameFor}
+use Rattle.trailing_defs.specs.Calls.{paddingForElems, sameFor}
+use Rattle.trailing_defs.specs.Sized.{sizeNumbers, sizeGiven}
 use Rattle.layout_defs.specs.Layout.{Layout, fixed, trailing}
 use Rattle.cast_defs.specs.Cast.{Side, prefix, suffix, Grant, castFor}
 use Rattle.shift_defs.specs.Shift.{Shift, by, missing, byOffset, matchedShift}
@@ -52,7 +53,7 @@ shiftNumbers missing = []
 abbrev pub eval : ℕ → Call → List ℕ
 eval w (paddingNeededFor v a) = numbers one (paddingFor w v a)
 eval w (components n) = numbers (λ (c : Components). c .align ∷ c .phase ∷ []) (componentsFor w n)
-eval w (sizeForElems t n) = numbers one (sizeFor w t n)
+eval w (sizeForElems t n) = sizeNumbers (sizeGiven w t n)
 eval w (wholeSize t n) = sizeAt w t n ∷ []
 eval w (paddingForElemsOf t n) = numbers one (paddingForElems w t n)
 eval w (cast l side addr len) = numbers (λ (g : Grant). g .count ∷ g .split ∷ []) (castFor w l side addr len)
@@ -141,8 +142,8 @@ computed =
     ∷ gives (tryCompute (fixedOf 4 16) (sliceOf 4 (tail 8 4 0 0))) (28 ∷ [])
     ∷ gives (tryCompute (sliceOf 8 source2) (sliceOf 4 (tail 8 4 0 0))) (29 ∷ [])
     ∷ gives (sizeForElems (tail (2 ^ 64 - 8) 8 1 0) 0) (0 ∷ (2 ^ 64 - 8) ∷ [])
-    ∷ gives (sizeForElems (tail (2 ^ 64 - 8) 8 1 0) 1) (15 ∷ [])
-    ∷ gives (sizeForElems (tail (2 ^ 64 - 8) 9 1 0) 0) (15 ∷ [])
+    ∷ gives (sizeForElems (tail (2 ^ 64 - 8) 8 1 0) 1) (15 ∷ 0 ∷ [])
+    ∷ gives (sizeForElems (tail (2 ^ 64 - 8) 9 1 0) 0) (39 ∷ [])
     ∷ []
 
 -- the table

@@ -1,37 +1,61 @@
 -- What the answers of trailing layouts tell their callers. Assumes nothing.
-use mathlib.Core.Path.{_≡_, sym, ap, _∙_, subst}
+use mathlib.Core.Path.{_≡_, refl, sym, _∙_, subst}
 use mathlib.Core.Logic.{inl, inr}
 use mathlib.Core.Bool.{Bool}
 use Prim.Native.Nat.{ℕ, _+_, _^_, _≤_, _<_}
 use native.Mathlib.Omega.{arith}
 use Rattle.util.specs.Width.{M}
-use Rattle.util.specs.Refusal.{Outcome, Tells, holds, fails, First, Meets}
-use Rattle.util.proofs.Refusals.{answered-means, refused-means, known, clear, tells-eq, tells-le, tells-lt}
+use Rattle.util.specs.Refusal.{Tells, holds, fails}
+use Rattle.util.proofs.Refusals.{known, clear, tells-eq, tells-le, tells-lt}
 use Rattle.util.proofs.Tables.{told-by, apart, answer-is, accepted-none}
 use Rattle.trailing_defs.specs.Size.{Trailing, sizeAt, HasSize, sizeOffset}
-use Rattle.trailing_defs.specs.Calls.{sizeCauses, sizeFor, advanceCauses, advanced, advanceFor}
+use Rattle.trailing_defs.specs.Calls.{advanceCauses, advanced, advanceFor}
+use Rattle.trailing_defs.specs.Sized.{sized, noneAbove, refusedBy, SizeMeans, has, above, refuses}
+use Rattle.trailing_defs.proofs.Sizes.{count-mono}
+use Rattle.util.proofs.Powers.{positive}
+use Rattle.rounding.proofs.Words.{parts-of}
 use Rattle.trailing.specs.View.{trailingOf, sizeSays, advanceSays}
 use Rattle.trailing.specs.declared.TrailingSliceLayout.{TrailingSliceLayout}
 use Rattle.trailing.specs.declared.AdvanceAnswer.{AdvanceAnswer}
 use Rattle.trailing.specs.declared.AdvanceAnswer.the-variants as Advance
+use Rattle.trailing.proofs.SizeAnswer.{the-type}
+use denote.Enum.Declared.{tagOf}
+use types.Run.{OneOf}
+use mathlib.Core.List.{[], _∷_}
 use Rattle.trailing.specs.declared.SizeAnswer.{SizeAnswer}
 use Rattle.trailing.specs.declared.SizeAnswer.the-variants as Size
-use Rattle.trailing_defs.proofs.Calls.{size-meets}
 
--- of `size_for_elems`: the size, which exists; refused, a layout whose word is not 0 has none
-pub size-told : {s : ℕ} (w : ℕ) (t : Trailing) (n : ℕ) (r : SizeAnswer) → t .word < 2 ^ w → sizeSays r ≡ sizeFor w t n → r ≡ Size.Size s → HasSize w t n × (s ≡ sizeAt w t n)
-size-told w t n r h e g =
-    let m = answered-means (subst (λ (o : Outcome ℕ). Meets (sizeCauses w t n) (λ s. s ≡ sizeAt w t n) o) (sym e ∙ ap sizeSays g) (size-meets w t n h)) in
-    (known (tells-le (sizeAt w t n) (M w)) (m .0 .1 .0), m .1)
-
-pub size-missing : {k : ℕ} (w : ℕ) (t : Trailing) (n : ℕ) (r : SizeAnswer) → 0 < t .word → t .word < 2 ^ w → sizeSays r ≡ sizeFor w t n → r ≡ Size.Refused k → M w < sizeAt w t n
-size-missing {k} w t n r p h e g =
-    go (refused-means (subst (λ (o : Outcome ℕ). Meets (sizeCauses w t n) (λ s. s ≡ sizeAt w t n) o) (sym e ∙ ap sizeSays g) (size-meets w t n h)))
+-- of `size_for_elems`: the size, which exists; by either other answer a layout whose word is not 0 has none
+pub size-told : {s : ℕ} (w : ℕ) (t : Trailing) (n : ℕ) (r : SizeAnswer) → SizeMeans w t n (sizeSays r) → r ≡ Size.Size s
+    → HasSize w t n × (s ≡ sizeAt w t n)
+size-told w t n r m g = go (subst (λ (x : SizeAnswer). SizeMeans w t n (sizeSays x)) g m)
   where
-    go : First (sizeCauses w t n) k → M w < sizeAt w t n
-    go (inl z) = absurd (omega (arith, z .0))
-    go (inr (z, inl y)) = omega (arith, y .0)
-    go (inr (z, inr y)) = absurd (y .1)
+    go : {s : ℕ} → SizeMeans w t n (sized s) → HasSize w t n × (s ≡ sizeAt w t n)
+    go (has x e) = (known (tells-le (sizeAt w t n) (M w)) (x .1 .1 .0), e)
+
+size-above : {g : ℕ} (w : ℕ) (t : Trailing) (n : ℕ) (r : SizeAnswer) → SizeMeans w t n (sizeSays r) → r ≡ Size.NoSize g → M w < sizeAt w t n
+size-above w t n r m g = go (subst (λ (x : SizeAnswer). SizeMeans w t n (sizeSays x)) g m)
+  where
+    go : {g : ℕ} → SizeMeans w t n (noneAbove g) → M w < sizeAt w t n
+    go (above f x) = let no : sizeAt w t n ≤ M w → ⊥ = λ h. omega (arith, x .greatest .greatest n h, x .below) in omega (arith, no)
+
+size-missing : {k : ℕ} (w : ℕ) (t : Trailing) (n : ℕ) (r : SizeAnswer) → 0 < t .word → t .word < 2 ^ w → SizeMeans w t n (sizeSays r) → r ≡ Size.Refused k
+    → M w < sizeAt w t n
+size-missing w t n r p h m g = go (subst (λ (x : SizeAnswer). SizeMeans w t n (sizeSays x)) g m)
+  where
+    go : {k : ℕ} → SizeMeans w t n (refusedBy k) → M w < sizeAt w t n
+    go (refuses (inl z) _) = absurd (omega (arith, z .0))
+    go (refuses (inr (z, inl y)) _) = omega (arith, y .0, count-mono w t 0 n (positive (parts-of w (t .word) p h .power)) (omega arith))
+    go (refuses (inr (z, inr (x, inl y))) _) = omega (arith, y .0)
+    go (refuses (inr (z, inr (x, inr y))) _) = absurd (y .1)
+
+-- so it is by any answer but a size
+pub size-not : (w : ℕ) (t : Trailing) (n : ℕ) (r : SizeAnswer) → 0 < t .word → t .word < 2 ^ w → SizeMeans w t n (sizeSays r)
+    → OneOf (1 ∷ 2 ∷ []) (tagOf the-type r) → M w < sizeAt w t n
+size-not w t n (Size.Size s) p h m (inl k) = absurd (omega arith)
+size-not w t n (Size.Size s) p h m (inr k) = absurd (omega arith)
+size-not w t n (Size.NoSize g) p h m k = size-above w t n (Size.NoSize g) m refl
+size-not w t n (Size.Refused j) p h m k = size-missing w t n (Size.Refused j) p h m refl
 
 -- of `advance`: the advanced layout; refused, a layout whose word is not 0 was taken past M
 pub advance-told : {m : TrailingSliceLayout} (w : ℕ) (t : Trailing) (y e : ℕ) (r : AdvanceAnswer) → advanceSays r ≡ advanceFor w t y e → r ≡ Advance.Layout m

@@ -1,7 +1,7 @@
 -- What the types of this crate are, over numbers: document 01's number and values for each case of an answer. Assumes nothing.
-use Prim.Native.Nat.{ℕ}
 use Rattle.util.specs.Refusal.{Outcome, answered, refused}
 use Rattle.trailing_defs.specs.Size.{Trailing}
+use Rattle.trailing_defs.specs.Sized.{SizeOutcome, sized, noneAbove, refusedBy}
 use Rattle.trailing.specs.declared.TrailingSliceLayout.{TrailingSliceLayout}
 use Rattle.trailing.specs.declared.SizeAnswer.{SizeAnswer}
 use Rattle.trailing.specs.declared.SizeAnswer.the-variants as Size
@@ -16,9 +16,10 @@ trailingOf l = record {
   word = l .«size_rounding_align_and_phase» .0;
 }
 
-abbrev pub sizeSays : SizeAnswer → Outcome ℕ
-sizeSays (Size.Size n) = answered n
-sizeSays (Size.Refused k) = refused k
+abbrev pub sizeSays : SizeAnswer → SizeOutcome
+sizeSays (Size.Size n) = sized n
+sizeSays (Size.NoSize g) = noneAbove g
+sizeSays (Size.Refused k) = refusedBy k
 
 abbrev pub advanceSays : AdvanceAnswer → Outcome Trailing
 advanceSays (Advance.Layout l) = answered (trailingOf l)

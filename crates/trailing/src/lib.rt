@@ -1,14 +1,15 @@
 // Trailing layouts, after zerocopy's TrailingSliceLayout: a fixed part and then a run of elements.
 // The size at a count is size_base + up(phase + count * elem_size, align); the offset does not enter it.
 ghost use mathlib.Core.Path.{_≡_};
-ghost use Prim.Native.Nat.{_*_, _%_, _<_};
+ghost use Prim.Native.Nat.{_*_, _/_, _%_, _<_};
 ghost use Rattle.util.specs.Power.{PowerOfTwo};
 ghost use Rattle.util.specs.Round.{up};
-ghost use Rattle.util.specs.Refusal.{answered, Meets};
+ghost use Rattle.util.specs.Refusal.{Meets};
 ghost use Rattle.util.specs.View.{numberSays};
 ghost use Rattle.rounding.specs.Word.{IsWord, wordCauses};
 ghost use Rattle.trailing_defs.specs.Calls.{sizeOffsetFor, GreatestIn, SizeOffset, maxTrailingCauses, maxTrailingFor};
-ghost use Rattle.trailing_defs.specs.Calls.{paddingForElems, PaddingAt, sizeCauses, sizeFor};
+ghost use Rattle.trailing_defs.specs.Calls.{paddingForElems, PaddingAt};
+ghost use Rattle.trailing_defs.specs.Sized.{sized, noneAbove, sizeGiven, SizeMeans};
 ghost use Rattle.trailing_defs.specs.Size.{sizeAt, HasSize};
 ghost use Rattle.trailing.specs.View.{trailingOf, sizeSays};
 use rounding::ComponentsAnswer;
@@ -28,9 +29,10 @@ pub struct TrailingSliceLayout {
     pub size_rounding_align_and_phase: RoundingAlignAndPhase,
 }
 
-// A size, or the number of the refusal.
+// A size; no size at this count, and the greatest count that has one; or the number of another refusal.
 pub enum SizeAnswer {
     Size(u64),
+    NoSize { greatest: u64 },
     Refused(u64),
 }
 
@@ -159,7 +161,7 @@ impl TrailingSliceLayout {
             IsWord (self .«size_rounding_align_and_phase» .0) align phase × (bytes ≡ elems * self .«elem_size») × HasSize 64
             (trailingOf self) elems
             ⌝ }
-        ensures { λ r. ⌜ sizeSays r ≡ answered (sizeAt 64 (trailingOf self) elems) ⌝ }
+        ensures { λ r. ⌜ sizeSays r ≡ sized (sizeAt 64 (trailingOf self) elems) ⌝ }
     {
         match self.padding_for_elems_at(align, phase, elems) {
             Answer::Number(padding) => {
@@ -170,29 +172,38 @@ impl TrailingSliceLayout {
         }
     }
 
+    // The greatest count that has a size: as many elements as the greatest number of trailing bytes holds. The divide stands here
+    // alone, so that no path to a size has one.
+    fn no_size(self, max_trailing_bytes: u64) -> SizeAnswer
+        requires { ⌜ 0 < trailingOf self .elem ⌝ }
+        ensures { λ r. ⌜ sizeSays r ≡ noneAbove («max_trailing_bytes» / trailingOf self .elem) ⌝ }
+    {
+        SizeAnswer::NoSize {
+            greatest: max_trailing_bytes / self.elem_size,
+        }
+    }
+
     fn size_for_elems_at(self, align: u64, phase: u64, elems: u64) -> SizeAnswer
         requires { ⌜ IsWord (self .«size_rounding_align_and_phase» .0) align phase ⌝ }
-        ensures { λ r. ⌜ sizeSays r ≡ sizeFor 64 (trailingOf self) elems ⌝ }
+        ensures { λ r. ⌜ sizeSays r ≡ sizeGiven 64 (trailingOf self) elems ⌝ }
     {
         let Answer::Number(max_trailing_bytes) = self.max_trailing_bytes_at(align, phase, u64::MAX)
         else {
-            return SizeAnswer::Refused(refusal::NO_SIZE);
+            return SizeAnswer::Refused(refusal::NO_SIZE_AT_ZERO);
         };
         let Product::Fits(trailing_size) = util::checked_mul(elems, self.elem_size) else {
-            return SizeAnswer::Refused(refusal::NO_SIZE);
+            return self.no_size(max_trailing_bytes);
         };
         if trailing_size > max_trailing_bytes {
-            return SizeAnswer::Refused(refusal::NO_SIZE);
+            return self.no_size(max_trailing_bytes);
         }
         self.size_at(align, phase, elems, trailing_size)
     }
 
     // The size at elems.
     pub fn size_for_elems(self, elems: u64) -> SizeAnswer
-        ensures answer { λ r. ⌜ sizeSays r ≡ sizeFor 64 (trailingOf self) elems ⌝ }
-        ensures meaning { λ r. ⌜
-            Meets (sizeCauses 64 (trailingOf self) elems) (λ s. s ≡ sizeAt 64 (trailingOf self) elems) (sizeSays r)
-            ⌝ }
+        ensures answer { λ r. ⌜ sizeSays r ≡ sizeGiven 64 (trailingOf self) elems ⌝ }
+        ensures meaning { λ r. ⌜ SizeMeans 64 (trailingOf self) elems (sizeSays r) ⌝ }
     {
         let word = self.size_rounding_align_and_phase;
         match word.components() {

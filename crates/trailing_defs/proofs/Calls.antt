@@ -1,24 +1,22 @@
 -- What the outcomes of the functions of trailing layouts mean, and what they are by the parts a and q of the word, at any width w. Assumes nothing.
 use mathlib.Core.Path.{_≡_, refl, sym, ap, _∙_}
-use mathlib.Core.List.{[], _∷_}
 use Prim.Native.Nat.{ℕ, _+_, _-_, _*_, _%_, _^_, _≤_, _<_}
 use lib.Pow.{pow-pos}
-use lib.Dec.{ltb}
 use borrow.Author.Tests.{lt-ltb, le-ltb, ne-eqb}
 use native.Mathlib.Nat.{mod-lt}
 use native.Mathlib.Omega.{arith}
 use Rattle.util.specs.Width.{M}
 use Rattle.util.specs.Round.{up, down}
-use Rattle.util.specs.Refusal.{answered, refused, unless, Tells, Meets}
-use Rattle.util.proofs.Refusals.{known, yes, tells-eq, tells-le, tells-lt, tells-as, meets}
+use Rattle.util.specs.Refusal.{answered, refused, unless, Meets}
+use Rattle.util.proofs.Refusals.{known, yes, tells-eq, tells-le, tells-lt, meets}
 use Rattle.util.proofs.Powers.{positive, double}
 use Rattle.util.proofs.Rounding.{down-is}
 use Rattle.rounding.specs.Word.{IsWord, wordCauses}
 use Rattle.rounding.proofs.Words.{parts-of, at-parts, not-zero}
-use Rattle.trailing_defs.specs.Size.{Trailing, A, p, sizeWith, sizeAt, HasSize, sizeOffset}
+use Rattle.trailing_defs.specs.Size.{Trailing, A, p, sizeWith, sizeAt, sizeOffset}
 use Rattle.trailing_defs.specs.Count.{bytesWithin}
 use Rattle.trailing_defs.specs.Sequence.{sameSequence}
-use Rattle.trailing_defs.specs.Calls.{sizeOffsetFor, SizeOffset, maxTrailingCauses, maxTrailingFor, GreatestIn, paddingAt, paddingForElems, PaddingAt, sizeCauses, sizeFor, advanceCauses, advanced, advanceFor, Advanced, sameCauses, sameFor, FoundSame}
+use Rattle.trailing_defs.specs.Calls.{sizeOffsetFor, SizeOffset, maxTrailingCauses, maxTrailingFor, GreatestIn, paddingAt, paddingForElems, PaddingAt, advanceCauses, advanced, advanceFor, Advanced, sameCauses, sameFor, FoundSame}
 use Rattle.trailing_defs.proofs.Sizes.{size-zero, size-mono, greatest-bytes, tells-room, bytes-by-blocks, padding-congruent, one-padding, advanced-size}
 use Rattle.trailing_defs.proofs.Sequences.{tells-same, same-sizes}
 
@@ -82,22 +80,6 @@ pub padding-answered : (w : ℕ) (t : Trailing) (n r : ℕ) → 0 < t .word → 
 unfolding paddingForElems unless
 padding-answered w t n r h c =
     simp (ne-eqb (t .word) 0 (λ z. omega arith)) (ap answered (one-padding (pow-pos w) (padding-congruent w t n (pow-pos w)) c))
-
-tells-no-size : (w : ℕ) (t : Trailing) (n : ℕ) → Tells (HasSize w t n → ⊥) (ltb (M w) (sizeAt w t n))
-tells-no-size w t n = tells-as (λ l h. omega arith) (λ m. omega (arith, m)) (tells-lt (M w) (sizeAt w t n))
-
-pub size-meets : (w : ℕ) (t : Trailing) (n : ℕ) → t .word < 2 ^ w → Meets (sizeCauses w t n) (λ s. s ≡ sizeAt w t n) (sizeFor w t n)
-unfolding sizeFor
-size-meets w t n h = meets (sizeCauses w t n) (sizeAt w t n) (tells-eq (t .word) 0, λ _. (tells-no-size w t n, λ _. tt)) (λ _. refl)
-
--- the size is the answer exactly where there is one
-pub size-answered : (w : ℕ) (t : Trailing) (n : ℕ) → 0 < t .word → HasSize w t n → sizeFor w t n ≡ answered (sizeAt w t n)
-unfolding sizeFor unless
-size-answered w t n h l = simp (ne-eqb (t .word) 0 (λ z. omega arith), le-ltb (M w) (sizeAt w t n) l)
-
-pub size-refused : (w : ℕ) (t : Trailing) (n : ℕ) → 0 < t .word → M w < sizeAt w t n → sizeFor w t n ≡ refused 15
-unfolding sizeFor unless
-size-refused w t n h l = simp (ne-eqb (t .word) 0 (λ z. omega arith), lt-ltb (M w) (sizeAt w t n) l)
 
 -- an advanced layout: its word, and its sizes
 pub advanced-word : (w : ℕ) (t : Trailing) (y e : ℕ) → 0 < t .word → t .word < 2 ^ w → IsWord (advanced w t y e .word) (A w t) ((p w t + y) % A w t)

@@ -3,3 +3,4 @@ pub mod Sequences
 pub mod Calls
 pub mod Told
 pub mod Only
+pub mod Sized

@@ -2,7 +2,7 @@
 use mathlib.Core.Path.{_≡_, sym, ap, _∙_}
 use Prim.Native.Nat.{ℕ, _+_, _-_, _*_, _/_, _%_, _^_, _≤_, _<_}
 use lib.Dec.{ltb}
-use native.Mathlib.Nat.{mod-add-mod, mod-eq-of-lt, mod-lt, mod-self, div-mul-le-self, le-div-iff-mul-le, le-trans, add-mul-mod-self-right, div-add-mod'}
+use native.Mathlib.Nat.{mul-le-mul-right, mod-add-mod, mod-eq-of-lt, mod-lt, mod-self, div-mul-le-self, le-div-iff-mul-le, le-trans, add-mul-mod-self-right, div-add-mod'}
 use native.Mathlib.Omega.{arith}
 use lib.Bits.{bitAnd}
 use Rattle.util.specs.Power.{PowerOfTwo}
@@ -45,6 +45,9 @@ size-mono b A p x y h l = omega (arith, up-mono (p + x) (p + y) A h (omega arith
 pub size-ge : (b A p x : ℕ) → 0 < A → b + x ≤ sizeWith b A p x
 unfolding sizeWith
 size-ge b A p x h = omega (arith, up-ge (p + x) A h)
+
+pub count-mono : (w : ℕ) (t : Trailing) (m n : ℕ) → 0 < A w t → m ≤ n → sizeAt w t m ≤ sizeAt w t n
+count-mono w t m n h l = size-mono (t .base) (A w t) (p w t) (m * t .elem) (n * t .elem) h (mul-le-mul-right (t .elem) l)
 
 -- the greatest number of trailing bytes is that of `bytesWithin`, where the size at 0 is at most L
 pub greatest-bytes : (b A p L : ℕ) → 0 < A → sizeWith b A p 0 ≤ L → GreatestBytes b A p L (bytesWithin b A p L)

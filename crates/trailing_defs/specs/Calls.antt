@@ -55,14 +55,18 @@ pub record PaddingAt (w : ℕ) (t : Trailing) (n r : ℕ) : Type 0 where
   pub within : r ≤ M w
   pub congruent : (r + t .offset + n * t .elem) % 2 ^ w ≡ sizeAt w t n % 2 ^ w
 
+-- 39: not even count 0 has a size
+abbrev pub noSizeAtZero : ℕ → Trailing → Cause
+noSizeAtZero w t = record { number = 39; test = ltb (M w) (sizeAt w t 0); means = HasSize w t 0 → ⊥ }
+
 -- 15: there is no size at this count
 abbrev pub noSize : ℕ → Trailing → ℕ → Cause
 noSize w t n = record { number = 15; test = ltb (M w) (sizeAt w t n); means = HasSize w t n → ⊥ }
 
 abbrev pub sizeCauses : ℕ → Trailing → ℕ → List Cause
-sizeCauses w t n = wordZero (t .word) ∷ noSize w t n ∷ []
+sizeCauses w t n = wordZero (t .word) ∷ noSizeAtZero w t ∷ noSize w t n ∷ []
 
--- `size_for_elems`
+-- the size at a count, or the number of the refusal
 unfoldable pub sizeFor : ℕ → Trailing → ℕ → Outcome ℕ
 sizeFor w t n = unless (sizeCauses w t n) (sizeAt w t n)
 

@@ -60,3 +60,5 @@ pub const SOURCE_ELEM_SMALLER: u64 = 30;
 pub const ELEM_NO_MULTIPLE: u64 = 31;
 // No conversion: no shift lines the sizes up.
 pub const NO_SHIFT: u64 = 32;
+// Not even count 0 has a size.
+pub const NO_SIZE_AT_ZERO: u64 = 39;

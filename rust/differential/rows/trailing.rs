@@ -1,6 +1,7 @@
 //! Trailing layouts.
 
 use super::{answered, apart, no_label, nowhere, refused, trailing_of, yes_or_no, Row, ANSWER, TRAILING};
+use crate::answer::Answer;
 use crate::exports::*;
 use crate::kinds::number;
 use crate::layouts::{parts, rounded_phase};
@@ -52,7 +53,7 @@ pub const ROWS: &[Row] = &[
         name: "size_for_elems",
         inputs: &[TRAILING, &[number("elems")]],
         values: 1,
-        cells: &[ANSWER, refused(15), apart(2)],
+        cells: &[ANSWER, refused(15), refused(39), apart(2)],
         label: no_label,
         pages: &[
             &[8, 9, 1, 5, 0],
@@ -65,7 +66,7 @@ pub const ROWS: &[Row] = &[
         aim: at_the_last_count,
         ours: |i| lukaripe_size_for_elems(Words(trailing_of(i)), i[4]).into(),
         apart: |i| first(&[(2, i[3] == 0)]),
-        rust: |i| oracle::size_for_elems(trailing_of(i), i[4]).into(),
+        rust: |i| size_or_greatest(trailing_of(i), i[4]),
     },
     Row {
         number: 13,
@@ -134,4 +135,26 @@ fn at_equal_sizes(random: &mut Random, inputs: &mut [u64]) {
     inputs[6] = inputs[2];
     let size = inputs[0].wrapping_add(rounded_phase(inputs[3]));
     inputs[4] = size.wrapping_sub(rounded_phase(inputs[7]));
+}
+
+/// The Rust's size. Where it has none, 39 if it has none at 0 either, else 15 with the greatest count at which it has
+/// one: of two counts, one with a size and one without, the way between them is halved until they are neighbours.
+fn size_or_greatest(layout: oracle::Trailing, elems: u64) -> Answer {
+    let has = |count| oracle::size_for_elems(layout, count).is_ok();
+    match oracle::size_for_elems(layout, elems) {
+        Ok(size) => Answer::of(size),
+        Err(_) if !has(0) => Answer::refused(39),
+        Err(number) => {
+            let (mut with, mut without) = (0, elems);
+            while without - with > 1 {
+                let between = with + (without - with) / 2;
+                if has(between) {
+                    with = between;
+                } else {
+                    without = between;
+                }
+            }
+            Answer::refused_with(number, with)
+        }
+    }
 }

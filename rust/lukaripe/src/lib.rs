@@ -5,7 +5,7 @@
 //! where. All numbers are unsigned and 64 bits wide.
 //!
 //! ```
-//! use lukaripe::{for_repr_c_struct, Cast, CastType, Layout, Refusal};
+//! use lukaripe::{for_repr_c_struct, Cast, CastType, Layout};
 //!
 //! // #[repr(C)]
 //! // struct Message { id: [u32; 2], kind: u8, text: [u8] }
@@ -18,7 +18,7 @@
 //! assert_eq!(text.offset, 9);
 //! assert_eq!(text.size_for_elems(4)?, 16);
 //! assert_eq!(text.padding_for_elems(4)?, 3);
-//! assert_eq!(text.size_for_elems(u64::MAX), Err(Refusal::NoSize));
+//! assert_eq!(text.size_for_elems(u64::MAX).unwrap_err().greatest, Some(u64::MAX - 12));
 //!
 //! // How many bytes of text a buffer of 30 bytes has room for, and where the message ends.
 //! let cast = message.validate_cast_and_convert_metadata(0x1000, 30, CastType::Prefix)?;
@@ -57,7 +57,7 @@ pub use convert::{convert_and_cast, size_sequences_match, Carried, CastParams};
 pub use helpers::{is_power_of_two, max, min, padding_needed_for, round_down_to_next_multiple_of_alignment};
 pub use layout::{Layout, SizeInfo};
 pub use record::RECORD_LENGTH;
-pub use refusal::{Refusal, Refused, Result, UnknownRefusal};
+pub use refusal::{NoSize, Refusal, Refused, Result, UnknownRefusal};
 pub use rounding::RoundingAlignAndPhase;
 pub use scalar::Scalar;
 pub use trailing::Trailing;

@@ -3,7 +3,7 @@
 use crate::exports::{self, Words};
 #[cfg(doc)]
 use crate::Refusal;
-use crate::{Result, RoundingAlignAndPhase};
+use crate::{NoSize, Result, RoundingAlignAndPhase};
 
 /// The run of elements at the end of a layout.
 ///
@@ -106,21 +106,24 @@ impl Trailing {
     /// The size at `elems` elements.
     ///
     /// ```
-    /// use lukaripe::{Refusal, RoundingAlignAndPhase, Trailing};
+    /// use lukaripe::{RoundingAlignAndPhase, Trailing};
     ///
     /// let word = RoundingAlignAndPhase::new(4, 1)?;
     /// let text = Trailing { size_base: 8, offset: 9, elem_size: 1, size_rounding_align_and_phase: word };
     /// assert_eq!(text.size_for_elems(3)?, 12);
     /// assert_eq!(text.size_for_elems(4)?, 16);
-    /// assert_eq!(text.size_for_elems(u64::MAX), Err(Refusal::NoSize));
-    /// # Ok::<(), Refusal>(())
+    /// // Refused a size, ask for the most that has one.
+    /// let most = text.size_for_elems(u64::MAX).unwrap_err().greatest.unwrap();
+    /// assert_eq!(text.size_for_elems(most)?, u64::MAX - 3);
+    /// # Ok::<(), lukaripe::Refusal>(())
     /// ```
     ///
     /// # Errors
     ///
-    /// [`Refusal::RoundingWordZero`], then [`Refusal::NoSize`].
-    pub fn size_for_elems(self, elems: u64) -> Result<u64> {
-        exports::lukaripe_size_for_elems(self.words(), elems).number()
+    /// [`Refusal::RoundingWordZero`]; [`Refusal::NoSizeAtZero`] where not even count 0 has a size; then
+    /// [`Refusal::NoSize`], with the greatest count that has one.
+    pub fn size_for_elems(self, elems: u64) -> Result<u64, NoSize> {
+        exports::lukaripe_size_for_elems(self.words(), elems).size()
     }
 
     /// The layout whose sizes are these with `bytes` more before the rounding, and with another element size.

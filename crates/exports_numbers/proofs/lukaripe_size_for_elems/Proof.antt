@@ -1,10 +1,11 @@
 -- `exports_numbers::lukaripe_size_for_elems` meets its contract. Assumes nothing.
-use mathlib.Core.Path.{sym, ap, _∙_}
+use mathlib.Core.Path.{_≡_, sym, ap, _∙_}
+use Prim.Native.Nat.{ℕ}
 use Rattle.trailing_defs.specs.Size.{Trailing}
-use Rattle.trailing_defs.specs.Calls.{sizeFor}
+use Rattle.trailing_defs.specs.Sized.{sizeGiven}
 use Rattle.trailing.specs.declared.SizeAnswer.{SizeAnswer}
 use Rattle.trailing.specs.View.{sizeSays}
-use Rattle.exports_numbers.specs.Numbers.{numberOut}
+use Rattle.exports_numbers.specs.Numbers.{sizeOut}
 use borrow.Author.Needs.{needs}
 use Rattle.exports_numbers.proofs.lukaripe_size_for_elems.Statement.{statement}
 use Rattle.exports_numbers.proofs.lukaripe_size_for_elems.Tie as tie
@@ -18,14 +19,24 @@ size-for-elems-requires c κs = search needs
 enum-known-value : tie.Need-enum-known-value
 enum-known-value c = search needs
 
-enum-known-refusal : tie.Need-enum-known-refusal
-enum-known-refusal c = search needs
+enum-known-greatest : tie.Need-enum-known-greatest
+enum-known-greatest c = search needs
+
+enum-known-number : tie.Need-enum-known-number
+enum-known-number c = search needs
+
+-- what the call gave, of the layout as it was handed over
+given : (e : ℕ) {t u : Trailing} {r s : SizeAnswer} → sizeSays r ≡ sizeGiven 64 t e → t ≡ u → r ≡ s → sizeOut (sizeSays s) ≡ sizeOut (sizeGiven 64 u e)
+given e x y z = ap (λ (r : SizeAnswer). sizeOut (sizeSays r)) (sym z) ∙ ap sizeOut (x ∙ ap (λ (t : Trailing). sizeGiven 64 t e) y)
 
 returns : tie.Need-returns
-returns c = ap (λ (r : SizeAnswer). numberOut (sizeSays r)) (sym (c .before .value .given .1)) ∙ ap numberOut (c .before .before .before .size-for-elems .ensures .0 ∙ ap (λ (t : Trailing). sizeFor 64 t (c .before .before .before .before .before .args .elems)) (c .before .before .before .before .trailing-in .ensures))
+returns c = given (c .before .before .before .before .before .args .elems) (c .before .before .before .size-for-elems .ensures .0) (c .before .before .before .before .trailing-in .ensures) (c .before .value .given .1)
 
 returns-2 : tie.Need-returns-2
-returns-2 c = ap (λ (r : SizeAnswer). numberOut (sizeSays r)) (sym (c .before .refusal .given .1)) ∙ ap numberOut (c .before .before .before .size-for-elems .ensures .0 ∙ ap (λ (t : Trailing). sizeFor 64 t (c .before .before .before .before .before .args .elems)) (c .before .before .before .before .trailing-in .ensures))
+returns-2 c = given (c .before .before .before .before .before .args .elems) (c .before .before .before .size-for-elems .ensures .0) (c .before .before .before .before .trailing-in .ensures) (c .before .greatest .given .1)
+
+returns-3 : tie.Need-returns-3
+returns-3 c = given (c .before .before .before .before .before .args .elems) (c .before .before .before .size-for-elems .ensures .0) (c .before .before .before .before .trailing-in .ensures) (c .before .number .given .1)
 
 pub lukaripe-size-for-elems-spec : {M : Type 1} → statement M
 lukaripe-size-for-elems-spec =
@@ -34,6 +45,8 @@ lukaripe-size-for-elems-spec =
     trailing-in-requires
     size-for-elems-requires
     enum-known-value
-    enum-known-refusal
+    enum-known-greatest
+    enum-known-number
     returns
-    returns-2)
+    returns-2
+    returns-3)

@@ -14,7 +14,7 @@ use Rattle.util.proofs.Told.{number-told, number-kept}
 use Rattle.rounding.proofs.Words.{parts-of}
 use Rattle.trailing_defs.specs.Size.{sizeAt}
 use Rattle.trailing.specs.View.{trailingOf}
-use Rattle.trailing.proofs.Told.{size-told, size-missing}
+use Rattle.trailing.proofs.Told.{size-told, size-not}
 use Rattle.padding_defs.proofs.Marks.{align-answered}
 use borrow.Author.Needs.{needs}
 use Rattle.padding.proofs.trailing_padding.Statement.{statement}
@@ -32,14 +32,11 @@ size-for-elems-requires c κs = search needs
 enum-known-initial-size : tie.Need-enum-known-initial-size
 enum-known-initial-size c = search needs
 
-enum-told : tie.Need-enum-told
-enum-told c = search needs
-
 returns : tie.Need-returns
 returns c =
-    let k = c .before .before .before .before .before .before .before .before in
+    let k = c .before .before .before .before .before .before .before in
     let t = trailingOf (k .args .tail) in
-    simp (lt-ltb (M 64) (sizeAt 64 t 0) (size-missing 64 t 0 (c .before .before .size-for-elems .result) (k .pre) (omega arith) (c .before .before .size-for-elems .ensures .0) (c .enum-told .given .1)))
+    simp (lt-ltb (M 64) (sizeAt 64 t 0) (size-not 64 t 0 (c .before .size-for-elems .result) (k .pre) (omega arith) (c .before .size-for-elems .ensures .1) (c .match2 .keys2)))
 
 sub-t11 : tie.Need-sub-t11
 sub-t11 c =
@@ -59,14 +56,14 @@ returns-2 c =
     let e = number-told (c .before .before .before .before .before .before .before .before .before .before .align .result) (c .before .before .before .before .before .before .before .before .before .before .align .ensures .0) (align-answered 64 n (k .pre)) (c .before .before .before .before .before .before .before .before .align2 .given .1) in
     let q = subst PowerOfTwo (sym e) (parts-of 64 n (k .pre) (omega arith) .power) in
     let t = trailingOf (c .before .before .before .before .before .before .before .before .before .before .before .before .args .tail) in
-    let x = size-told 64 t 0 (c .before .before .before .before .before .before .size-for-elems .result) (omega arith) (c .before .before .before .before .before .before .size-for-elems .ensures .0) (c .before .before .before .before .initial-size .given .1) in
+    let x = size-told 64 t 0 (c .before .before .before .before .before .before .size-for-elems .result) (c .before .before .before .before .before .before .size-for-elems .ensures .1) (c .before .before .before .before .initial-size .given .1) in
     simp (le-ltb (M 64) (sizeAt 64 t 0) (x .0), eq-eqb (sizeAt 64 t 0) (t .offset) (sym (x .1) ∙ c .before .if1 .taken))
     (ap (λ (y : ℕ). answered (not (eqb y 0))) (mask-mod (k .args .tail .«elem_size») q ∙ ap (λ (y : ℕ). k .args .tail .«elem_size» % y) e))
 
 returns-3 : tie.Need-returns-3
 returns-3 c =
     let t = trailingOf (c .before .before .before .before .before .before .before .before .before .before .before .args .tail) in
-    let x = size-told 64 t 0 (c .before .before .before .before .before .size-for-elems .result) (omega arith) (c .before .before .before .before .before .size-for-elems .ensures .0) (c .before .before .before .initial-size .given .1) in
+    let x = size-told 64 t 0 (c .before .before .before .before .before .size-for-elems .result) (c .before .before .before .before .before .size-for-elems .ensures .1) (c .before .before .before .initial-size .given .1) in
     simp (le-ltb (M 64) (sizeAt 64 t 0) (x .0), ne-eqb (sizeAt 64 t 0) (t .offset) (λ e. c .if1 .left (x .1 ∙ e)))
 
 returns-4 : tie.Need-returns-4
@@ -82,7 +79,6 @@ trailing-padding-spec =
     enum-known-align
     size-for-elems-requires
     enum-known-initial-size
-    enum-told
     returns
     sub-t11
     enum-known-number

@@ -1,6 +1,5 @@
 -- `shift::offset_delta_elems` meets its contract. Assumes nothing.
 use mathlib.Core.Path.{sym, ap, _∙_}
-use mathlib.Core.List.{_++_}
 use lib.Dec.{lit<}
 use native.Mathlib.Omega.{arith}
 use Rattle.util.specs.Refusal.{answered}

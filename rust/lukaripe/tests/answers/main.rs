@@ -50,6 +50,14 @@ fn decision(answer: Result<bool>) -> Vec<u64> {
     number(answer.map(u64::from))
 }
 
+/// A size; beside 15 the greatest count that has one.
+fn size(answer: Result<u64, NoSize>) -> Vec<u64> {
+    match answer {
+        Ok(size) => vec![0, size],
+        Err(none) => vec![none.refusal.number(), none.greatest.unwrap_or(0)],
+    }
+}
+
 fn trailing(answer: Result<Trailing>) -> Vec<u64> {
     told(answer.map(|t| [t.size_base, t.offset, t.elem_size, t.size_rounding_align_and_phase.0]))
 }
@@ -68,7 +76,7 @@ fn call(function: u64, i: &mut Inputs) -> Option<Vec<u64>> {
         9 => number(i.trailing().size_offset()),
         10 => number(i.trailing().max_trailing_bytes(i.number())),
         11 => number(i.trailing().padding_for_elems(i.number())),
-        12 => number(i.trailing().size_for_elems(i.number())),
+        12 => size(i.trailing().size_for_elems(i.number())),
         13 => trailing(i.trailing().advance(i.number(), i.number())),
         14 => decision(i.trailing().has_same_size_sequence(i.trailing())),
         _ => return layouts::call(function, i),

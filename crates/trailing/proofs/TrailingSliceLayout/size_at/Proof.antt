@@ -2,7 +2,7 @@
 use mathlib.Core.Path.{sym, ap, _∙_, subst}
 use Prim.Native.Nat.{ℕ, _+_, _%_, _^_}
 use lib.Pow.{pow-pos}
-use Rattle.util.specs.Refusal.{answered}
+use Rattle.trailing_defs.specs.Sized.{sized}
 use Rattle.util.proofs.Told.{number-told, number-kept}
 use Rattle.rounding.proofs.Words.{not-zero}
 use Rattle.trailing_defs.specs.Calls.{paddingAt, PaddingAt}
@@ -36,7 +36,7 @@ returns c =
     let q = c .before .before .before .padding .given .0 .0 in
     let a = number-told (c .before .before .before .before .before .padding-for-elems-at .result) (c .before .before .before .before .before .padding-for-elems-at .ensures) (padding-answered 64 t n (paddingAt 64 t n) (not-zero (k .pre .0)) (padding-congruent 64 t n (pow-pos 64))) (c .before .before .before .padding .given .1) in
     let r = subst (PaddingAt 64 t n) (sym a) (padding-congruent 64 t n (pow-pos 64)) in
-    ap answered (size-by-end 64 t n q (c .before .wrapping-add-u64 .result) (c .wrapping-add-u642 .result) (pow-pos 64) (k .pre .2) r
+    ap sized (size-by-end 64 t n q (c .before .wrapping-add-u64 .result) (c .wrapping-add-u642 .result) (pow-pos 64) (k .pre .2) r
     (c .before .wrapping-add-u64 .ensures ∙ ap (λ (x : ℕ). (t .offset + x) % 2 ^ 64) (k .pre .1)) (c .wrapping-add-u642 .ensures))
 
 returns-2 : tie.Need-returns-2
