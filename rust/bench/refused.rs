@@ -110,7 +110,10 @@ pub const CONVERT: &[Spoil] = layouts![source, whole;
         c.whole = c.fixed;
         c.whole.0[0] = 1;
     }),
-    (27, |c| c.whole = c.fixed),
+    (27, |c| {
+        c.whole = c.fixed;
+        c.whole.0[0] = 1;
+    }),
     (28, |c| c.source.0 = [c.source.0[0], 1, 0, 0, 0, 0]),
     (29, |c| c.whole.0[4] = 0),
     (30, |c| c.whole.0[4] = c.source.0[4] + 1),
