@@ -113,15 +113,39 @@ fn offset_delta_by_size(src: TrailingSliceLayout, dst_layout: DstLayout) -> Shif
     }
 }
 
-// A shift at which the sequences match.
-fn matching_shift(src: TrailingSliceLayout, dst: TrailingSliceLayout, shift: Shift) -> Shift
-    requires { ⌜ (0 < trailingOf src .word) × (0 < trailingOf dst .word) ⌝ }
-    ensures { λ r. ⌜ shiftIn r ≡ matchedShift 64 (sameSequence 64) (trailingOf src) (trailingOf dst) (shiftIn shift) ⌝ }
+// The first way, where the sequences match at that shift. Of two such functions each calls the match itself: a function that both
+// called would hand shifts back through memory.
+fn matching_offset(src: TrailingSliceLayout, dst: TrailingSliceLayout) -> Shift
+    requires { ⌜ (0 < trailingOf src .word) × (0 < trailingOf dst .word) × (0 < trailingOf dst .elem) ⌝ }
+    ensures { λ r. ⌜
+        shiftIn r ≡ matchedShift 64 (sameSequence 64) (trailingOf src) (trailingOf dst)
+        (byOffset 64 (trailingOf src) (trailingOf dst))
+        ⌝ }
 {
-    match shift {
+    match exact_offset_delta_elems(src, dst) {
         Shift::By(elems) => {
             if sequences_match(src, dst, elems) {
                 Shift::By(elems)
+            } else {
+                Shift::Missing
+            }
+        }
+        Shift::Missing => Shift::Missing,
+    }
+}
+
+// The second way, where they do.
+fn matching_size(src: TrailingSliceLayout, dst_layout: DstLayout, dst: TrailingSliceLayout) -> Shift
+    requires { ⌜ (0 < trailingOf src .word) × (0 < trailingOf dst .word) ⌝ }
+    ensures { λ r. ⌜
+        shiftIn r ≡ matchedShift 64 (sameSequence 64) (trailingOf src) (trailingOf dst)
+        (bySize 64 (trailingOf src) (layoutOf «dst_layout»))
+        ⌝ }
+{
+    match offset_delta_by_size(src, dst_layout) {
+        Shift::By(count) => {
+            if sequences_match(src, dst, count) {
+                Shift::By(count)
             } else {
                 Shift::Missing
             }
@@ -139,9 +163,9 @@ fn matching_delta_elems(
     requires { ⌜ (0 < trailingOf src .word) × (0 < trailingOf dst .word) × (0 < trailingOf dst .elem) ⌝ }
     ensures { λ r. ⌜ shiftIn r ≡ shiftOf 64 (sameSequence 64) (trailingOf src) (layoutOf «dst_layout») (trailingOf dst) ⌝ }
 {
-    match matching_shift(src, dst, exact_offset_delta_elems(src, dst)) {
+    match matching_offset(src, dst) {
         Shift::By(elems) => Shift::By(elems),
-        Shift::Missing => matching_shift(src, dst, offset_delta_by_size(src, dst_layout)),
+        Shift::Missing => matching_size(src, dst_layout, dst),
     }
 }
 

@@ -9,11 +9,8 @@ use borrow.Author.Needs.{needs}
 use Rattle.shift.proofs.matching_delta_elems.Statement.{statement}
 use Rattle.shift.proofs.matching_delta_elems.Tie as tie
 
-exact-offset-delta-elems-requires : tie.Need-exact-offset-delta-elems-requires
-exact-offset-delta-elems-requires c κs = search needs
-
-matching-shift-requires : tie.Need-matching-shift-requires
-matching-shift-requires c κs = search needs
+matching-offset-requires : tie.Need-matching-offset-requires
+matching-offset-requires c κs = search needs
 
 enum-known-elems : tie.Need-enum-known-elems
 enum-known-elems c = search needs
@@ -21,39 +18,33 @@ enum-known-elems c = search needs
 enum-told : tie.Need-enum-told
 enum-told c = search needs
 
-offset-delta-by-size-requires : tie.Need-offset-delta-by-size-requires
-offset-delta-by-size-requires c κs = search needs
-
-matching-shift-requires-2 : tie.Need-matching-shift-requires-2
-matching-shift-requires-2 c κs = search needs
+matching-size-requires : tie.Need-matching-size-requires
+matching-size-requires c κs = search needs
 
 returns : tie.Need-returns
 unfolding shiftOf
 returns c =
-    let k = c .before .before .before .before .before in
+    let k = c .before .before .before .before in
     let s = trailingOf (k .args .src) in
     let t = trailingOf (k .args .dst) in
-    let m = sym (ap shiftIn (c .before .elems .given .1)) ∙ c .before .before .before .matching-shift .ensures ∙ ap (matchedShift 64 (sameSequence 64) s t) (c .before .before .before .before .exact-offset-delta-elems .ensures) in
-    ap (λ (x : Shift). orElse x (matchedShift 64 (sameSequence 64) s t (bySize 64 s (layoutOf (k .args .dst-layout))))) m
+    ap (λ (x : Shift). orElse x (matchedShift 64 (sameSequence 64) s t (bySize 64 s (layoutOf (k .args .dst-layout))))) (sym (ap shiftIn (c .before .elems .given .1)) ∙ c .before .before .before .matching-offset .ensures)
 
 returns-2 : tie.Need-returns-2
 unfolding shiftOf
 returns-2 c =
-    let k = c .before .before .before .before .before .before in
+    let k = c .before .before .before .before in
     let s = trailingOf (k .args .src) in
     let t = trailingOf (k .args .dst) in
-    let m = sym (ap shiftIn (c .before .before .enum-told .given .1)) ∙ c .before .before .before .before .matching-shift .ensures ∙ ap (matchedShift 64 (sameSequence 64) s t) (c .before .before .before .before .before .exact-offset-delta-elems .ensures) in
-    c .matching-shift2 .ensures ∙ ap (matchedShift 64 (sameSequence 64) s t) (c .before .offset-delta-by-size .ensures) ∙ ap (λ (x : Shift). orElse x (matchedShift 64 (sameSequence 64) s t (bySize 64 s (layoutOf (k .args .dst-layout))))) m
+    c .matching-size .ensures
+    ∙ ap (λ (x : Shift). orElse x (matchedShift 64 (sameSequence 64) s t (bySize 64 s (layoutOf (k .args .dst-layout))))) (sym (ap shiftIn (c .before .enum-told .given .1)) ∙ c .before .before .before .matching-offset .ensures)
 
 pub matching-delta-elems-spec : {M : Type 1} → statement M
 matching-delta-elems-spec =
     tie.close
     (tie.spec
-    exact-offset-delta-elems-requires
-    matching-shift-requires
+    matching-offset-requires
     enum-known-elems
     enum-told
-    offset-delta-by-size-requires
-    matching-shift-requires-2
+    matching-size-requires
     returns
     returns-2)
