@@ -211,9 +211,7 @@ pub extern "C" fn lukaripe_requires_static_padding(layout: Layout) -> Number
     ensures { λ r. ⌜ r ≡ decisionOut (withLayout 64 layout (λ l. staticFor 64 l)) ⌝ }
 {
     match layout_in(layout) {
-        LayoutAnswer::Layout(l) => exports_numbers::decision_out(padding::requires_static_padding(
-            l,
-        )),
+        LayoutAnswer::Layout(l) => exports_numbers::decision_out(needs::requires_static_padding(l)),
         LayoutAnswer::Refused(refusal) => exports_numbers::decision_out(Decision::Refused(refusal)),
     }
 }
@@ -224,7 +222,7 @@ pub extern "C" fn lukaripe_requires_dynamic_padding(layout: Layout) -> Number
     ensures { λ r. ⌜ r ≡ decisionOut (withLayout 64 layout (λ l. dynamicFor 64 l)) ⌝ }
 {
     match layout_in(layout) {
-        LayoutAnswer::Layout(l) => exports_numbers::decision_out(padding::requires_dynamic_padding(
+        LayoutAnswer::Layout(l) => exports_numbers::decision_out(needs::requires_dynamic_padding(
             l,
         )),
         LayoutAnswer::Refused(refusal) => exports_numbers::decision_out(Decision::Refused(refusal)),

@@ -140,17 +140,17 @@ fn print_layouts() {
     );
     print_one(
         b"requires_static_padding",
-        of_decision(padding::requires_static_padding(trailing(5))),
-        of_decision(padding::requires_static_padding(fixed(0))),
-        of_decision(padding::requires_static_padding(fixed(3))),
-        of_decision(padding::requires_static_padding(trailing(0))),
+        of_decision(needs::requires_static_padding(trailing(5))),
+        of_decision(needs::requires_static_padding(fixed(0))),
+        of_decision(needs::requires_static_padding(fixed(3))),
+        of_decision(needs::requires_static_padding(trailing(0))),
     );
     print_one(
         b"requires_dynamic_padding",
-        of_decision(padding::requires_dynamic_padding(trailing(5))),
-        of_decision(padding::requires_dynamic_padding(fixed(0))),
-        of_decision(padding::requires_dynamic_padding(fixed(3))),
-        of_decision(padding::requires_dynamic_padding(trailing(0))),
+        of_decision(needs::requires_dynamic_padding(trailing(5))),
+        of_decision(needs::requires_dynamic_padding(fixed(0))),
+        of_decision(needs::requires_dynamic_padding(fixed(3))),
+        of_decision(needs::requires_dynamic_padding(trailing(0))),
     );
     print_one(
         b"encode",

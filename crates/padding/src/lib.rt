@@ -1,20 +1,17 @@
-// Final padding, and what padding a layout needs, after zerocopy's DstLayout.
+// Final padding, after zerocopy's DstLayout.
 ghost use mathlib.Core.Path.{_≡_};
-ghost use mathlib.Core.Bool.{false};
 ghost use mathlib.Core.List.{[], _∷_};
 ghost use Prim.Native.Nat.{_<_};
 ghost use Rattle.util.specs.Power.{PowerOfTwo};
 ghost use Rattle.util.specs.Round.{up};
-ghost use Rattle.util.specs.Refusal.{answered, unless, None, Meets, Tells};
-ghost use Rattle.util.specs.View.{decisionSays};
+ghost use Rattle.util.specs.Refusal.{unless, None, Meets};
 ghost use Rattle.rounding.specs.Word.{IsWord};
 ghost use Rattle.trailing.specs.View.{trailingOf};
-ghost use Rattle.layout_defs.specs.Layout.{trailing, noWord, layoutCauses};
+ghost use Rattle.layout_defs.specs.Layout.{trailing, layoutCauses};
 ghost use Rattle.layout_defs.specs.Extend.{roundingPasses};
 ghost use Rattle.layout.specs.View.{infoOf, layoutOf, layoutSays, infoSays};
 ghost use Rattle.padding_defs.specs.Pad.{fixedPart, coarser, finer, paddedTail, paddedMark, padded};
-ghost use Rattle.padding_defs.specs.Pad.{paddingNeeds, padCauses, padFor, Padded, staticFor, DynamicPadding};
-ghost use Rattle.padding_defs.specs.Pad.{dynamicPadding, dynamicFor};
+ghost use Rattle.padding_defs.specs.Pad.{paddingNeeds, padCauses, padFor, Padded};
 use layout::Check;
 use layout::DstLayout;
 use layout::LayoutAnswer;
@@ -22,10 +19,8 @@ use layout::SizeInfo;
 use layout::SizeInfoAnswer;
 use rounding::ComponentsAnswer;
 use rounding::RoundingAlignAndPhase;
-use trailing::SizeAnswer;
 use trailing::TrailingSliceLayout;
 use util::Answer;
-use util::Decision;
 use util::refusal;
 // Padding to an alignment above that of the rounding word. The fixed part of every size, the base rounded up to the word's
 // alignment and the phase, splits into a multiple of the new alignment and the new phase.
@@ -120,36 +115,6 @@ fn pad_mark(size_info: SizeInfo, align: u64, unpadded: bool) -> bool
     }
 }
 
-fn trailing_padding(tail: TrailingSliceLayout) -> Decision
-    requires { ⌜ 0 < tail .«size_rounding_align_and_phase» .0 ⌝ }
-    ensures { λ r. ⌜ decisionSays r ≡ answered (dynamicPadding 64 (trailing (trailingOf tail))) ⌝ }
-{
-    let word = tail.size_rounding_align_and_phase;
-    match word.align() {
-        Answer::Number(align) => {
-            let SizeAnswer::Size(initial_size) = tail.size_for_elems(0) else {
-                return Decision::Is(true);
-            };
-            if initial_size == tail.offset {
-                Decision::Is(tail.elem_size & (align - 1) != 0)
-            } else {
-                Decision::Is(true)
-            }
-        }
-        Answer::Refused(number) => Decision::Refused(number),
-    }
-}
-
-fn dynamic_padding(size_info: SizeInfo) -> Decision
-    requires { ⌜ (noWord (infoOf «size_info») .means → ⊥) ⌝ }
-    ensures { λ r. ⌜ decisionSays r ≡ answered (dynamicPadding 64 (infoOf «size_info»)) ⌝ }
-{
-    match size_info {
-        SizeInfo::Sized { size: _ } => Decision::Is(false),
-        SizeInfo::SliceDst(tail) => trailing_padding(tail),
-    }
-}
-
 fn pad_checked(layout: DstLayout) -> LayoutAnswer
     requires { ⌜ None (layoutCauses 64 (layoutOf layout)) ⌝ }
     ensures { λ r. ⌜
@@ -188,35 +153,5 @@ pub fn pad_to_align(layout: DstLayout) -> LayoutAnswer
     match layout.check() {
         Check::Accepted => pad_checked(layout),
         Check::Refused(number) => LayoutAnswer::Refused(number),
-    }
-}
-
-// Whether padding between the members is not ruled out. A yes does not mean that there is some.
-pub fn requires_static_padding(layout: DstLayout) -> Decision
-    ensures answer { λ r. ⌜ decisionSays r ≡ staticFor 64 (layoutOf layout) ⌝ }
-    ensures meaning { λ r. ⌜
-        Meets (layoutCauses 64 (layoutOf layout)) (Tells (layoutOf layout .mark ≡ false)) (decisionSays r)
-        ⌝ }
-{
-    match layout.check() {
-        Check::Accepted => {
-            let unpadded = layout.statically_shallow_unpadded;
-            Decision::Is(!unpadded)
-        }
-        Check::Refused(number) => Decision::Refused(number),
-    }
-}
-
-// Whether padding after the elements is not ruled out at every count. A yes does not mean that a count needs some.
-pub fn requires_dynamic_padding(layout: DstLayout) -> Decision
-    ensures answer { λ r. ⌜ decisionSays r ≡ dynamicFor 64 (layoutOf layout) ⌝ }
-    ensures meaning { λ r. ⌜
-        Meets (layoutCauses 64 (layoutOf layout)) (Tells (DynamicPadding 64 (infoOf (layout .«size_info»)))) (decisionSays r)
-        ⌝ }
-{
-    let size_info = layout.size_info;
-    match layout.check() {
-        Check::Accepted => dynamic_padding(size_info),
-        Check::Refused(number) => Decision::Refused(number),
     }
 }

@@ -1,4 +1,4 @@
--- `padding::trailing_padding` meets its contract. Assumes nothing.
+-- `needs::trailing_padding` meets its contract. Assumes nothing.
 use mathlib.Core.Path.{sym, ap, _∙_, subst}
 use mathlib.Core.Bool.{not}
 use Prim.Native.Nat.{ℕ, _%_}
@@ -17,8 +17,8 @@ use Rattle.trailing.specs.View.{trailingOf}
 use Rattle.trailing.proofs.Told.{size-told, size-not}
 use Rattle.padding_defs.proofs.Marks.{align-answered}
 use borrow.Author.Needs.{needs}
-use Rattle.padding.proofs.trailing_padding.Statement.{statement}
-use Rattle.padding.proofs.trailing_padding.Tie as tie
+use Rattle.needs.proofs.trailing_padding.Statement.{statement}
+use Rattle.needs.proofs.trailing_padding.Tie as tie
 
 align-requires : tie.Need-align-requires
 align-requires c κs = search needs

@@ -1,4 +1,4 @@
--- `padding::dynamic_padding` meets its contract. Assumes nothing.
+-- `needs::dynamic_padding` meets its contract. Assumes nothing.
 use mathlib.Core.Path.{subst}
 use native.Mathlib.Omega.{arith}
 use Rattle.layout_defs.specs.Layout.{noWord}
@@ -6,8 +6,8 @@ use Rattle.layout.specs.View.{infoOf}
 use Rattle.layout.specs.declared.SizeInfo.{SizeInfo}
 use Rattle.layout.specs.declared.SizeInfo.the-variants.{SliceDst}
 use borrow.Author.Needs.{needs}
-use Rattle.padding.proofs.dynamic_padding.Statement.{statement}
-use Rattle.padding.proofs.dynamic_padding.Tie as tie
+use Rattle.needs.proofs.dynamic_padding.Statement.{statement}
+use Rattle.needs.proofs.dynamic_padding.Tie as tie
 
 enum-told : tie.Need-enum-told
 enum-told c = search needs

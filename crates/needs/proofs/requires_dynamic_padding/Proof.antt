@@ -1,4 +1,4 @@
--- `padding::requires_dynamic_padding` meets its contract. Assumes nothing.
+-- `needs::requires_dynamic_padding` meets its contract. Assumes nothing.
 use mathlib.Core.Path.{sym, _∙_}
 use native.Mathlib.Omega.{arith}
 use Rattle.util.proofs.Refusals.{told}
@@ -9,8 +9,8 @@ use Rattle.util.proofs.Tables.{told-by, accepted-as, refused-as, accepted-none}
 use Rattle.layout_defs.proofs.Layouts.{layout-decided}
 use Rattle.padding_defs.proofs.Marks.{dynamic-meets}
 use borrow.Author.Needs.{needs}
-use Rattle.padding.proofs.requires_dynamic_padding.Statement.{statement}
-use Rattle.padding.proofs.requires_dynamic_padding.Tie as tie
+use Rattle.needs.proofs.requires_dynamic_padding.Statement.{statement}
+use Rattle.needs.proofs.requires_dynamic_padding.Tie as tie
 
 check-requires : tie.Need-check-requires
 check-requires c κs = search needs

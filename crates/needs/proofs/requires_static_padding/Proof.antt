@@ -1,4 +1,4 @@
--- `padding::requires_static_padding` meets its contract. Assumes nothing.
+-- `needs::requires_static_padding` meets its contract. Assumes nothing.
 use mathlib.Core.Path.{sym}
 use mathlib.Core.Bool.{not}
 use native.Mathlib.Omega.{arith}
@@ -9,8 +9,8 @@ use Rattle.layout.specs.View.{layoutOf, checkSays}
 use Rattle.util.proofs.Tables.{told-by, accepted-as, refused-as}
 use Rattle.padding_defs.proofs.Marks.{static-meets}
 use borrow.Author.Needs.{needs}
-use Rattle.padding.proofs.requires_static_padding.Statement.{statement}
-use Rattle.padding.proofs.requires_static_padding.Tie as tie
+use Rattle.needs.proofs.requires_static_padding.Statement.{statement}
+use Rattle.needs.proofs.requires_static_padding.Tie as tie
 
 check-requires : tie.Need-check-requires
 check-requires c κs = search needs
