@@ -1,16 +1,15 @@
-// Conversions, after zerocopy's CastParams: whether a value of one layout may be read as another, and the count it then has.
+// Conversions, after zerocopy's CastParams: whether a value of one layout may be read as another, and how its count is
+// converted.
 ghost use mathlib.Core.Path.{_≡_};
 ghost use Rattle.util.specs.Refusal.{answered, None, Meets, unless};
-ghost use Rattle.util.specs.View.{numberSays};
 ghost use Rattle.trailing_defs.specs.Sequence.{sameSequence};
 ghost use Rattle.trailing.specs.View.{trailingOf};
 ghost use Rattle.layout_defs.specs.Layout.{fixed, trailing, layoutCauses, FitsWidth};
 ghost use Rattle.layout.specs.View.{infoOf, layoutOf};
 ghost use Rattle.convert_defs.specs.Reasons.{conversionCauses};
 ghost use Rattle.convert_defs.specs.Convert.{Params, paramsOf, byKinds};
-ghost use Rattle.convert_defs.specs.Convert.{unsizedToUnsized, Converts, computeCauses, computeFor, converted};
-ghost use Rattle.convert_defs.specs.Convert.{metadataCauses, metadataFor};
-ghost use Rattle.convert.specs.View.{paramsIn, computeSays};
+ghost use Rattle.convert_defs.specs.Convert.{Converts, computeCauses, computeFor};
+ghost use Rattle.convert.specs.View.{computeSays};
 use layout::Check;
 use layout::DstLayout;
 use layout::SizeInfo;
@@ -18,7 +17,6 @@ use shift::Shift;
 use shift::ShiftAnswer;
 use trailing::TrailingSliceLayout;
 use util::Answer;
-use util::Product;
 use util::refusal;
 
 // How a count is converted.
@@ -162,37 +160,5 @@ pub fn try_compute(src_layout: DstLayout, dst_layout: DstLayout) -> ComputeAnswe
             Check::Refused(number) => ComputeAnswer::Refused(number),
         },
         Check::Refused(number) => ComputeAnswer::Refused(number),
-    }
-}
-
-// base + metadata * multiple, where 64 bits hold it.
-fn add_scaled_metadata(base: u64, metadata: u64, multiple: u64) -> Answer
-    ensures { λ r. ⌜ numberSays r ≡ metadataFor 64 (unsizedToUnsized base multiple) metadata ⌝ }
-{
-    let Product::Fits(scaled) = util::checked_mul(metadata, multiple) else {
-        return Answer::Refused(refusal::CONVERTED_COUNT_PASSES_MAX);
-    };
-    if u64::MAX - base < scaled {
-        Answer::Refused(refusal::CONVERTED_COUNT_PASSES_MAX)
-    } else {
-        Answer::Number(base + scaled)
-    }
-}
-
-// The count of the target that src_meta of the source becomes.
-pub fn cast_metadata(params: CastParamsInner, src_meta: u64) -> Answer
-    ensures answer { λ r. ⌜ numberSays r ≡ metadataFor 64 (paramsIn params) «src_meta» ⌝ }
-    ensures meaning { λ r. ⌜
-        Meets (metadataCauses 64 (paramsIn params) «src_meta») (λ n. n ≡ converted (paramsIn params) «src_meta»)
-        (numberSays r)
-        ⌝ }
-{
-    match params {
-        CastParamsInner::UnsizedToUnsized {
-            offset_delta_elems,
-            elem_multiple,
-        } => add_scaled_metadata(offset_delta_elems, src_meta, elem_multiple),
-        CastParamsInner::SizedToUnsized { dst_meta } => Answer::Number(dst_meta),
-        CastParamsInner::SizedToSized => Answer::Number(0),
     }
 }

@@ -192,5 +192,5 @@ pub extern "C" fn lukaripe_try_compute(src: Layout, dst: Layout) -> CastParamsOu
 pub extern "C" fn lukaripe_cast_metadata(params: CastParams, src_meta: u64) -> Number
     ensures { λ r. ⌜ r ≡ numberOut (metadataFor 64 (paramsGiven params) «src_meta») ⌝ }
 {
-    exports_numbers::number_out(convert::cast_metadata(params_in(params), src_meta))
+    exports_numbers::number_out(carry::cast_metadata(params_in(params), src_meta))
 }

@@ -25,7 +25,7 @@ fn converted_count(computed: ComputeAnswer, src_meta: u64) -> Answer
     ensures { λ r. ⌜ numberSays r ≡ countAfter 64 (computeSays computed) «src_meta» ⌝ }
 {
     match computed {
-        ComputeAnswer::Params(params) => convert::cast_metadata(params, src_meta),
+        ComputeAnswer::Params(params) => carry::cast_metadata(params, src_meta),
         ComputeAnswer::Refused(number) => Answer::Refused(number),
     }
 }

@@ -1,4 +1,4 @@
--- `convert::add_scaled_metadata` meets its contract. Assumes nothing.
+-- `carry::add_scaled_metadata` meets its contract. Assumes nothing.
 use mathlib.Core.Path.{ap}
 use Prim.Native.Nat.{ℕ, _+_, _-_, _*_, _^_}
 use borrow.Author.Tests.{lt-ltb, le-ltb}
@@ -7,8 +7,8 @@ use Rattle.util.specs.Refusal.{answered, unless}
 use Rattle.util.proofs.Told.{product-told, product-past}
 use Rattle.convert_defs.specs.Convert.{metadataFor}
 use borrow.Author.Needs.{needs}
-use Rattle.convert.proofs.add_scaled_metadata.Statement.{statement}
-use Rattle.convert.proofs.add_scaled_metadata.Tie as tie
+use Rattle.carry.proofs.add_scaled_metadata.Statement.{statement}
+use Rattle.carry.proofs.add_scaled_metadata.Tie as tie
 
 checked-mul-requires : tie.Need-checked-mul-requires
 checked-mul-requires c κs = search needs

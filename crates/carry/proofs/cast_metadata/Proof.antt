@@ -1,4 +1,4 @@
--- `convert::cast_metadata` meets its contract. Assumes nothing.
+-- `carry::cast_metadata` meets its contract. Assumes nothing.
 use mathlib.Core.Path.{refl, sym, ap, _∙_}
 use Prim.Native.Nat.{_-_, _^_}
 use borrow.Author.Tests.{le-ltb}
@@ -6,12 +6,12 @@ use native.Mathlib.Omega.{arith}
 use Rattle.util.specs.Refusal.{unless}
 use Rattle.util.proofs.Refusals.{told}
 use Rattle.convert_defs.specs.Convert.{metadataFor}
 use Rattle.convert.specs.declared.CastParamsInner.{CastParamsInner}
 use Rattle.convert.specs.View.{paramsIn}
 use Rattle.convert_defs.proofs.Conversions.{metadata-meets}
 use borrow.Author.Needs.{needs}
-use Rattle.convert.proofs.cast_metadata.Statement.{statement}
-use Rattle.convert.proofs.cast_metadata.Tie as tie
+use Rattle.carry.proofs.cast_metadata.Statement.{statement}
+use Rattle.carry.proofs.cast_metadata.Tie as tie
 
 enum-known-params : tie.Need-enum-known-params
 enum-known-params c = search needs
