@@ -1,4 +1,4 @@
--- The laws of `record` at 32 bits: each holds at any width. Assumes nothing.
+-- The laws of `record_defs` at 32 bits: each holds at any width. Assumes nothing.
 use mathlib.Core.Path.{_≡_}
 use mathlib.Core.Bool.{Bool}
 use mathlib.Core.List.{List, [], _∷_}
@@ -7,11 +7,11 @@ use lib.ListN.{length}
 use Rattle.util.specs.Refusal.{answered, unless, None, Meets, Decided}
 use Rattle.layout_defs.specs.Layout.{Layout, checkFor, Info, layoutCauses}
 use Rattle.words.specs.Bytes.{wordAt}
-use Rattle.record.specs.Record.{Words, wordsAt, recordBytes, wordsOf, wordsLayout, wordsCauses, recordCauses, wordsFor, decodeFor, Decodes, encodeFor, encodeWordsFor, encodedInto}
+use Rattle.record_defs.specs.Record.{Words, wordsAt, recordBytes, wordsOf, wordsLayout, wordsCauses, recordCauses, wordsFor, decodeFor, Decodes, encodeFor, encodeWordsFor, encodedInto}
 use Rattle.words.proofs.LittleEndian.{AllBytes}
-use Rattle.record.proofs.RoundTrips.{Fits}
-use Rattle.record.proofs.Records as Records
-use Rattle.record.proofs.RoundTrips as RoundTrips
+use Rattle.record_defs.proofs.RoundTrips.{Fits}
+use Rattle.record_defs.proofs.Records as Records
+use Rattle.record_defs.proofs.RoundTrips as RoundTrips
 
 pub words-decided : (r : Words) → r .align < 2 ^ 32 → Decided (wordsCauses 32 r)
 words-decided = Records.words-decided 32

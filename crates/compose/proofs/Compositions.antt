@@ -14,7 +14,7 @@ use Rattle.util.proofs.Tables.{answer-is}
 use Rattle.layout_defs.specs.Layout.{fixed, Layout}
 use Rattle.make.specs.Make.{asked, emptyLayout, newZstFor}
 use Rattle.padding_defs.specs.Pad.{padFor}
-use Rattle.record.specs.Record.{decodeFor}
+use Rattle.record_defs.specs.Record.{decodeFor}
 use Rattle.compose.specs.Compose.{Composed, composed, refusedAt, andThen, bind, memberStep, addMembers, composeMembers, composeStruct, membersOf, composeFor, structFor}
 
 pub members-length : (w n : ℕ) (s : List ℕ) → length (membersOf w n s) ≡ n

@@ -10,7 +10,7 @@ use Rattle.layout_defs.specs.Layout.{Layout}
 use Rattle.make.specs.Make.{newZstFor}
 use Rattle.layout_defs.specs.Extend.{extendFor}
 use Rattle.padding_defs.specs.Pad.{padFor}
-use Rattle.record.specs.Record.{recordLength, decodeFor}
+use Rattle.record_defs.specs.Record.{recordLength, decodeFor}
 
 -- a composed layout, or a refusal with its place: the index of the member at fault, the member count for final padding, else 0
 pub data Composed : Type 0 where

@@ -4,7 +4,7 @@ ghost use Prim.Native.Nat.{_/_};
 ghost use lib.ListN.{length};
 ghost use Rattle.layout.specs.View.{layoutOf, sizedOf, layoutSays};
 ghost use Rattle.padding_defs.specs.Pad.{padFor};
-ghost use Rattle.record.specs.Record.{decodeFor};
+ghost use Rattle.record_defs.specs.Record.{decodeFor};
 ghost use Rattle.compose.specs.Compose.{composed, andThen, memberStep, addMembers, membersOf, membersFrom};
 ghost use Rattle.compose.specs.Compose.{composeFor, structFor};
 ghost use Rattle.compose.specs.View.{composeSays};

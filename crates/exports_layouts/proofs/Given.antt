@@ -8,7 +8,7 @@ use Rattle.layout.specs.declared.DstLayout.{DstLayout}
 use Rattle.layout.specs.declared.LayoutAnswer.{LayoutAnswer}
 use Rattle.layout.specs.declared.LayoutAnswer.the-variants as Answer
 use Rattle.layout.specs.View.{layoutOf, layoutSays}
-use Rattle.record.specs.Record.{wordsFor}
+use Rattle.record_defs.specs.Record.{wordsFor}
 use Rattle.exports_layouts.specs.declared.Layout as given
 use Rattle.exports_layouts.specs.Layouts.{bindOutcome, wordsGiven, withLayout}
 

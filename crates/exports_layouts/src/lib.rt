@@ -6,7 +6,7 @@ ghost use Rattle.make.specs.Make.{newZstFor, typeFor, sliceFor};
 ghost use Rattle.layout_defs.specs.Extend.{extendFor};
 ghost use Rattle.layout.specs.View.{layoutOf, layoutSays};
 ghost use Rattle.padding_defs.specs.Pad.{padFor, staticFor, dynamicFor};
-ghost use Rattle.record.specs.Record.{wordsFor, decodeFor, encodeWordsFor, encodedWordsInto};
+ghost use Rattle.record_defs.specs.Record.{wordsFor, decodeFor, encodeWordsFor, encodedWordsInto};
 ghost use Rattle.scalar.specs.Scalar.{target64, scalarFor};
 ghost use Rattle.record.specs.View.{wordsIn};
 ghost use Rattle.compose.specs.Compose.{composeFor, structFor};

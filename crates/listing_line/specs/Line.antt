@@ -4,7 +4,7 @@ use mathlib.Core.List.{List, [], _∷_, _++_}
 use Prim.Native.Nat.{ℕ, zero, suc, _+_, _/_, _%_}
 use lib.Dec.{ltb}
 use lib.ListN.{length, drop}
-use Rattle.record.specs.Record.{Words, wordsOf}
+use Rattle.record_defs.specs.Record.{Words, wordsOf}
 use Rattle.compose.specs.Compose.{Composed, composed, refusedAt, structFor}
 
 -- a number in decimal, in at most k digits, in ASCII

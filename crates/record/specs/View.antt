@@ -1,6 +1,6 @@
 -- What the types of this crate are, over numbers: document 01's number and values for each case of an answer. Assumes nothing.
 use Rattle.util.specs.Refusal.{Outcome, answered, refused}
-use Rattle.record.specs.Record.{Words}
+use Rattle.record_defs.specs.Record.{Words}
 use Rattle.record.specs.declared.Words as W
 use Rattle.record.specs.declared.EncodeAnswer.{EncodeAnswer}
 use Rattle.record.specs.declared.EncodeAnswer.the-variants as Encode

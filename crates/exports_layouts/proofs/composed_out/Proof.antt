@@ -1,6 +1,6 @@
 -- `exports_layouts::composed_out` meets its contract. Assumes nothing.
 use mathlib.Core.Path.{sym, ap, _∙_}
-use Rattle.record.specs.Record.{Words}
+use Rattle.record_defs.specs.Record.{Words}
 use Rattle.compose.specs.declared.ComposeAnswer.{ComposeAnswer}
 use Rattle.compose.specs.View.{composeSays}
 use Rattle.exports_layouts.specs.declared.Layout as given

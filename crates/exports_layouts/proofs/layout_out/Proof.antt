@@ -2,7 +2,7 @@
 use mathlib.Core.Path.{sym, ap, _∙_}
 use Rattle.layout.specs.declared.LayoutAnswer.{LayoutAnswer}
 use Rattle.layout.specs.View.{layoutSays}
-use Rattle.record.specs.Record.{Words}
+use Rattle.record_defs.specs.Record.{Words}
 use Rattle.exports_layouts.specs.declared.Layout as given
 use Rattle.exports_layouts.specs.Layouts.{wordsOut, layoutOut}
 use borrow.Author.Needs.{needs}

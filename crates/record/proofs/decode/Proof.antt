@@ -8,8 +8,8 @@ use lib.ListN.{length}
 use Rattle.util.specs.Refusal.{unless, refuses}
 use Rattle.util.proofs.Refusals.{told}
 use Rattle.words.specs.Bytes.{wordAt}
-use Rattle.record.specs.Record.{Words, wordsFor, decodeFor}
-use Rattle.record.proofs.Records.{record-meets, decode-words}
+use Rattle.record_defs.specs.Record.{Words, wordsFor, decodeFor}
+use Rattle.record_defs.proofs.Records.{record-meets, decode-words}
 use borrow.Author.Needs.{needs}
 use Rattle.record.proofs.decode.Statement.{statement}
 use Rattle.record.proofs.decode.Tie as tie

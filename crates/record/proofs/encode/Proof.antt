@@ -3,8 +3,8 @@ use mathlib.Core.Path.{ap, ap₂, _∙_}
 use lib.ListN.{length}
 use Rattle.util.specs.Refusal.{Outcome}
 use Rattle.layout.specs.View.{layoutOf}
-use Rattle.record.specs.Record.{Words, recordBytes, after, encodeWordsFor}
-use Rattle.record.proofs.RoundTrips.{words-encoded}
+use Rattle.record_defs.specs.Record.{Words, recordBytes, after, encodeWordsFor}
+use Rattle.record_defs.proofs.RoundTrips.{words-encoded}
 use borrow.Author.Needs.{needs}
 use Rattle.record.proofs.encode.Statement.{statement}
 use Rattle.record.proofs.encode.Tie as tie

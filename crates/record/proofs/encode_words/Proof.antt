@@ -6,10 +6,10 @@ use Rattle.util.specs.Refusal.{Outcome, answered, unless}
 use Rattle.util.proofs.Tables.{told-by, accepted-as, refused-as}
 use Rattle.layout_defs.specs.Layout.{Layout}
 use Rattle.layout.specs.View.{layoutSays}
-use Rattle.record.specs.Record.{Words, recordBytes, wordsLayout, wordsCauses, wordsFor, encodeWordsFor}
+use Rattle.record_defs.specs.Record.{Words, recordBytes, wordsLayout, wordsCauses, wordsFor, encodeWordsFor}
 use Rattle.record.specs.View.{wordsIn}
-use Rattle.record.proofs.Records.{write-done, write-refused, write-other}
-use Rattle.record.proofs.RoundTrips.{words-kept}
+use Rattle.record_defs.proofs.Records.{write-done, write-refused, write-other}
+use Rattle.record_defs.proofs.RoundTrips.{words-kept}
 use borrow.Author.Needs.{needs}
 use Rattle.record.proofs.encode_words.Statement.{statement}
 use Rattle.record.proofs.encode_words.Tie as tie

@@ -4,9 +4,9 @@ use borrow.Author.Tests.{lt-ltb, le-ltb, le-leb, lt-leb, eq-eqb, ne-eqb}
 use native.Mathlib.Omega.{arith}
 use Rattle.util.specs.Refusal.{unless}
 use Rattle.util.proofs.Refusals.{told}
-use Rattle.record.specs.Record.{wordsFor}
+use Rattle.record_defs.specs.Record.{wordsFor}
 use Rattle.record.specs.View.{wordsIn}
-use Rattle.record.proofs.Records.{words-meets}
+use Rattle.record_defs.proofs.Records.{words-meets}
 use borrow.Author.Needs.{needs}
 use Rattle.record.proofs.layout_from_words.Statement.{statement}
 use Rattle.record.proofs.layout_from_words.Tie as tie

@@ -1,7 +1,7 @@
 -- `record::put_words` meets its contract. Assumes nothing.
 use native.Mathlib.Omega.{arith}
 use Rattle.record.specs.View.{wordsIn}
-use Rattle.record.proofs.Records.{put-record}
+use Rattle.record_defs.proofs.Records.{put-record}
 use borrow.Author.Needs.{needs}
 use Rattle.record.proofs.put_words.Statement.{statement}
 use Rattle.record.proofs.put_words.Tie as tie

@@ -3,8 +3,8 @@ use mathlib.Core.Path.{sym, ap, _∙_}
 use Rattle.trailing.specs.View.{trailingOf}
 use Rattle.layout.specs.declared.SizeInfo.{SizeInfo}
 use Rattle.layout.specs.View.{infoOf}
-use Rattle.record.specs.Record.{wordsOf}
-use Rattle.record.proofs.Records.{fixed-words, trailing-words}
+use Rattle.record_defs.specs.Record.{wordsOf}
+use Rattle.record_defs.proofs.Records.{fixed-words, trailing-words}
 use borrow.Author.Needs.{needs}
 use Rattle.record.proofs.words_from_layout.Statement.{statement}
 use Rattle.record.proofs.words_from_layout.Tie as tie

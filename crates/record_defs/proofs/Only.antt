@@ -3,7 +3,7 @@ use mathlib.Core.Path.{_≡_, refl, sym, ap, _∙_}
 use mathlib.Core.Bool.{Bool, true, false}
 use Prim.Native.Nat.{ℕ}
 use Rattle.layout_defs.specs.Layout.{Info, fixed, trailing, Layout}
-use Rattle.record.specs.Record.{Words, wordsOf, wordsLayout, Decodes}
+use Rattle.record_defs.specs.Record.{Words, wordsOf, wordsLayout, Decodes}
 
 -- the layout of a layout's words is that layout
 words-layout : (a : ℕ) (i : Info) (m : Bool) → let l : Layout = record { align = a; info = i; mark = m } in wordsLayout (wordsOf l) ≡ l
@@ -12,6 +12,6 @@ words-layout a (fixed s) false = refl
 words-layout a (trailing t) true = refl
 words-layout a (trailing t) false = refl
 
-pub one-decoded : {r : Words} (l m : Layout) → Decodes r l → Decodes r m → l ≡ m
-one-decoded l m x y =
+pub one-decoded : (r : Words) (l m : Layout) → Decodes r l → Decodes r m → l ≡ m
+one-decoded r l m x y =
     sym (words-layout (l .align) (l .info) (l .mark)) ∙ ap wordsLayout (x ∙ sym y) ∙ words-layout (m .align) (m .info) (m .mark)

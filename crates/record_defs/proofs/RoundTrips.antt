@@ -15,8 +15,8 @@ use Rattle.util.specs.Helpers.{badAlign}
 use Rattle.layout_defs.specs.Layout.{Info, fixed, trailing, Layout, layoutCauses, checkFor}
 use Rattle.words.specs.Bytes.{bytesOf, wordAt}
 use Rattle.words.proofs.LittleEndian.{value-bytes, AllBytes, word-back}
-use Rattle.record.specs.Record.{Words, wordsAt, recordBytes, wordsOf, wordsLayout, laterWord, wordsCauses, badLength, wordsFor, decodeFor, encodeFor, after, encodedInto, encodeWordsFor, writeFor}
-use Rattle.record.proofs.Records.{record-length, later-decided, decoded, decode-words, encode-checked}
+use Rattle.record_defs.specs.Record.{Words, wordsAt, recordBytes, wordsOf, wordsLayout, laterWord, wordsCauses, badLength, wordsFor, decodeFor, encodeFor, after, encodedInto, encodeWordsFor, writeFor}
+use Rattle.record_defs.proofs.Records.{record-length, later-decided, decoded, decode-words, encode-checked}
 
 -- a test that did not refuse, and what follows it
 past : {T : Type 0} (b : Bool) (n : ℕ) (o : Outcome T) {z : T} → cond b (refused n) o ≡ answered z → (b ≡ false) × (o ≡ answered z)

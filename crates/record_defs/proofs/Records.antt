@@ -15,7 +15,7 @@ use Rattle.trailing_defs.specs.Size.{Trailing}
 use Rattle.layout_defs.specs.Layout.{fixed, trailing, Layout, checkFor}
 use Rattle.words.specs.Bytes.{bytesOf, wordAt, wordBytes, putInto}
 use Rattle.words.proofs.LittleEndian.{sets-whole, word-length, put-within, put-next, more}
-use Rattle.record.specs.Record.{Words, wordsAt, recordBytes, wordsOf, wordsLayout, laterWord, trailingWordZero, wordsCauses, recordCauses, wordsFor, decodeFor, Decodes, infoWords, writeFor, after, writtenInto, encodeFor}
+use Rattle.record_defs.specs.Record.{Words, wordsAt, recordBytes, wordsOf, wordsLayout, laterWord, trailingWordZero, wordsCauses, recordCauses, wordsFor, decodeFor, Decodes, infoWords, writeFor, after, writtenInto, encodeFor}
 
 -- the bytes of a record
 pub record-length : (r : Words) → length (recordBytes r) ≡ 48
