@@ -1,7 +1,7 @@
 // A trailing layout advanced by bytes, after zerocopy's method advance of TrailingSliceLayout. A method stands in the crate of
 // its type; this is a function in a crate of its own, since an edit of it then proves none of the layout's other functions again.
 ghost use mathlib.Core.Path.{_≡_};
-ghost use Rattle.util.specs.Refusal.{Meets};
+ghost use Rattle.util_defs.specs.Refusal.{Meets};
 ghost use Rattle.rounding.specs.Word.{IsWord};
 ghost use Rattle.trailing_defs.specs.Calls.{advanceCauses, advanceFor, Advanced};
 ghost use Rattle.trailing.specs.View.{trailingOf, advanceSays};

@@ -1,9 +1,9 @@
 -- The laws of `cast_defs` and `cast` at 32 bits: each holds at any width. Assumes nothing.
 use mathlib.Core.Path.{_≡_}
 use Prim.Native.Nat.{ℕ, _+_, _-_, _/_, _%_, _^_, _≤_, _<_}
-use Rattle.util.specs.Width.{M}
-use Rattle.util.specs.Round.{down}
-use Rattle.util.specs.Refusal.{answered, Tells, None, Meets, Decided, refused, unless}
+use Rattle.util_defs.specs.Width.{M}
+use Rattle.util_defs.specs.Round.{down}
+use Rattle.util_defs.specs.Refusal.{answered, Tells, None, Meets, Decided, refused, unless}
 use Rattle.rounding.specs.Word.{IsWord}
 use Rattle.trailing_defs.specs.Size.{Trailing, A, p, sizeAt}
 use Rattle.trailing_defs.specs.Count.{GreatestBytes, bytesWithin, GreatestCount, countWithin}

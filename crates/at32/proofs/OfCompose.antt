@@ -4,7 +4,7 @@ use mathlib.Core.Bool.{true}
 use mathlib.Core.List.{List}
 use Prim.Native.Nat.{ℕ, _-_, _*_, _/_, _%_, _≤_}
 use lib.ListN.{length, drop}
-use Rattle.util.specs.Refusal.{answered, refused}
+use Rattle.util_defs.specs.Refusal.{answered, refused}
 use Rattle.layout_defs.specs.Layout.{fixed, Layout}
 use Rattle.make.specs.Make.{newZstFor}
 use Rattle.compose.specs.Compose.{composed, refusedAt, bind, addMembers, membersOf, composeFor, structFor}

@@ -2,8 +2,8 @@
 use mathlib.Core.Path.{_≡_}
 use mathlib.Core.Bool.{Bool}
 use Prim.Native.Nat.{ℕ, _^_, _≤_, _<_}
-use Rattle.util.specs.Width.{M}
-use Rattle.util.specs.Refusal.{answered, refused, Meets, None}
+use Rattle.util_defs.specs.Width.{M}
+use Rattle.util_defs.specs.Refusal.{answered, refused, Meets, None}
 use Rattle.layout_defs.specs.Layout.{Info, Layout, sizeIn, layoutCauses, FitsWidth}
 use Rattle.shift_defs.specs.Match.{Comparison, Sound}
 use Rattle.convert_defs.specs.Convert.{Params, Converts, NoConversion, paramsOf, computeCauses, computeFor, converted, metadataCauses, metadataFor}

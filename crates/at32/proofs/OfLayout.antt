@@ -2,8 +2,8 @@
 use mathlib.Core.Path.{_≡_}
 use mathlib.Core.List.{[], _∷_}
 use Prim.Native.Nat.{ℕ, _≤_, _<_, _^_}
-use Rattle.util.specs.Width.{M}
-use Rattle.util.specs.Refusal.{answered, refused, unless, Meets, Decided, Tells, None}
+use Rattle.util_defs.specs.Width.{M}
+use Rattle.util_defs.specs.Refusal.{answered, refused, unless, Meets, Decided, Tells, None}
 use Rattle.util.specs.View.{numberSays}
 use Rattle.util.specs.declared.Answer.{Answer}
 use Rattle.util.specs.declared.Answer.the-variants as Answer
@@ -15,8 +15,8 @@ use Rattle.layout_defs.specs.Layout.{Layout, layoutCauses, FitsWidth, checkFor,
 use mathlib.Core.Bool.{Bool, _||_, true, false}
 use mathlib.Core.Logic.{_⊎_}
 use lib.Dec.{eqb}
-use Rattle.util.specs.Power.{PowerOfTwo, powerOfTwo}
-use Rattle.util.specs.Round.{up}
+use Rattle.util_defs.specs.Power.{PowerOfTwo, powerOfTwo}
+use Rattle.util_defs.specs.Round.{up}
 use Rattle.layout_defs.proofs.Passes as Passes
 use Rattle.layout_defs.proofs.Layouts as Layouts
 use Rattle.layout_defs.proofs.Steps as Steps

@@ -2,8 +2,8 @@
 use mathlib.Core.Path.{_≡_}
 use mathlib.Core.Bool.{Bool}
 use Prim.Native.Nat.{ℕ, _^_, _<_}
-use Rattle.util.specs.Refusal.{Meets, Decided}
-use Rattle.util.specs.Helpers.{alignCauses}
+use Rattle.util_defs.specs.Refusal.{Meets, Decided}
+use Rattle.util_defs.specs.Helpers.{alignCauses}
 use Rattle.make.specs.Make.{asked, emptyLayout, newZstFor, typeCauses, typeLayout, typeFor, sliceLayout, sliceFor}
 use Rattle.make.proofs.Made as Made
 

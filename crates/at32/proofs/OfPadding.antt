@@ -2,15 +2,15 @@
 use mathlib.Core.Path.{_≡_}
 use mathlib.Core.List.{[], _∷_}
 use Prim.Native.Nat.{ℕ, _≤_, _<_, _^_}
-use Rattle.util.specs.Width.{M}
-use Rattle.util.specs.Refusal.{answered, Meets, Decided, Tells, None}
+use Rattle.util_defs.specs.Width.{M}
+use Rattle.util_defs.specs.Refusal.{answered, Meets, Decided, Tells, None}
 use Rattle.util.specs.declared.Answer.the-variants as Answer
 use Rattle.layout.specs.declared.Check.the-variants as Check
 use Rattle.layout_defs.specs.Layout.{Layout, layoutCauses, Info, noWord}
 use mathlib.Core.Bool.{_||_, false}
 use mathlib.Core.Logic.{_⊎_}
-use Rattle.util.specs.Power.{PowerOfTwo}
-use Rattle.util.specs.Round.{up}
+use Rattle.util_defs.specs.Power.{PowerOfTwo}
+use Rattle.util_defs.specs.Round.{up}
 use Rattle.trailing_defs.specs.Size.{Trailing, A, sizeAt}
 use Rattle.padding_defs.specs.Pad.{coarser, paddedTail, padded, padCauses, padFor, Padded, paddedInfo, paddingNeeds, staticFor, DynamicPadding, dynamicPadding, dynamicFor}
 use Rattle.rounding.specs.Word.{alignOf, alignFor}

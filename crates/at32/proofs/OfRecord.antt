@@ -4,7 +4,7 @@ use mathlib.Core.Bool.{Bool}
 use mathlib.Core.List.{List, [], _∷_}
 use Prim.Native.Nat.{ℕ, _^_, _<_, _+_, _-_, _*_, _/_, _%_, _≤_}
 use lib.ListN.{length}
-use Rattle.util.specs.Refusal.{answered, unless, None, Meets, Decided}
+use Rattle.util_defs.specs.Refusal.{answered, unless, None, Meets, Decided}
 use Rattle.layout_defs.specs.Layout.{Layout, checkFor, Info, layoutCauses}
 use Rattle.words.specs.Bytes.{wordAt}
 use Rattle.record_defs.specs.Record.{Words, wordsAt, recordBytes, wordsOf, wordsLayout, wordsCauses, recordCauses, wordsFor, decodeFor, Decodes, encodeFor, encodeWordsFor, encodedInto}

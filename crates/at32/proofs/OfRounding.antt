@@ -2,8 +2,8 @@
 use mathlib.Core.Path.{_≡_}
 use Prim.Native.Nat.{ℕ, _+_, _-_, _*_, _%_, _^_, _≤_, _<_}
 use lib.Count.{leadingZeros}
-use Rattle.util.specs.Power.{PowerOfTwo}
-use Rattle.util.specs.Refusal.{answered, Meets}
+use Rattle.util_defs.specs.Power.{PowerOfTwo}
+use Rattle.util_defs.specs.Refusal.{answered, Meets}
 use Rattle.rounding.specs.Word.{IsWord, highestBit, alignOf, phaseOf, newCauses, wordCauses, newFor, componentsFor, alignFor, PartsOf, AlignOf}
 use Rattle.rounding.proofs.Words as Words
 

@@ -2,7 +2,7 @@
 use mathlib.Core.Path.{_≡_}
 use mathlib.Core.Bool.{Bool}
 use Prim.Native.Nat.{ℕ, _+_, _*_, _^_, _<_}
-use Rattle.util.specs.Refusal.{Tells, Meets, None, Decided}
+use Rattle.util_defs.specs.Refusal.{Tells, Meets, None, Decided}
 use Rattle.trailing_defs.specs.Size.{Trailing, sizeAt}
 use Rattle.trailing_defs.specs.Sequence.{EqualSizes, sameSequence}
 use Rattle.trailing_defs.specs.Calls.{sameCauses}

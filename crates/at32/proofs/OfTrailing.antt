@@ -2,14 +2,14 @@
 use mathlib.Core.Path.{_≡_}
 use Prim.Native.Nat.{ℕ, _/_, _+_, _-_, _*_, _%_, _^_, _≤_, _<_}
 use lib.Bits.{bitAnd}
-use Rattle.util.specs.Power.{PowerOfTwo}
-use Rattle.util.specs.Round.{down, padding, up}
+use Rattle.util_defs.specs.Power.{PowerOfTwo}
+use Rattle.util_defs.specs.Round.{down, padding, up}
 use Rattle.trailing_defs.specs.Size.{Trailing, A, p, sizeAt, HasSize, sizeWith, sizeOffset}
 use Rattle.trailing_defs.specs.Count.{GreatestCount, countWithin}
 use Rattle.trailing_defs.specs.Calls.{PaddingAt, paddingAt, sizeOffsetFor, SizeOffset, maxTrailingCauses, maxTrailingFor, GreatestIn, paddingForElems, sizeCauses, sizeFor, advanceCauses, advanced, advanceFor, Advanced, sameCauses, sameFor, FoundSame}
-use Rattle.util.specs.Refusal.{Tells, answered, refused, Meets}
+use Rattle.util_defs.specs.Refusal.{Tells, answered, refused, Meets}
 use Rattle.trailing_defs.specs.Sequence.{EqualSizes, SameStart, sameStart, SameSequence, sameSequence}
-use Rattle.util.specs.Width.{M}
+use Rattle.util_defs.specs.Width.{M}
 use Rattle.rounding.specs.Word.{IsWord, wordCauses}
 use Rattle.util.specs.View.{numberSays}
 use Rattle.util.specs.declared.Answer.{Answer}

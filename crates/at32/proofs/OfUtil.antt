@@ -3,20 +3,20 @@ use mathlib.Core.Path.{_≡_}
 use Prim.Native.Nat.{ℕ, _+_, _-_, _%_, _^_, _≤_, _<_, max, min}
 use lib.Bits.{bitAnd}
 use lib.Dec.{eqb}
-use Rattle.util.specs.Power.{PowerOfTwo, powerOfTwo}
-use Rattle.util.specs.Refusal.{Tells, answered, Meets}
-use Rattle.util.specs.Round.{down, padding, GreatestMultiple, LeastPadding}
-use Rattle.util.specs.Helpers.{badAlign, alignCauses, alignsCauses, paddingFor, roundDownFor, maxFor, minFor, Larger, Smaller}
-use Rattle.util.specs.Width.{M, fitting, passes, checked}
+use Rattle.util_defs.specs.Power.{PowerOfTwo, powerOfTwo}
+use Rattle.util_defs.specs.Refusal.{Tells, answered, Meets}
+use Rattle.util_defs.specs.Round.{down, padding, GreatestMultiple, LeastPadding}
+use Rattle.util_defs.specs.Helpers.{badAlign, alignCauses, alignsCauses, paddingFor, roundDownFor, maxFor, minFor, Larger, Smaller}
+use Rattle.util_defs.specs.Width.{M, fitting, passes, checked}
 use Rattle.util.specs.View.{numberSays, productSays}
 use Rattle.util.specs.declared.Answer.{Answer}
 use Rattle.util.specs.declared.Answer.the-variants as Answer
 use Rattle.util.specs.declared.Product.{Product}
 use Rattle.util.specs.declared.Product.the-variants as Product
-use Rattle.util.proofs.Powers as Powers
-use Rattle.util.proofs.Masks as Masks
-use Rattle.util.proofs.Helpers as Helpers
-use Rattle.util.proofs.Products as Products
+use Rattle.util_defs.proofs.Powers as Powers
+use Rattle.util_defs.proofs.Masks as Masks
+use Rattle.util_defs.proofs.Helpers as Helpers
+use Rattle.util_defs.proofs.Products as Products
 use Rattle.util.proofs.Told as Told
 
 pub exponent-lt : {a : ℕ} (p : PowerOfTwo a) → a < 2 ^ 32 → p .exponent < 32

@@ -5,9 +5,9 @@ use mathlib.Core.List.{[], _∷_}
 use Prim.Native.Nat.{ℕ, _≤_, _<_}
 use native.Mathlib.Omega.{arith}
 use borrow.Author.Tests.{eq-eqb, ne-eqb}
-use Rattle.util.specs.Refusal.{answered, refused, unless}
-use Rattle.util.proofs.Refusals.{known, tells-le, yes, told-true, tells-lt}
-use Rattle.util.proofs.Tables.{told-by, answer-is, accepted-none}
+use Rattle.util_defs.specs.Refusal.{answered, refused, unless}
+use Rattle.util_defs.proofs.Refusals.{known, tells-le, yes, told-true, tells-lt}
+use Rattle.util_defs.proofs.Tables.{told-by, answer-is, accepted-none}
 use Rattle.layout_defs.specs.Layout.{Info, fixed, trailing, Layout, sizeIn, noWord}
 use Rattle.layout_defs.specs.Extend.{IsTrailing, isTrailing}
 use Rattle.cast_defs.specs.Cast.{prefix, countIn, elemZero, tooSmall, castCauses, Grant, greatestGrant, castFor}

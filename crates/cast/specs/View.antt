@@ -1,5 +1,5 @@
 -- What the types of this crate are, over numbers: document 01's number and values for each case of an answer. Assumes nothing.
-use Rattle.util.specs.Refusal.{Outcome, answered, refused}
+use Rattle.util_defs.specs.Refusal.{Outcome, answered, refused}
 use Rattle.cast_defs.specs.Cast.{Side, prefix, suffix, Grant}
 use Rattle.cast.specs.declared.CastType.{CastType}
 use Rattle.cast.specs.declared.CastType.the-variants as Kind

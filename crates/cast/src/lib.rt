@@ -3,7 +3,7 @@
 ghost use mathlib.Core.Path.{_≡_};
 ghost use mathlib.Core.List.{[], _∷_};
 ghost use Prim.Native.Nat.{_+_, _^_, _≤_, _<_};
-ghost use Rattle.util.specs.Refusal.{answered, unless, None, Meets};
+ghost use Rattle.util_defs.specs.Refusal.{answered, unless, None, Meets};
 ghost use Rattle.util.specs.View.{numberSays};
 ghost use Rattle.rounding.specs.Word.{AlignOf};
 ghost use Rattle.trailing_defs.specs.Calls.{GreatestIn};

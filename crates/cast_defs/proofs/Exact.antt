@@ -6,9 +6,9 @@ use mathlib.Core.Logic.{inl, inr}
 use Prim.Native.Nat.{ℕ, _^_, _≤_, _<_}
 use native.Mathlib.Nat.{zero-mod}
 use native.Mathlib.Omega.{arith}
-use Rattle.util.specs.Refusal.{Outcome, answered, Tells, holds, fails, None, First, Meets, answers, refuses}
-use Rattle.util.proofs.Refusals.{known, answered-means, tells-eq, tells-le, tells-not, tells-as, meets, clear}
-use Rattle.util.proofs.Tables.{none-both, both-none, decided-both}
+use Rattle.util_defs.specs.Refusal.{Outcome, answered, Tells, holds, fails, None, First, Meets, answers, refuses}
+use Rattle.util_defs.proofs.Refusals.{known, answered-means, tells-eq, tells-le, tells-not, tells-as, meets, clear}
+use Rattle.util_defs.proofs.Tables.{none-both, both-none, decided-both}
 use Rattle.trailing_defs.specs.Size.{Trailing, A, sizeAt}
 use Rattle.trailing_defs.specs.Count.{GreatestCount, countWithin}
 use Rattle.trailing_defs.proofs.Sizes.{greatest-count, one-count, count-mono}

@@ -3,13 +3,13 @@ use mathlib.Core.Path.{_≡_, refl, sym, ap, _∙_, subst}
 use Prim.Native.Nat.{ℕ, _+_, _-_, _*_, _/_, _%_, _^_, _≤_, _<_}
 use native.Mathlib.Nat.{div-add-mod', mod-le}
 use native.Mathlib.Omega.{arith}
-use Rattle.util.specs.Round.{up, down}
-use Rattle.util.specs.Refusal.{unless, Outcome, answered, Tells, fails, None, Meets, Decided}
-use Rattle.util.proofs.Refusals.{known, answered-means, yes, told-true, tells-eq, tells-le, tells-lt, tells-not, tells-as, meets, clear}
-use Rattle.util.proofs.Tables.{none-both, decided-both, accepted-first}
-use Rattle.util.proofs.Rounding.{down-multiple, down-le, difference-multiple, up-less, up-multiple}
-use Rattle.util.proofs.Powers.{positive}
-use Rattle.util.proofs.Helpers.{power}
+use Rattle.util_defs.specs.Round.{up, down}
+use Rattle.util_defs.specs.Refusal.{unless, Outcome, answered, Tells, fails, None, Meets, Decided}
+use Rattle.util_defs.proofs.Refusals.{known, answered-means, yes, told-true, tells-eq, tells-le, tells-lt, tells-not, tells-as, meets, clear}
+use Rattle.util_defs.proofs.Tables.{none-both, decided-both, accepted-first}
+use Rattle.util_defs.proofs.Rounding.{down-multiple, down-le, difference-multiple, up-less, up-multiple}
+use Rattle.util_defs.proofs.Powers.{positive}
+use Rattle.util_defs.proofs.Helpers.{power}
 use Rattle.rounding.specs.Word.{IsWord}
 use Rattle.rounding.proofs.Words.{parts-of, at-parts, not-zero, align-power}
 use Rattle.trailing_defs.specs.Size.{Trailing, A, p, sizeWith, sizeAt}

@@ -1,9 +1,9 @@
 -- Which number refuses a cast of an accepted layout where several apply, over any width w. Assumes nothing.
 use mathlib.Core.Path.{_≡_, _∙_}
 use Prim.Native.Nat.{ℕ, _+_, _%_, _^_, _<_}
-use Rattle.util.specs.Refusal.{refused, unless, None}
-use Rattle.util.proofs.Refusals.{told-true, told-false, tells-eq, tells-lt, tells-not}
-use Rattle.util.specs.Width.{M}
+use Rattle.util_defs.specs.Refusal.{refused, unless, None}
+use Rattle.util_defs.proofs.Refusals.{told-true, told-false, tells-eq, tells-lt, tells-not}
+use Rattle.util_defs.specs.Width.{M}
 use Rattle.layout_defs.specs.Layout.{Layout, layoutCauses}
 use Rattle.cast_defs.specs.Cast.{Side, testedAddress, IsElemZero, castFor}
 use Rattle.cast_defs.proofs.Grants.{elem-decided, cast-accepted}

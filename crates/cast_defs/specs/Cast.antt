@@ -4,8 +4,8 @@ use mathlib.Core.Bool.{Bool, false, not}
 use mathlib.Core.List.{List, [], _∷_, _++_}
 use Prim.Native.Nat.{ℕ, _+_, _-_, _%_, _≤_, _<_}
 use lib.Dec.{eqb, ltb}
-use Rattle.util.specs.Width.{M}
-use Rattle.util.specs.Refusal.{Outcome, Cause, unless}
+use Rattle.util_defs.specs.Width.{M}
+use Rattle.util_defs.specs.Refusal.{Outcome, Cause, unless}
 use Rattle.trailing_defs.specs.Count.{countWithin}
 use Rattle.layout_defs.specs.Layout.{Info, fixed, trailing, Layout, IsCount, sizeIn, layoutCauses}
 

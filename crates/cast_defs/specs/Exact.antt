@@ -4,7 +4,7 @@ use mathlib.Core.Bool.{Bool, false, not, _&&_}
 use mathlib.Core.List.{List, [], _∷_, _++_}
 use Prim.Native.Nat.{ℕ, _≤_, _<_}
 use lib.Dec.{eqb}
-use Rattle.util.specs.Refusal.{Outcome, answered, refused, Cause, unless}
+use Rattle.util_defs.specs.Refusal.{Outcome, answered, refused, Cause, unless}
 use Rattle.trailing_defs.specs.Size.{Trailing, sizeAt, HasSize}
 use Rattle.layout_defs.specs.Layout.{Info, fixed, trailing, Layout, layoutCauses}
 use Rattle.layout_defs.specs.Extend.{isTrailing}

@@ -8,9 +8,9 @@ use borrow.Author.Tests.{eq-eqb, ne-eqb}
 use lib.Dec.{eqb}
 use lib.ListN.{length, take, drop}
 use lib.Seq.{drop-drop}
-use Rattle.util.specs.Refusal.{answered, refused}
-use Rattle.util.specs.Helpers.{alignCauses}
-use Rattle.util.proofs.Tables.{answer-is}
+use Rattle.util_defs.specs.Refusal.{answered, refused}
+use Rattle.util_defs.specs.Helpers.{alignCauses}
+use Rattle.util_defs.proofs.Tables.{answer-is}
 use Rattle.layout_defs.specs.Layout.{fixed, Layout}
 use Rattle.make.specs.Make.{asked, emptyLayout, newZstFor}
 use Rattle.padding_defs.specs.Pad.{padFor}

@@ -1,5 +1,5 @@
 -- What the types of this crate are, over numbers: document 01's number and values for each case of an answer. Assumes nothing.
-use Rattle.util.specs.Refusal.{Outcome, answered, refused}
+use Rattle.util_defs.specs.Refusal.{Outcome, answered, refused}
 use Rattle.convert_defs.specs.Convert as Convert
 use Rattle.convert_defs.specs.Convert.{Params}
 use Rattle.convert.specs.declared.CastParamsInner.{CastParamsInner}

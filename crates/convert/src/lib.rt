@@ -1,7 +1,7 @@
 // Conversions, after zerocopy's CastParams: whether a value of one layout may be read as another, and how its count is
 // converted.
 ghost use mathlib.Core.Path.{_≡_};
-ghost use Rattle.util.specs.Refusal.{answered, None, Meets, unless};
+ghost use Rattle.util_defs.specs.Refusal.{answered, None, Meets, unless};
 ghost use Rattle.trailing_defs.specs.Sequence.{sameSequence};
 ghost use Rattle.trailing.specs.View.{trailingOf};
 ghost use Rattle.layout_defs.specs.Layout.{fixed, trailing, layoutCauses, FitsWidth};

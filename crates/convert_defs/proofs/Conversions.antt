@@ -5,11 +5,11 @@ use mathlib.Core.List.{_++_}
 use Prim.Native.Nat.{ℕ, _+_, _-_, _*_, _/_, _%_, _^_, _≤_, _<_}
 use native.Mathlib.Nat.{lt-of-mul-lt-mul-right, mul-le-mul-right, mul-mod-left}
 use native.Mathlib.Omega.{arith}
-use Rattle.util.specs.Width.{M}
-use Rattle.util.specs.Refusal.{Outcome, answered, refused, None, Meets, Decided}
-use Rattle.util.proofs.Refusals.{known, tells-eq, tells-lt, meets, clear, answered-means}
-use Rattle.util.proofs.Tables.{apart, decided-both, none-both, both-none}
-use Rattle.util.proofs.Rounding.{multiple, same-multiple}
+use Rattle.util_defs.specs.Width.{M}
+use Rattle.util_defs.specs.Refusal.{Outcome, answered, refused, None, Meets, Decided}
+use Rattle.util_defs.proofs.Refusals.{known, tells-eq, tells-lt, meets, clear, answered-means}
+use Rattle.util_defs.proofs.Tables.{apart, decided-both, none-both, both-none}
+use Rattle.util_defs.proofs.Rounding.{multiple, same-multiple}
 use Rattle.trailing_defs.specs.Size.{Trailing}
 use Rattle.layout_defs.specs.Layout.{Info, fixed, trailing, Layout, layoutCauses}
 use Rattle.layout_defs.proofs.Layouts.{layout-decided}

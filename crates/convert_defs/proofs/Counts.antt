@@ -6,8 +6,8 @@ use mathlib.Core.Logic.{inl, inr}
 use Prim.Native.Nat.{ℕ, _+_, _*_, _≤_, _<_}
 use native.Mathlib.Nat.{le-mul-of-pos-right}
 use native.Mathlib.Omega.{arith}
-use Rattle.util.specs.Width.{M}
-use Rattle.util.specs.Refusal.{None}
+use Rattle.util_defs.specs.Width.{M}
+use Rattle.util_defs.specs.Refusal.{None}
 use Rattle.trailing_defs.specs.Size.{Trailing, A, p, sizeAt}
 use Rattle.trailing_defs.proofs.Sizes.{size-ge}
 use Rattle.layout_defs.specs.Layout.{Info, Layout, sizeIn, layoutCauses, FitsWidth}

@@ -4,9 +4,9 @@ use mathlib.Core.Path.{_≡_, refl}
 use mathlib.Core.Bool.{true}
 use mathlib.Core.List.{List, [], _∷_}
 use Prim.Native.Nat.{ℕ}
-use Rattle.util.specs.Power.{powerOfTwo}
-use Rattle.util.specs.Round.{up, down}
-use Rattle.util.specs.Refusal.{Outcome, refused, unless}
+use Rattle.util_defs.specs.Power.{powerOfTwo}
+use Rattle.util_defs.specs.Round.{up, down}
+use Rattle.util_defs.specs.Refusal.{Outcome, refused, unless}
 use Rattle.rounding.specs.Word.{highestBit}
 use Rattle.trailing_defs.specs.Size.{sizeWith}
 use Rattle.trailing_defs.specs.Count.{bytesWithin, countWithin}

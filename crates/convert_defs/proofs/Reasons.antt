@@ -5,10 +5,10 @@ use Prim.Native.Nat.{ℕ, _*_, _/_, _%_, _^_, _<_}
 use lib.Dec.{eqb}
 use native.Mathlib.Nat.{mul-mod-left}
 use native.Mathlib.Omega.{arith}
-use Rattle.util.specs.Refusal.{Outcome, answered, refused, Tells, holds, fails, None, Decided}
-use Rattle.util.proofs.Refusals.{tells-eq, tells-lt, tells-not, tells-as}
-use Rattle.util.proofs.Tables.{apart}
-use Rattle.util.proofs.Rounding.{multiple}
+use Rattle.util_defs.specs.Refusal.{Outcome, answered, refused, Tells, holds, fails, None, Decided}
+use Rattle.util_defs.proofs.Refusals.{tells-eq, tells-lt, tells-not, tells-as}
+use Rattle.util_defs.proofs.Tables.{apart}
+use Rattle.util_defs.proofs.Rounding.{multiple}
 use Rattle.trailing_defs.specs.Size.{Trailing}
 use Rattle.layout_defs.specs.Layout.{Info, fixed, trailing, Layout, layoutCauses}
 use Rattle.cast_defs.specs.Exact.{ExactCount, exactFor}

@@ -6,9 +6,9 @@ use mathlib.Core.Logic.{⊎-elim}
 use Prim.Native.Nat.{ℕ, _+_, _-_, _^_, _≤_, _<_}
 use lib.Dec.{lit<, lit≤}
 use native.Mathlib.Omega.{arith}
-use Rattle.util.specs.Refusal.{Outcome, answered, refused, First, Meets}
-use Rattle.util.proofs.Refusals.{answered-means, refused-means, no-number}
-use Rattle.util.proofs.Tables.{first-both, number-among}
+use Rattle.util_defs.specs.Refusal.{Outcome, answered, refused, First, Meets}
+use Rattle.util_defs.proofs.Refusals.{answered-means, refused-means, no-number}
+use Rattle.util_defs.proofs.Tables.{first-both, number-among}
 use Rattle.layout_defs.specs.Layout.{Info, fixed, trailing, Layout, noWord, layoutCauses}
 use Rattle.shift_defs.specs.Match.{Comparison}
 use Rattle.convert_defs.specs.Reasons.{conversionCauses, firstReason, lastReason}

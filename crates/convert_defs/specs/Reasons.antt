@@ -4,7 +4,7 @@ use mathlib.Core.Bool.{Bool, true, false, not}
 use mathlib.Core.List.{List, [], _∷_}
 use Prim.Native.Nat.{ℕ, _*_, _%_, _<_}
 use lib.Dec.{eqb, ltb}
-use Rattle.util.specs.Refusal.{Outcome, answered, refused, Cause}
+use Rattle.util_defs.specs.Refusal.{Outcome, answered, refused, Cause}
 use Rattle.layout_defs.specs.Layout.{Info, fixed, trailing, Layout}
 use Rattle.cast_defs.specs.Exact.{ExactCount, exactFor}
 use Rattle.shift_defs.specs.Match.{Comparison}

@@ -2,7 +2,7 @@
 use mathlib.Core.Bool.{Bool, true, false, cond}
 use Prim.Native.Nat.{ℕ}
 use lib.Dec.{eqb}
-use Rattle.util.specs.Refusal.{Outcome, answered, refused}
+use Rattle.util_defs.specs.Refusal.{Outcome, answered, refused}
 use Rattle.cast_defs.specs.Cast.{Side, prefix, suffix, Grant}
 use Rattle.convert_defs.specs.Convert.{Params, sizedToSized, sizedToUnsized, unsizedToUnsized}
 use Rattle.exports_converts.specs.declared.CastOut.{CastOut}

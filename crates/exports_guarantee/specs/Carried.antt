@@ -1,5 +1,5 @@
 -- How the answers of a conversion and of the casts after it cross to C. Assumes nothing.
-use Rattle.util.specs.Refusal.{Outcome, answered, refused}
+use Rattle.util_defs.specs.Refusal.{Outcome, answered, refused}
 use Rattle.guarantee.specs.Demand.{Answers}
 use Rattle.exports_numbers.specs.Numbers.{numberOut}
 use Rattle.exports_converts.specs.Converts.{castOut, paramsOut}

@@ -1,7 +1,7 @@
 // The conversion guarantee for C and Rust: no logic of its own. include/lukaripe.h is its C side. It stands apart, so that in the
 // exports of casts and conversions each of these functions is called once, and inlined.
 ghost use mathlib.Core.Path.{_≡_};
-ghost use Rattle.util.specs.Refusal.{answered, refused};
+ghost use Rattle.util_defs.specs.Refusal.{answered, refused};
 ghost use Rattle.trailing_defs.specs.Sequence.{sameSequence};
 ghost use Rattle.guarantee.specs.Demand.{answersOf};
 ghost use Rattle.guarantee.specs.View.{answersIn};

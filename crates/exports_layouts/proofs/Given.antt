@@ -1,8 +1,8 @@
 -- A layout that was handed over: accepted, the function is called on it; refused, the refusal is passed on. Assumes nothing.
 use mathlib.Core.Path.{_≡_, sym, ap}
 use Prim.Native.Nat.{ℕ}
-use Rattle.util.specs.Refusal.{Outcome, refused}
-use Rattle.util.proofs.Tables.{told-by}
+use Rattle.util_defs.specs.Refusal.{Outcome, refused}
+use Rattle.util_defs.proofs.Tables.{told-by}
 use Rattle.layout_defs.specs.Layout.{Layout}
 use Rattle.layout.specs.declared.DstLayout.{DstLayout}
 use Rattle.layout.specs.declared.LayoutAnswer.{LayoutAnswer}

@@ -1,6 +1,6 @@
 -- How layouts, records and member lists cross to C: a layout as the six words of its record. Assumes nothing.
 use Prim.Native.Nat.{ℕ}
-use Rattle.util.specs.Refusal.{Outcome, answered, refused}
+use Rattle.util_defs.specs.Refusal.{Outcome, answered, refused}
 use Rattle.layout_defs.specs.Layout.{Layout}
 use Rattle.record_defs.specs.Record.{Words, wordsOf, wordsFor}
 use Rattle.compose.specs.Compose.{Composed, composed, refusedAt}

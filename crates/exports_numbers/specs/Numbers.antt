@@ -3,7 +3,7 @@
 -- Numbers and trailing layouts. Assumes nothing.
 use mathlib.Core.Bool.{Bool, true, false}
 use Prim.Native.Nat.{ℕ}
-use Rattle.util.specs.Refusal.{Outcome, answered, refused}
+use Rattle.util_defs.specs.Refusal.{Outcome, answered, refused}
 use Rattle.rounding.specs.Word.{Components}
 use Rattle.trailing_defs.specs.Size.{Trailing}
 use Rattle.trailing_defs.specs.Sized.{SizeOutcome, sized, noneAbove, refusedBy}

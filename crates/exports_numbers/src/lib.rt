@@ -1,7 +1,7 @@
 // The functions of numbers and of trailing layouts for C and Rust: no logic of their own. include/lukaripe.h is their C side.
 ghost use mathlib.Core.Path.{_≡_};
-ghost use Rattle.util.specs.Power.{powerOfTwo};
-ghost use Rattle.util.specs.Helpers.{paddingFor, roundDownFor, maxFor, minFor};
+ghost use Rattle.util_defs.specs.Power.{powerOfTwo};
+ghost use Rattle.util_defs.specs.Helpers.{paddingFor, roundDownFor, maxFor, minFor};
 ghost use Rattle.util.specs.View.{numberSays, decisionSays};
 ghost use Rattle.rounding.specs.Word.{newFor, componentsFor, alignFor};
 ghost use Rattle.trailing_defs.specs.Calls.{sizeOffsetFor, maxTrailingFor, paddingForElems, advanceFor, sameFor};

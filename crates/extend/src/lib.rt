@@ -2,9 +2,9 @@
 // calls are functions in a crate of their own, since an edit of them then proves no other function of layouts again.
 ghost use mathlib.Core.Path.{_≡_};
 ghost use Prim.Native.Nat.{ℕ};
-ghost use Rattle.util.specs.Round.{padding};
-ghost use Rattle.util.specs.Power.{PowerOfTwo};
-ghost use Rattle.util.specs.Refusal.{answered, refused, unless, Meets};
+ghost use Rattle.util_defs.specs.Round.{padding};
+ghost use Rattle.util_defs.specs.Power.{PowerOfTwo};
+ghost use Rattle.util_defs.specs.Refusal.{answered, refused, unless, Meets};
 ghost use Rattle.util.specs.View.{numberSays};
 ghost use Rattle.trailing.specs.View.{trailingOf};
 ghost use Rattle.layout_defs.specs.Layout.{trailing};

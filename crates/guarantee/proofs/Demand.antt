@@ -4,10 +4,10 @@ use Prim.Native.Nat.{ℕ, _+_, _%_, _^_, _≤_, _<_}
 use lib.Dec.{lit<}
 use borrow.Author.Tests.{le-ltb}
 use native.Mathlib.Omega.{arith}
-use Rattle.util.specs.Width.{M}
-use Rattle.util.specs.Refusal.{Outcome, answered, unless, None}
-use Rattle.util.proofs.Refusals.{clear}
-use Rattle.util.proofs.Tables.{both-none}
+use Rattle.util_defs.specs.Width.{M}
+use Rattle.util_defs.specs.Refusal.{Outcome, answered, unless, None}
+use Rattle.util_defs.proofs.Refusals.{clear}
+use Rattle.util_defs.proofs.Tables.{both-none}
 use Rattle.trailing_defs.specs.Size.{A, p}
 use Rattle.trailing_defs.specs.Sequence.{sameSequence}
 use Rattle.layout_defs.specs.Layout.{Info, fixed, trailing, Layout, IsCount, sizeIn, noWord, layoutCauses}

@@ -4,10 +4,10 @@ use mathlib.Core.Bool.{true}
 use Prim.Native.Nat.{ℕ, _+_, _%_, _≤_}
 use lib.Dec.{lit<}
 use native.Mathlib.Omega.{arith}
-use Rattle.util.specs.Width.{M}
-use Rattle.util.specs.Power.{powerOfTwo}
-use Rattle.util.specs.Round.{up, down}
-use Rattle.util.specs.Refusal.{Outcome, answered, unless}
+use Rattle.util_defs.specs.Width.{M}
+use Rattle.util_defs.specs.Power.{powerOfTwo}
+use Rattle.util_defs.specs.Round.{up, down}
+use Rattle.util_defs.specs.Refusal.{Outcome, answered, unless}
 use Rattle.rounding.specs.Word.{highestBit}
 use Rattle.trailing_defs.specs.Size.{sizeWith}
 use Rattle.trailing_defs.specs.Count.{bytesWithin, countWithin}

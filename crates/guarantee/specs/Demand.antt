@@ -2,8 +2,8 @@
 -- nothing.
 use mathlib.Core.Path.{_≡_}
 use Prim.Native.Nat.{ℕ, _+_, _%_, _≤_}
-use Rattle.util.specs.Width.{M}
-use Rattle.util.specs.Refusal.{Outcome, answered, refused, None}
+use Rattle.util_defs.specs.Width.{M}
+use Rattle.util_defs.specs.Refusal.{Outcome, answered, refused, None}
 use Rattle.layout_defs.specs.Layout.{Layout, IsCount, sizeIn, layoutCauses, FitsWidth}
 use Rattle.cast_defs.specs.Cast.{prefix, Greatest, Grant, castFor}
 use Rattle.shift_defs.specs.Match.{Comparison}

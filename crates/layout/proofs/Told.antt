@@ -1,8 +1,8 @@
 -- What the answers of layouts tell their callers. Assumes nothing.
 use mathlib.Core.Path.{_≡_, subst}
 use Prim.Native.Nat.{ℕ}
-use Rattle.util.specs.Refusal.{Meets}
-use Rattle.util.proofs.Refusals.{answered-means}
+use Rattle.util_defs.specs.Refusal.{Meets}
+use Rattle.util_defs.proofs.Refusals.{answered-means}
 use Rattle.layout_defs.specs.Layout.{Layout, layoutCauses, FitsWidth}
 use Rattle.layout.specs.declared.Check.{Check}
 use Rattle.layout.specs.declared.Check.the-variants as Check

@@ -1,5 +1,5 @@
 -- What the types of this crate are, over numbers: document 01's number and values for each case of an answer. Assumes nothing.
-use Rattle.util.specs.Refusal.{Outcome, answered, refused}
+use Rattle.util_defs.specs.Refusal.{Outcome, answered, refused}
 use Rattle.trailing.specs.View.{trailingOf}
 use Rattle.layout_defs.specs.Layout.{Info, fixed, trailing, Layout}
 use Rattle.layout.specs.declared.SizeInfo.{SizeInfo}

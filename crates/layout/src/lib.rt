@@ -1,6 +1,6 @@
 // Whole layouts, after zerocopy's DstLayout.
 ghost use mathlib.Core.Path.{_≡_};
-ghost use Rattle.util.specs.Refusal.{Meets};
+ghost use Rattle.util_defs.specs.Refusal.{Meets};
 ghost use Rattle.util.specs.View.{numberSays};
 ghost use Rattle.layout_defs.specs.Layout.{layoutCauses, checkFor, FitsWidth};
 ghost use Rattle.layout_defs.specs.Extend.{roundUpCauses, roundUpFor, LeastPlace};

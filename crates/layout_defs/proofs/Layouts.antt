@@ -2,10 +2,10 @@
 use mathlib.Core.Path.{_≡_, sym, subst}
 use mathlib.Core.Bool.{Bool, true, false}
 use Prim.Native.Nat.{ℕ, _^_, _<_}
-use Rattle.util.specs.Power.{powerOfTwo}
-use Rattle.util.specs.Refusal.{Outcome, answered, refused, unless, Tells, fails, Meets, refuses, Decided}
-use Rattle.util.proofs.Refusals.{tells-eq, meets, refused-means}
-use Rattle.util.proofs.Helpers.{align-decided}
+use Rattle.util_defs.specs.Power.{powerOfTwo}
+use Rattle.util_defs.specs.Refusal.{Outcome, answered, refused, unless, Tells, fails, Meets, refuses, Decided}
+use Rattle.util_defs.proofs.Refusals.{tells-eq, meets, refused-means}
+use Rattle.util_defs.proofs.Helpers.{align-decided}
 use Rattle.layout_defs.specs.Layout.{Info, fixed, trailing, Layout, noWord, layoutCauses, FitsWidth, checkFor}
 
 -- a fixed layout has no rounding word; that of a trailing one is tested

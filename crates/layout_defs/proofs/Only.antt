@@ -3,9 +3,9 @@ use mathlib.Core.Path.{_≡_, sym, ap, _∙_, subst}
 use mathlib.Core.Bool.{true}
 use Prim.Native.Nat.{ℕ}
 use native.Mathlib.Omega.{arith}
-use Rattle.util.specs.Refusal.{Tells}
-use Rattle.util.proofs.Refusals.{agree}
-use Rattle.util.proofs.Only.{one-larger}
+use Rattle.util_defs.specs.Refusal.{Tells}
+use Rattle.util_defs.proofs.Refusals.{agree}
+use Rattle.util_defs.proofs.Only.{one-larger}
 use Rattle.layout_defs.specs.Layout.{fixed, Layout}
 use Rattle.layout_defs.specs.Extend.{memberAlign, placedAt, LeastPlace, Extended}
 

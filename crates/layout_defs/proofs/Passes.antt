@@ -5,20 +5,20 @@ use mathlib.Core.List.{[], _∷_}
 use Prim.Native.Nat.{ℕ, _^_, _≤_, _<_}
 use native.Mathlib.Omega.{arith}
 use borrow.Author.Tests.{le-ltb, lt-ltb}
-use Rattle.util.specs.Width.{M}
-use Rattle.util.specs.Power.{PowerOfTwo}
-use Rattle.util.specs.Round.{up}
-use Rattle.util.specs.Refusal.{answered, refused, unless, Tells, holds, fails, Meets}
+use Rattle.util_defs.specs.Width.{M}
+use Rattle.util_defs.specs.Power.{PowerOfTwo}
+use Rattle.util_defs.specs.Round.{up}
+use Rattle.util_defs.specs.Refusal.{answered, refused, unless, Tells, holds, fails, Meets}
 use Rattle.util.specs.View.{numberSays}
 use Rattle.util.specs.declared.Answer.{Answer}
 use Rattle.util.specs.declared.Answer.the-variants as Answer
-use Rattle.util.specs.Helpers.{alignCauses}
-use Rattle.util.proofs.Refusals.{tells-lt, meets, clear}
-use Rattle.util.proofs.Powers.{positive}
-use Rattle.util.proofs.Rounding.{up-multiple, up-ge, up-least}
-use Rattle.util.proofs.Helpers.{power, align-decided}
+use Rattle.util_defs.specs.Helpers.{alignCauses}
+use Rattle.util_defs.proofs.Refusals.{tells-lt, meets, clear}
+use Rattle.util_defs.proofs.Powers.{positive}
+use Rattle.util_defs.proofs.Rounding.{up-multiple, up-ge, up-least}
+use Rattle.util_defs.proofs.Helpers.{power, align-decided}
 use Rattle.layout_defs.specs.Extend.{roundingPasses, LeastPlace, roundUpCauses, roundUpFor}
-use Rattle.util.proofs.Tables.{apart, accepted-first}
+use Rattle.util_defs.proofs.Tables.{apart, accepted-first}
 
 -- a number that is at most M is not refused; one above M is, by 8
 pub within : {T : Type 0} (w v : ℕ) (x : T) → v ≤ M w → answered x ≡ unless (roundingPasses w v ∷ []) x

@@ -8,17 +8,17 @@ use native.Mathlib.Nat.{min-eq-left, min-eq-right, min-le-left, le-of-lt}
 use native.Mathlib.Omega.{arith}
 use lib.Dec.{eqb, leb, ltb}
 use borrow.Author.Tests.{leb-true, leb-false, le-ltb, lt-ltb}
-use Rattle.util.specs.Width.{M}
-use Rattle.util.specs.Power.{PowerOfTwo, powerOfTwo}
-use Rattle.util.specs.Round.{up}
-use Rattle.util.specs.Refusal.{Outcome, answered, refused, unless, Tells, holds, fails, None, Meets, Decided}
-use Rattle.util.specs.Helpers.{Larger, alignsCauses}
-use Rattle.util.proofs.Refusals.{known, tells-true, tells-eq, tells-lt, tells-not, tells-and, tells-or, meets, answered-means}
-use Rattle.util.proofs.Powers.{positive, tells-power}
-use Rattle.util.proofs.Helpers.{power, max-meets, max-answered}
+use Rattle.util_defs.specs.Width.{M}
+use Rattle.util_defs.specs.Power.{PowerOfTwo, powerOfTwo}
+use Rattle.util_defs.specs.Round.{up}
+use Rattle.util_defs.specs.Refusal.{Outcome, answered, refused, unless, Tells, holds, fails, None, Meets, Decided}
+use Rattle.util_defs.specs.Helpers.{Larger, alignsCauses}
+use Rattle.util_defs.proofs.Refusals.{known, tells-true, tells-eq, tells-lt, tells-not, tells-and, tells-or, meets, answered-means}
+use Rattle.util_defs.proofs.Powers.{positive, tells-power}
+use Rattle.util_defs.proofs.Helpers.{power, max-meets, max-answered}
 use Rattle.layout_defs.specs.Layout.{Info, fixed, trailing, Layout, layoutCauses, checkFor}
 use Rattle.layout_defs.specs.Extend.{memberAlign, placeOf, extended, badPacking, greatestAlign, IsTrailing, isTrailing, MemberPastM, isMemberPastM, memberPasses, placeCauses, stepCauses, extendCauses, extendFor, Extended}
-use Rattle.util.proofs.Tables.{decided-both, none-both, refused-first, accepted-first}
+use Rattle.util_defs.proofs.Tables.{decided-both, none-both, refused-first, accepted-first}
 use Rattle.layout_defs.proofs.Layouts.{layout-decided}
 use Rattle.layout_defs.proofs.Passes.{least-place}
 

@@ -6,11 +6,11 @@ use mathlib.Core.List.{List, [], _∷_, _++_}
 use mathlib.Core.Logic.{_⊎_}
 use Prim.Native.Nat.{ℕ, _+_, _%_, _^_, _≤_, _<_, max, min}
 use lib.Dec.{eqb, ltb}
-use Rattle.util.specs.Width.{M}
-use Rattle.util.specs.Power.{PowerOfTwo, powerOfTwo}
-use Rattle.util.specs.Round.{up}
-use Rattle.util.specs.Refusal.{Outcome, Cause, unless, Tells}
-use Rattle.util.specs.Helpers.{badAlign, Larger}
+use Rattle.util_defs.specs.Width.{M}
+use Rattle.util_defs.specs.Power.{PowerOfTwo, powerOfTwo}
+use Rattle.util_defs.specs.Round.{up}
+use Rattle.util_defs.specs.Refusal.{Outcome, Cause, unless, Tells}
+use Rattle.util_defs.specs.Helpers.{badAlign, Larger}
 use Rattle.layout_defs.specs.Layout.{Info, fixed, trailing, Layout, layoutCauses}
 
 -- a member's alignment: the smaller of its own and the packing; packing 0 means that none was asked for

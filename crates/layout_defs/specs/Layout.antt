@@ -3,8 +3,8 @@ use mathlib.Core.Path.{_≡_}
 use mathlib.Core.Bool.{Bool, false}
 use mathlib.Core.List.{List, [], _∷_}
 use Prim.Native.Nat.{ℕ, _^_, _<_}
-use Rattle.util.specs.Refusal.{Outcome, Cause, unless}
-use Rattle.util.specs.Helpers.{badAlign}
+use Rattle.util_defs.specs.Refusal.{Outcome, Cause, unless}
+use Rattle.util_defs.specs.Helpers.{badAlign}
 use Rattle.rounding.specs.Word.{wordZero}
 use Rattle.trailing_defs.specs.Size.{Trailing, sizeAt}
 

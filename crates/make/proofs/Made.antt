@@ -2,10 +2,10 @@
 use mathlib.Core.Path.{_≡_, refl}
 use mathlib.Core.Bool.{Bool}
 use Prim.Native.Nat.{ℕ, _%_, _^_, _<_}
-use Rattle.util.specs.Refusal.{Meets, Decided}
-use Rattle.util.specs.Helpers.{alignCauses}
-use Rattle.util.proofs.Refusals.{tells-eq, tells-not, meets}
-use Rattle.util.proofs.Helpers.{align-decided}
+use Rattle.util_defs.specs.Refusal.{Meets, Decided}
+use Rattle.util_defs.specs.Helpers.{alignCauses}
+use Rattle.util_defs.proofs.Refusals.{tells-eq, tells-not, meets}
+use Rattle.util_defs.proofs.Helpers.{align-decided}
 use Rattle.make.specs.Make.{asked, emptyLayout, newZstFor, typeCauses, typeLayout, typeFor, sliceLayout, sliceFor}
 
 pub zst-meets : (w a : ℕ) → asked a < 2 ^ w → Meets (alignCauses w (asked a)) (λ l. l ≡ emptyLayout a) (newZstFor w a)

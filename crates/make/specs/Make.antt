@@ -5,8 +5,8 @@ use mathlib.Core.Bool.{Bool, true, cond, not}
 use mathlib.Core.List.{List, [], _∷_}
 use Prim.Native.Nat.{ℕ, _%_}
 use lib.Dec.{eqb}
-use Rattle.util.specs.Refusal.{Outcome, Cause, unless}
-use Rattle.util.specs.Helpers.{badAlign, alignCauses}
+use Rattle.util_defs.specs.Refusal.{Outcome, Cause, unless}
+use Rattle.util_defs.specs.Helpers.{badAlign, alignCauses}
 use Rattle.layout_defs.specs.Layout.{Layout, fixed, trailing}
 
 -- an alignment parameter: 0 means that none was asked for, and the least is taken

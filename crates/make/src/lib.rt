@@ -1,8 +1,8 @@
 // Layouts made of numbers, after zerocopy's constructors of DstLayout.
 ghost use mathlib.Core.Path.{_≡_};
 ghost use mathlib.Core.Bool.{true, false};
-ghost use Rattle.util.specs.Refusal.{unless, Meets};
-ghost use Rattle.util.specs.Helpers.{alignCauses};
+ghost use Rattle.util_defs.specs.Refusal.{unless, Meets};
+ghost use Rattle.util_defs.specs.Helpers.{alignCauses};
 ghost use Rattle.layout.specs.View.{layoutSays, checkSays};
 ghost use Rattle.make.specs.Make.{asked, emptyLayout, newZstFor, typeCauses, typeLayout, typeFor, sliceLayout, sliceFor};
 use layout::DstLayout;

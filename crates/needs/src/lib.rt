@@ -2,7 +2,7 @@
 ghost use mathlib.Core.Path.{_≡_};
 ghost use mathlib.Core.Bool.{false};
 ghost use Prim.Native.Nat.{_<_};
-ghost use Rattle.util.specs.Refusal.{answered, Meets, Tells};
+ghost use Rattle.util_defs.specs.Refusal.{answered, Meets, Tells};
 ghost use Rattle.util.specs.View.{decisionSays};
 ghost use Rattle.trailing.specs.View.{trailingOf};
 ghost use Rattle.layout_defs.specs.Layout.{trailing, noWord, layoutCauses};

@@ -2,9 +2,9 @@
 ghost use mathlib.Core.Path.{_≡_};
 ghost use mathlib.Core.List.{[], _∷_};
 ghost use Prim.Native.Nat.{_<_};
-ghost use Rattle.util.specs.Power.{PowerOfTwo};
-ghost use Rattle.util.specs.Round.{up};
-ghost use Rattle.util.specs.Refusal.{unless, None, Meets};
+ghost use Rattle.util_defs.specs.Power.{PowerOfTwo};
+ghost use Rattle.util_defs.specs.Round.{up};
+ghost use Rattle.util_defs.specs.Refusal.{unless, None, Meets};
 ghost use Rattle.rounding.specs.Word.{IsWord};
 ghost use Rattle.trailing.specs.View.{trailingOf};
 ghost use Rattle.layout_defs.specs.Layout.{trailing, layoutCauses};

@@ -3,9 +3,9 @@ use mathlib.Core.Path.{_≡_, refl}
 use mathlib.Core.Bool.{Bool, true, false, not}
 use Prim.Native.Nat.{ℕ, _%_, _^_, _<_}
 use native.Mathlib.Omega.{arith}
-use Rattle.util.specs.Width.{M}
-use Rattle.util.specs.Refusal.{answered, Tells, holds, fails, Meets}
-use Rattle.util.proofs.Refusals.{tells-eq, tells-lt, tells-not, tells-as, tells-or, meets, clear}
+use Rattle.util_defs.specs.Width.{M}
+use Rattle.util_defs.specs.Refusal.{answered, Tells, holds, fails, Meets}
+use Rattle.util_defs.proofs.Refusals.{tells-eq, tells-lt, tells-not, tells-as, tells-or, meets, clear}
 use Rattle.rounding.specs.Word.{alignOf, wordCauses, alignFor}
 use Rattle.trailing_defs.specs.Size.{A, sizeAt}
 use Rattle.layout_defs.specs.Layout.{Info, fixed, trailing, Layout, layoutCauses}

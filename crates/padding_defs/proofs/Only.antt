@@ -3,9 +3,9 @@ use mathlib.Core.Path.{_≡_, sym, ap, _∙_, subst}
 use mathlib.Core.Bool.{Bool, true}
 use Prim.Native.Nat.{ℕ, _≤_, _<_}
 use native.Mathlib.Omega.{arith}
-use Rattle.util.specs.Refusal.{Tells, holds, fails}
-use Rattle.util.proofs.Refusals.{agree, tells-lt}
-use Rattle.util.proofs.Only.{one-multiple}
+use Rattle.util_defs.specs.Refusal.{Tells, holds, fails}
+use Rattle.util_defs.proofs.Refusals.{agree, tells-lt}
+use Rattle.util_defs.proofs.Only.{one-multiple}
 use Rattle.rounding.proofs.Words.{same-word}
 use Rattle.trailing_defs.specs.Size.{Trailing, A}
 use Rattle.layout_defs.specs.Layout.{Info, fixed, trailing, Layout}

@@ -8,22 +8,22 @@ use native.Mathlib.Omega.{arith}
 use lib.Dec.{eqb, ltb}
 use lib.Bits.{bitAnd}
 use borrow.Author.Tests.{ltb-true, ltb-false}
-use Rattle.util.specs.Width.{M}
-use Rattle.util.specs.Power.{PowerOfTwo}
-use Rattle.util.specs.Round.{up, down}
-use Rattle.util.specs.Refusal.{Tells, None, Meets, Decided}
-use Rattle.util.proofs.Refusals.{tells-true, tells-eq, tells-lt, tells-and, tells-as, agree, meets}
-use Rattle.util.proofs.Powers.{positive, double, power-divides, through}
-use Rattle.util.proofs.Rounding.{down-is, down-mod, up-multiple, up-ge, up-near, up-is, up-least, up-shift, up-whole, down-multiple}
-use Rattle.util.proofs.Masks.{mask-mod}
-use Rattle.util.proofs.Helpers.{power}
+use Rattle.util_defs.specs.Width.{M}
+use Rattle.util_defs.specs.Power.{PowerOfTwo}
+use Rattle.util_defs.specs.Round.{up, down}
+use Rattle.util_defs.specs.Refusal.{Tells, None, Meets, Decided}
+use Rattle.util_defs.proofs.Refusals.{tells-true, tells-eq, tells-lt, tells-and, tells-as, agree, meets}
+use Rattle.util_defs.proofs.Powers.{positive, double, power-divides, through}
+use Rattle.util_defs.proofs.Rounding.{down-is, down-mod, up-multiple, up-ge, up-near, up-is, up-least, up-shift, up-whole, down-multiple}
+use Rattle.util_defs.proofs.Masks.{mask-mod}
+use Rattle.util_defs.proofs.Helpers.{power}
 use Rattle.rounding.specs.Word.{IsWord}
 use Rattle.rounding.proofs.Words.{align-is, phase-is, align-power}
 use Rattle.trailing_defs.specs.Size.{Trailing, A, p, sizeWith, sizeAt}
 use Rattle.layout_defs.specs.Layout.{Info, fixed, trailing, Layout, sizeIn, noWord, layoutCauses}
 use Rattle.layout_defs.specs.Extend.{roundingPasses}
 use Rattle.padding_defs.specs.Pad.{fixedPart, coarser, finer, paddedTail, paddedInfo, padded, paddingNeeds, paddedMark, padCauses, padFor, PaddedTo, PaddedInfo, KeepsMark, Padded}
-use Rattle.util.proofs.Tables.{decided-both, none-both}
+use Rattle.util_defs.proofs.Tables.{decided-both, none-both}
 use Rattle.layout_defs.proofs.Layouts.{layout-decided}
 use Rattle.layout_defs.proofs.Passes.{least-place}
 

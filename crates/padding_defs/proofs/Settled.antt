@@ -5,18 +5,18 @@ use Prim.Native.Nat.{ℕ, _%_, _^_, _≤_, _<_}
 use native.Mathlib.Omega.{arith}
 use lib.Dec.{eqb, ltb}
 use borrow.Author.Tests.{eq-eqb, le-ltb, ltb-false}
-use Rattle.util.specs.Width.{M}
-use Rattle.util.specs.Power.{PowerOfTwo}
-use Rattle.util.specs.Round.{up}
-use Rattle.util.specs.Refusal.{answered, None}
-use Rattle.util.proofs.Refusals.{clear}
-use Rattle.util.proofs.Powers.{positive}
-use Rattle.util.proofs.Rounding.{down-multiple, down-le, up-multiple, up-whole}
-use Rattle.util.proofs.Helpers.{power}
+use Rattle.util_defs.specs.Width.{M}
+use Rattle.util_defs.specs.Power.{PowerOfTwo}
+use Rattle.util_defs.specs.Round.{up}
+use Rattle.util_defs.specs.Refusal.{answered, None}
+use Rattle.util_defs.proofs.Refusals.{clear}
+use Rattle.util_defs.proofs.Powers.{positive}
+use Rattle.util_defs.proofs.Rounding.{down-multiple, down-le, up-multiple, up-whole}
+use Rattle.util_defs.proofs.Helpers.{power}
 use Rattle.trailing_defs.specs.Size.{Trailing, A}
 use Rattle.layout_defs.specs.Layout.{Info, fixed, trailing, Layout, noWord}
 use Rattle.padding_defs.specs.Pad.{fixedPart, coarser, finer, paddedTail, paddedInfo, paddedMark, padded, paddingNeeds, padCauses, padFor}
-use Rattle.util.proofs.Tables.{answer-is, accepted-none}
+use Rattle.util_defs.proofs.Tables.{answer-is, accepted-none}
 use Rattle.padding_defs.proofs.Padding.{coarser-align, pad-decided}
 
 -- padding to a leaves i as it is, and refuses nothing

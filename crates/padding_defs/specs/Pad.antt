@@ -6,9 +6,9 @@ use mathlib.Core.List.{List, [], _∷_, _++_}
 use mathlib.Core.Logic.{_⊎_}
 use Prim.Native.Nat.{ℕ, _+_, _%_, _≤_, _<_}
 use lib.Dec.{eqb, ltb}
-use Rattle.util.specs.Width.{M}
-use Rattle.util.specs.Round.{up, down, GreatestMultiple}
-use Rattle.util.specs.Refusal.{Outcome, Cause, unless, Tells}
+use Rattle.util_defs.specs.Width.{M}
+use Rattle.util_defs.specs.Round.{up, down, GreatestMultiple}
+use Rattle.util_defs.specs.Refusal.{Outcome, Cause, unless, Tells}
 use Rattle.rounding.specs.Word.{IsWord}
 use Rattle.trailing_defs.specs.Size.{Trailing, A, p, sizeAt, HasSize}
 use Rattle.layout_defs.specs.Layout.{Info, fixed, trailing, Layout, IsCount, sizeIn, layoutCauses}

@@ -5,7 +5,7 @@ ghost use mathlib.Core.Bool.{_&&_};
 ghost use mathlib.Core.List.{[], _∷_};
 ghost use Prim.Native.Nat.{max};
 ghost use lib.Dec.{eqb};
-ghost use Rattle.util.specs.Refusal.{unless};
+ghost use Rattle.util_defs.specs.Refusal.{unless};
 ghost use Rattle.trailing.specs.View.{trailingOf};
 ghost use Rattle.layout_defs.specs.Layout.{trailing};
 ghost use Rattle.layout_defs.specs.Extend.{placedAt, memberPasses};

@@ -5,7 +5,7 @@ ghost use Prim.Native.Nat.{_+_, _≤_, _<_};
 ghost use lib.Dec.{eqb};
 ghost use lib.ListN.{length};
 ghost use lib.Seq.{sets};
-ghost use Rattle.util.specs.Refusal.{Meets};
+ghost use Rattle.util_defs.specs.Refusal.{Meets};
 ghost use Rattle.layout.specs.View.{layoutOf, layoutSays};
 ghost use Rattle.record_defs.specs.Record.{wordsAt, recordBytes, wordsOf, wordsCauses, recordCauses, wordsFor};
 ghost use Rattle.record_defs.specs.Record.{decodeFor, Decodes};

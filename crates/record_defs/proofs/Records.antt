@@ -8,9 +8,9 @@ use borrow.Author.Tests.{eq-eqb, ne-eqb}
 use lib.Dec.{eqb}
 use lib.ListN.{length}
 use lib.Seq.{sets}
-use Rattle.util.specs.Refusal.{Cause, Outcome, answered, refused, unless, Tells, None, Meets, Decided}
-use Rattle.util.proofs.Refusals.{known, tells-eq, tells-le, tells-lt, tells-not, tells-and, meets}
-use Rattle.util.proofs.Helpers.{align-decided}
+use Rattle.util_defs.specs.Refusal.{Cause, Outcome, answered, refused, unless, Tells, None, Meets, Decided}
+use Rattle.util_defs.proofs.Refusals.{known, tells-eq, tells-le, tells-lt, tells-not, tells-and, meets}
+use Rattle.util_defs.proofs.Helpers.{align-decided}
 use Rattle.trailing_defs.specs.Size.{Trailing}
 use Rattle.layout_defs.specs.Layout.{fixed, trailing, Layout, checkFor}
 use Rattle.words.specs.Bytes.{bytesOf, wordAt, wordBytes, putInto}

@@ -8,10 +8,10 @@ use native.Mathlib.Omega.{arith}
 use lib.Dec.{ltb}
 use lib.ListN.{length}
 use lib.Seq.{take-add, take-all}
-use Rattle.util.specs.Refusal.{Outcome, answered, refused, unless}
-use Rattle.util.proofs.Refusals.{no, known, tells-eq, tells-lt, tells-not}
-use Rattle.util.proofs.Tables.{apart, answer-is, accepted-as}
-use Rattle.util.specs.Helpers.{badAlign}
+use Rattle.util_defs.specs.Refusal.{Outcome, answered, refused, unless}
+use Rattle.util_defs.proofs.Refusals.{no, known, tells-eq, tells-lt, tells-not}
+use Rattle.util_defs.proofs.Tables.{apart, answer-is, accepted-as}
+use Rattle.util_defs.specs.Helpers.{badAlign}
 use Rattle.layout_defs.specs.Layout.{Info, fixed, trailing, Layout, layoutCauses, checkFor}
 use Rattle.words.specs.Bytes.{bytesOf, wordAt}
 use Rattle.words.proofs.LittleEndian.{value-bytes, AllBytes, word-back}

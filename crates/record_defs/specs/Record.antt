@@ -5,8 +5,8 @@ use mathlib.Core.List.{List, [], _∷_, _++_}
 use Prim.Native.Nat.{ℕ, _+_, _*_, _%_, _≤_, _<_}
 use lib.Dec.{eqb, leb, ltb}
 use lib.ListN.{length}
-use Rattle.util.specs.Refusal.{Outcome, answered, refused, Cause, unless}
-use Rattle.util.specs.Helpers.{badAlign}
+use Rattle.util_defs.specs.Refusal.{Outcome, answered, refused, Cause, unless}
+use Rattle.util_defs.specs.Helpers.{badAlign}
 use Rattle.layout_defs.specs.Layout.{Info, fixed, trailing, Layout, layoutCauses}
 use Rattle.words.specs.Bytes.{wordLength, wordAt, wordBytes}
 

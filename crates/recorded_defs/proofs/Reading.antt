@@ -8,7 +8,7 @@ use borrow.Author.Tests.{lt-ltb, le-ltb, eq-eqb, ne-eqb}
 use lib.Dec.{eqb, ltb}
 use lib.ListN.{length, drop, getD, set, drop-of-length-le, length-drop}
 use lib.Seq.{drop-cons}
-use Rattle.util.specs.Width.{M}
+use Rattle.util_defs.specs.Width.{M}
 use Rattle.recorded_defs.specs.Lines.{digitOf, Number, number, none, endOf, numberFrom, line, unread, lineFrom, sameFrom}
 
 -- the byte before 0, 0, 9, and the byte after 9

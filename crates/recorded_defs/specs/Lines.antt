@@ -4,7 +4,7 @@ use mathlib.Core.List.{List, [], _∷_}
 use Prim.Native.Nat.{ℕ, zero, suc, _+_, _-_, _*_, _<_, _≤_}
 use lib.Dec.{eqb, ltb}
 use lib.ListN.{length, drop, getD, set, replicate}
-use Rattle.util.specs.Width.{M}
+use Rattle.util_defs.specs.Width.{M}
 
 -- the value of a digit in ASCII, and 10 for any other byte
 abbrev pub digitOf : ℕ → ℕ

@@ -1,11 +1,11 @@
 -- What the answers of rounding words tell their callers. Assumes nothing.
 use mathlib.Core.Path.{_≡_, subst}
 use Prim.Native.Nat.{ℕ}
-use Rattle.util.specs.Refusal.{Meets}
+use Rattle.util_defs.specs.Refusal.{Meets}
 use Rattle.util.specs.View.{numberSays}
 use Rattle.util.specs.declared.Answer.{Answer}
 use Rattle.util.specs.declared.Answer.the-variants as Answer
-use Rattle.util.proofs.Refusals.{answered-means, refused-means}
+use Rattle.util_defs.proofs.Refusals.{answered-means, refused-means}
 use Rattle.rounding.specs.Word.{IsWord, wordCauses, PartsOf, AlignOf}
 use Rattle.rounding.specs.View.{componentsSays}
 use Rattle.rounding.specs.declared.ComponentsAnswer.{ComponentsAnswer}

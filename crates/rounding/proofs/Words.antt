@@ -11,11 +11,11 @@ use lib.Bits.{bitXor, xor-block, xor-self, xor-zero-r}
 use lib.Count.{leadingZeros, leading-top}
 use lib.Dec.{leb}
 use borrow.Author.Tests.{leb-true, leb-false, eq-eqb, ne-eqb}
-use Rattle.util.specs.Power.{PowerOfTwo}
-use Rattle.util.specs.Refusal.{answered, refused, Cause, unless, First, Meets}
-use Rattle.util.proofs.Refusals.{tells-eq, tells-le, meets, clear}
-use Rattle.util.proofs.Powers.{pow-lt-cancel}
-use Rattle.util.proofs.Helpers.{power, align-decided}
+use Rattle.util_defs.specs.Power.{PowerOfTwo}
+use Rattle.util_defs.specs.Refusal.{answered, refused, Cause, unless, First, Meets}
+use Rattle.util_defs.proofs.Refusals.{tells-eq, tells-le, meets, clear}
+use Rattle.util_defs.proofs.Powers.{pow-lt-cancel}
+use Rattle.util_defs.proofs.Helpers.{power, align-decided}
 use Rattle.rounding.specs.Word.{IsWord, wordZero, highestBit, alignOf, phaseOf, newCauses, wordCauses, newFor, componentsFor, alignFor, PartsOf, AlignOf}
 
 -- the alignment of a word is at most that of the same word

@@ -1,6 +1,6 @@
 -- What the types of this crate are, over numbers: document 01's number and values for each case of an answer. Assumes nothing.
 use Prim.Native.Nat.{ℕ}
-use Rattle.util.specs.Refusal.{Outcome, answered, refused}
+use Rattle.util_defs.specs.Refusal.{Outcome, answered, refused}
 use Rattle.rounding.specs.Word.{Components}
 use Rattle.rounding.specs.declared.RoundingAlignAndPhase.{RoundingAlignAndPhase}
 use Rattle.rounding.specs.declared.NewAnswer.{NewAnswer}

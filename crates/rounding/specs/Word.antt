@@ -4,9 +4,9 @@ use mathlib.Core.Bool.{cond}
 use mathlib.Core.List.{List, [], _∷_}
 use Prim.Native.Nat.{ℕ, zero, suc, _+_, _-_, _^_, _≤_, _<_}
 use lib.Dec.{eqb, leb}
-use Rattle.util.specs.Power.{PowerOfTwo}
-use Rattle.util.specs.Refusal.{Outcome, Cause, unless}
-use Rattle.util.specs.Helpers.{badAlign}
+use Rattle.util_defs.specs.Power.{PowerOfTwo}
+use Rattle.util_defs.specs.Refusal.{Outcome, Cause, unless}
+use Rattle.util_defs.specs.Helpers.{badAlign}
 
 -- n is the rounding word of the alignment A and the phase p
 pub record IsWord (n A p : ℕ) : Type 0 where

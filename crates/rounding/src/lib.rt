@@ -1,6 +1,6 @@
 // The rounding word, after zerocopy's RoundingAlignAndPhase: an alignment and a phase below it, packed as their sum.
 ghost use mathlib.Core.Path.{_≡_};
-ghost use Rattle.util.specs.Refusal.{Meets};
+ghost use Rattle.util_defs.specs.Refusal.{Meets};
 ghost use Rattle.util.specs.View.{numberSays};
 ghost use Rattle.rounding.specs.Word.{IsWord, AlignOf, PartsOf, newCauses, wordCauses, newFor, componentsFor, alignFor};
 ghost use Rattle.rounding.specs.View.{wordOf, newSays, componentsSays};

@@ -2,8 +2,8 @@
 use mathlib.Core.Path.{_≡_, refl}
 use Prim.Native.Nat.{ℕ}
 use lib.ListN.{getD}
-use Rattle.util.specs.Refusal.{Meets}
-use Rattle.util.proofs.Refusals.{tells-lt, meets}
+use Rattle.util_defs.specs.Refusal.{Meets}
+use Rattle.util_defs.proofs.Refusals.{tells-lt, meets}
 use Rattle.scalar.specs.Scalar.{Target, target64, scalarCauses, scalarLayout, scalarFor}
 
 pub scalar-meets : (target : Target) (code : ℕ) → Meets (scalarCauses code) (λ l. l ≡ scalarLayout target code) (scalarFor target code)

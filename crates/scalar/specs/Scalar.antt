@@ -5,7 +5,7 @@ use mathlib.Core.List.{List, [], _∷_}
 use Prim.Native.Nat.{ℕ, _<_}
 use lib.Dec.{ltb}
 use lib.ListN.{getD}
-use Rattle.util.specs.Refusal.{Outcome, Cause, unless}
+use Rattle.util_defs.specs.Refusal.{Outcome, Cause, unless}
 use Rattle.layout_defs.specs.Layout.{Layout}
 use Rattle.make.specs.Make.{typeLayout}
 

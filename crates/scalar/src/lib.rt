@@ -2,7 +2,7 @@
 ghost use mathlib.Core.Path.{_≡_};
 ghost use Prim.Native.Nat.{_<_};
 ghost use lib.ListN.{getD};
-ghost use Rattle.util.specs.Refusal.{Meets};
+ghost use Rattle.util_defs.specs.Refusal.{Meets};
 ghost use Rattle.layout.specs.View.{layoutSays};
 ghost use Rattle.scalar.specs.Scalar.{target64, scalarCauses, scalarLayout, scalarFor};
 use layout::DstLayout;

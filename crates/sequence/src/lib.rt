@@ -3,8 +3,8 @@
 // then proves none of the layout's other functions again.
 ghost use mathlib.Core.Path.{_≡_};
 ghost use Prim.Native.Nat.{_<_};
-ghost use Rattle.util.specs.Power.{PowerOfTwo};
-ghost use Rattle.util.specs.Refusal.{Meets};
+ghost use Rattle.util_defs.specs.Power.{PowerOfTwo};
+ghost use Rattle.util_defs.specs.Refusal.{Meets};
 ghost use Rattle.util.specs.View.{decisionSays};
 ghost use Rattle.rounding.specs.Word.{IsWord};
 ghost use Rattle.trailing_defs.specs.Sequence.{sameStart, sameStride, sameSequence};

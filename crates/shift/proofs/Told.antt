@@ -3,9 +3,9 @@ use mathlib.Core.Path.{_≡_, sym, ap₂, _∙_}
 use Prim.Native.Nat.{ℕ, _^_, _<_}
 use borrow.Author.Tests.{ne-eqb}
 use native.Mathlib.Omega.{arith}
-use Rattle.util.specs.Refusal.{answered, None}
-use Rattle.util.proofs.Refusals.{clear}
-use Rattle.util.proofs.Tables.{told-by, apart, both-none}
+use Rattle.util_defs.specs.Refusal.{answered, None}
+use Rattle.util_defs.proofs.Refusals.{clear}
+use Rattle.util_defs.proofs.Tables.{told-by, apart, both-none}
 use Rattle.trailing_defs.specs.Size.{Trailing}
 use Rattle.layout_defs.specs.Layout.{Info, trailing, Layout, layoutCauses}
 use Rattle.shift_defs.specs.Match.{Comparison}

@@ -1,5 +1,5 @@
 -- What the types of this crate are, over numbers: document 01's number and values for each case of an answer. Assumes nothing.
-use Rattle.util.specs.Refusal.{Outcome, answered, refused}
+use Rattle.util_defs.specs.Refusal.{Outcome, answered, refused}
 use Rattle.shift_defs.specs.Shift.{Shift, by, missing}
 use Rattle.shift.specs.declared.Shift as Code
 use Rattle.shift.specs.declared.Shift.the-variants as Found

@@ -2,9 +2,9 @@
 use mathlib.Core.Path.{_≡_, sym, ap, _∙_}
 use Prim.Native.Nat.{ℕ, _+_, _-_, _*_, _^_, _<_}
 use native.Mathlib.Omega.{arith}
-use Rattle.util.specs.Width.{M}
-use Rattle.util.specs.Refusal.{Tells, Meets}
-use Rattle.util.proofs.Refusals.{yes, tells-true, tells-eq, tells-le, tells-and, tells-as, meets}
+use Rattle.util_defs.specs.Width.{M}
+use Rattle.util_defs.specs.Refusal.{Tells, Meets}
+use Rattle.util_defs.proofs.Refusals.{yes, tells-true, tells-eq, tells-le, tells-and, tells-as, meets}
 use Rattle.rounding.proofs.Words.{not-zero}
 use Rattle.trailing_defs.specs.Size.{Trailing, A, p, sizeWith, sizeAt, sizeOffset}
 use Rattle.trailing_defs.specs.Sequence.{EqualSizes, sameSequence}

@@ -7,11 +7,11 @@ use lib.Dec.{eqb, leb}
 use borrow.Author.Tests.{le-leb}
 use native.Mathlib.Nat.{mul-mod-left}
 use native.Mathlib.Omega.{arith}
-use Rattle.util.specs.Width.{M}
-use Rattle.util.specs.Refusal.{Outcome, answered, refused, Tells, holds, fails, None, Meets, Decided}
-use Rattle.util.proofs.Refusals.{told-true, tells-eq, tells-le, tells-and, meets}
-use Rattle.util.proofs.Tables.{decided-both, none-both}
-use Rattle.util.proofs.Rounding.{multiple, same-multiple}
+use Rattle.util_defs.specs.Width.{M}
+use Rattle.util_defs.specs.Refusal.{Outcome, answered, refused, Tells, holds, fails, None, Meets, Decided}
+use Rattle.util_defs.proofs.Refusals.{told-true, tells-eq, tells-le, tells-and, meets}
+use Rattle.util_defs.proofs.Tables.{decided-both, none-both}
+use Rattle.util_defs.proofs.Rounding.{multiple, same-multiple}
 use Rattle.trailing_defs.specs.Size.{Trailing, sizeAt, HasSize, sizeOffset}
 use Rattle.layout_defs.specs.Layout.{Info, fixed, trailing, Layout, layoutCauses}
 use Rattle.layout_defs.proofs.Layouts.{layout-decided}

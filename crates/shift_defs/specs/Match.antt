@@ -4,8 +4,8 @@ use mathlib.Core.Path.{_≡_}
 use mathlib.Core.Bool.{Bool, true, _&&_}
 use Prim.Native.Nat.{ℕ, _+_, _*_, _^_, _≤_, _<_}
 use lib.Dec.{leb}
-use Rattle.util.specs.Width.{M}
-use Rattle.util.specs.Refusal.{Outcome, unless, YesMeans}
+use Rattle.util_defs.specs.Width.{M}
+use Rattle.util_defs.specs.Refusal.{Outcome, unless, YesMeans}
 use Rattle.trailing_defs.specs.Size.{Trailing, sizeAt, HasSize, sizeOffset}
 use Rattle.trailing_defs.specs.Sequence.{EqualSizes}
 use Rattle.trailing_defs.specs.Calls.{advanced, sameCauses}

@@ -3,10 +3,10 @@ use mathlib.Core.Path.{_≡_, ap}
 use mathlib.Core.List.{List, [], _∷_}
 use Prim.Native.Nat.{ℕ}
 use native.Mathlib.Omega.{arith}
-use Rattle.util.specs.Power.{powerOfTwo}
-use Rattle.util.specs.Round.{up, down, padding}
-use Rattle.util.specs.Refusal.{unless}
-use Rattle.util.specs.Helpers.{paddingFor}
+use Rattle.util_defs.specs.Power.{powerOfTwo}
+use Rattle.util_defs.specs.Round.{up, down, padding}
+use Rattle.util_defs.specs.Refusal.{unless}
+use Rattle.util_defs.specs.Helpers.{paddingFor}
 use Rattle.rounding.specs.Word.{highestBit, componentsFor}
 use Rattle.trailing_defs.specs.Size.{sizeWith, sizeAt}
 use Rattle.trailing_defs.specs.Count.{bytesWithin, countWithin}

@@ -4,9 +4,9 @@ use mathlib.Core.Path.{_≡_}
 use mathlib.Core.Bool.{Bool, true, cond}
 use mathlib.Core.List.{List, [], _∷_}
 use Prim.Native.Nat.{ℕ, _-_, _^_}
-use Rattle.util.specs.Width.{M}
-use Rattle.util.specs.Refusal.{Outcome, answered, refused}
-use Rattle.util.specs.Helpers.{paddingFor}
+use Rattle.util_defs.specs.Width.{M}
+use Rattle.util_defs.specs.Refusal.{Outcome, answered, refused}
+use Rattle.util_defs.specs.Helpers.{paddingFor}
 use Rattle.rounding.specs.Word.{Components, componentsFor}
 use Rattle.trailing_defs.specs.Size.{Trailing, sizeAt}
 use Rattle.trailing_defs.specs.Sequence.{sameSequence}

@@ -4,15 +4,15 @@ use mathlib.Core.Logic.{inl, inr}
 use mathlib.Core.Bool.{Bool}
 use Prim.Native.Nat.{ℕ, _+_, _^_, _≤_, _<_}
 use native.Mathlib.Omega.{arith}
-use Rattle.util.specs.Width.{M}
-use Rattle.util.specs.Refusal.{Tells, holds, fails}
-use Rattle.util.proofs.Refusals.{known, clear, tells-eq, tells-le, tells-lt}
-use Rattle.util.proofs.Tables.{told-by, apart, answer-is, accepted-none}
+use Rattle.util_defs.specs.Width.{M}
+use Rattle.util_defs.specs.Refusal.{Tells, holds, fails}
+use Rattle.util_defs.proofs.Refusals.{known, clear, tells-eq, tells-le, tells-lt}
+use Rattle.util_defs.proofs.Tables.{told-by, apart, answer-is, accepted-none}
 use Rattle.trailing_defs.specs.Size.{Trailing, sizeAt, HasSize, sizeOffset}
 use Rattle.trailing_defs.specs.Calls.{advanceCauses, advanced, advanceFor}
 use Rattle.trailing_defs.specs.Sized.{sized, noneAbove, refusedBy, SizeMeans, has, above, refuses}
 use Rattle.trailing_defs.proofs.Sizes.{count-mono}
-use Rattle.util.proofs.Powers.{positive}
+use Rattle.util_defs.proofs.Powers.{positive}
 use Rattle.rounding.proofs.Words.{parts-of}
 use Rattle.trailing.specs.View.{trailingOf, sizeSays, advanceSays}
 use Rattle.trailing.specs.declared.TrailingSliceLayout.{TrailingSliceLayout}

@@ -2,9 +2,9 @@
 // The size at a count is size_base + up(phase + count * elem_size, align); the offset does not enter it.
 ghost use mathlib.Core.Path.{_≡_};
 ghost use Prim.Native.Nat.{_*_, _/_, _%_, _<_};
-ghost use Rattle.util.specs.Power.{PowerOfTwo};
-ghost use Rattle.util.specs.Round.{up};
-ghost use Rattle.util.specs.Refusal.{Meets};
+ghost use Rattle.util_defs.specs.Power.{PowerOfTwo};
+ghost use Rattle.util_defs.specs.Round.{up};
+ghost use Rattle.util_defs.specs.Refusal.{Meets};
 ghost use Rattle.util.specs.View.{numberSays};
 ghost use Rattle.rounding.specs.Word.{IsWord, wordCauses};
 ghost use Rattle.trailing_defs.specs.Calls.{sizeOffsetFor, GreatestIn, SizeOffset, maxTrailingCauses, maxTrailingFor};

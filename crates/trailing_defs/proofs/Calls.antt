@@ -5,12 +5,12 @@ use lib.Pow.{pow-pos}
 use borrow.Author.Tests.{lt-ltb, le-ltb, ne-eqb}
 use native.Mathlib.Nat.{mod-lt}
 use native.Mathlib.Omega.{arith}
-use Rattle.util.specs.Width.{M}
-use Rattle.util.specs.Round.{up, down}
-use Rattle.util.specs.Refusal.{answered, refused, unless, Meets}
-use Rattle.util.proofs.Refusals.{known, yes, tells-eq, tells-le, tells-lt, meets}
-use Rattle.util.proofs.Powers.{positive, double}
-use Rattle.util.proofs.Rounding.{down-is}
+use Rattle.util_defs.specs.Width.{M}
+use Rattle.util_defs.specs.Round.{up, down}
+use Rattle.util_defs.specs.Refusal.{answered, refused, unless, Meets}
+use Rattle.util_defs.proofs.Refusals.{known, yes, tells-eq, tells-le, tells-lt, meets}
+use Rattle.util_defs.proofs.Powers.{positive, double}
+use Rattle.util_defs.proofs.Rounding.{down-is}
 use Rattle.rounding.specs.Word.{IsWord, wordCauses}
 use Rattle.rounding.proofs.Words.{parts-of, at-parts, not-zero}
 use Rattle.trailing_defs.specs.Size.{Trailing, A, p, sizeWith, sizeAt, sizeOffset}

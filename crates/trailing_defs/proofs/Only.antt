@@ -2,8 +2,8 @@
 use mathlib.Core.Path.{_≡_, sym, ap₂, subst, _∙_}
 use Prim.Native.Nat.{ℕ, _+_, _*_}
 use native.Mathlib.Omega.{arith}
-use Rattle.util.specs.Round.{GreatestMultiple}
-use Rattle.util.proofs.Only.{one-multiple}
+use Rattle.util_defs.specs.Round.{GreatestMultiple}
+use Rattle.util_defs.proofs.Only.{one-multiple}
 use Rattle.rounding.proofs.Words.{same-align, same-phase, same-word}
 use Rattle.trailing_defs.specs.Size.{Trailing, A, p, sizeWith, sizeAt}
 use Rattle.trailing_defs.specs.Count.{GreatestBytes}

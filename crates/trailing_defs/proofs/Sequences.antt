@@ -7,13 +7,13 @@ use native.Mathlib.Nat.{le-max-left, le-max-right, max-eq-left, max-eq-right, le
 use native.Mathlib.Omega.{arith}
 use lib.Bits.{bitAnd}
 use lib.Dec.{eqb}
-use Rattle.util.specs.Power.{PowerOfTwo}
-use Rattle.util.specs.Round.{up}
-use Rattle.util.specs.Refusal.{Tells}
-use Rattle.util.proofs.Refusals.{told-true, told-false, agree, tells-eq, tells-le, tells-and, tells-or, tells-as}
-use Rattle.util.proofs.Powers.{positive, power-divides, through, max-power}
-use Rattle.util.proofs.Masks.{mask-mod}
-use Rattle.util.proofs.Rounding.{multiple, up-shift}
+use Rattle.util_defs.specs.Power.{PowerOfTwo}
+use Rattle.util_defs.specs.Round.{up}
+use Rattle.util_defs.specs.Refusal.{Tells}
+use Rattle.util_defs.proofs.Refusals.{told-true, told-false, agree, tells-eq, tells-le, tells-and, tells-or, tells-as}
+use Rattle.util_defs.proofs.Powers.{positive, power-divides, through, max-power}
+use Rattle.util_defs.proofs.Masks.{mask-mod}
+use Rattle.util_defs.proofs.Rounding.{multiple, up-shift}
 use Rattle.rounding.proofs.Words.{parts-of}
 use Rattle.trailing_defs.specs.Size.{Trailing, A, p, sizeWith, sizeAt}
 use Rattle.trailing_defs.specs.Sequence.{EqualSizes, SameStride, sameStride, SameStart, sameStart, SameSequence, sameSequence}

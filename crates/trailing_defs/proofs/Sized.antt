@@ -6,10 +6,10 @@ use Prim.Native.Nat.{ℕ, suc, _*_, _^_, _<_}
 use lib.Dec.{ltb}
 use borrow.Author.Tests.{eq-eqb, ne-eqb, lt-ltb, le-ltb}
 use native.Mathlib.Omega.{arith}
-use Rattle.util.specs.Width.{M}
-use Rattle.util.specs.Refusal.{unless, Tells, holds, fails, Meets}
-use Rattle.util.proofs.Refusals.{tells-eq, tells-le, tells-lt, tells-as, meets, one-number, no-number}
-use Rattle.util.proofs.Powers.{positive}
+use Rattle.util_defs.specs.Width.{M}
+use Rattle.util_defs.specs.Refusal.{unless, Tells, holds, fails, Meets}
+use Rattle.util_defs.proofs.Refusals.{tells-eq, tells-le, tells-lt, tells-as, meets, one-number, no-number}
+use Rattle.util_defs.proofs.Powers.{positive}
 use Rattle.rounding.proofs.Words.{parts-of}
 use Rattle.trailing_defs.specs.Size.{Trailing, A, p, sizeWith, sizeAt, HasSize}
 use Rattle.trailing_defs.specs.Count.{GreatestCount, countWithin}

@@ -5,13 +5,13 @@ use lib.Dec.{ltb}
 use native.Mathlib.Nat.{mul-le-mul-right, mod-add-mod, mod-eq-of-lt, mod-lt, mod-self, div-mul-le-self, le-div-iff-mul-le, le-trans, add-mul-mod-self-right, div-add-mod'}
 use native.Mathlib.Omega.{arith}
 use lib.Bits.{bitAnd}
-use Rattle.util.specs.Power.{PowerOfTwo}
-use Rattle.util.specs.Round.{up, down, padding}
-use Rattle.util.specs.Refusal.{Tells}
-use Rattle.util.proofs.Refusals.{tells-lt, tells-as}
-use Rattle.util.proofs.Powers.{positive, divides, mod-through}
-use Rattle.util.proofs.Masks.{mask-mod}
-use Rattle.util.proofs.Rounding.{next-multiple, sum-multiple, up-down, down-up, up-ge, up-mono, up-multiple, up-whole, up-shift, up-is, up-padding, down-shift, down-mod, down-multiple, down-le, down-near, mod-cancel}
+use Rattle.util_defs.specs.Power.{PowerOfTwo}
+use Rattle.util_defs.specs.Round.{up, down, padding}
+use Rattle.util_defs.specs.Refusal.{Tells}
+use Rattle.util_defs.proofs.Refusals.{tells-lt, tells-as}
+use Rattle.util_defs.proofs.Powers.{positive, divides, mod-through}
+use Rattle.util_defs.proofs.Masks.{mask-mod}
+use Rattle.util_defs.proofs.Rounding.{next-multiple, sum-multiple, up-down, down-up, up-ge, up-mono, up-multiple, up-whole, up-shift, up-is, up-padding, down-shift, down-mod, down-multiple, down-le, down-near, mod-cancel}
 use Rattle.trailing_defs.specs.Size.{Trailing, A, p, sizeWith, sizeAt, HasSize}
 use Rattle.trailing_defs.specs.Count.{GreatestBytes, bytesWithin, GreatestCount, countWithin}
 use Rattle.trailing_defs.specs.Calls.{PaddingAt, paddingAt}

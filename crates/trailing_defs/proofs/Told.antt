@@ -3,20 +3,20 @@ use mathlib.Core.Path.{_≡_, sym, ap, _∙_, subst}
 use mathlib.Core.Logic.{inl, inr}
 use Prim.Native.Nat.{ℕ, _*_, _/_, _^_, _≤_, _<_}
 use native.Mathlib.Omega.{arith}
-use Rattle.util.specs.Refusal.{Outcome, First, Meets}
+use Rattle.util_defs.specs.Refusal.{Outcome, First, Meets}
 use Rattle.util.specs.View.{numberSays}
 use Rattle.util.specs.declared.Answer.{Answer}
 use Rattle.util.specs.declared.Answer.the-variants as Answer
-use Rattle.util.proofs.Refusals.{answered-means, refused-means}
+use Rattle.util_defs.proofs.Refusals.{answered-means, refused-means}
 use Rattle.trailing_defs.specs.Size.{Trailing, A, p, sizeWith, sizeAt, HasSize}
 use Rattle.trailing_defs.specs.Count.{bytesWithin, countWithin}
 use Rattle.trailing_defs.specs.Sized.{noneAbove, sizeGiven}
 use Rattle.trailing_defs.proofs.Sizes.{size-mono}
 use Rattle.trailing_defs.proofs.Sized.{elem-some, given-above}
 use Rattle.rounding.proofs.Words.{parts-of}
-use Rattle.util.proofs.Powers.{positive}
-use Rattle.util.proofs.Tables.{told-by, answer-is}
-use Rattle.util.specs.Width.{M}
+use Rattle.util_defs.proofs.Powers.{positive}
+use Rattle.util_defs.proofs.Tables.{told-by, answer-is}
+use Rattle.util_defs.specs.Width.{M}
 use Rattle.trailing_defs.specs.Calls.{maxTrailingCauses, maxTrailingFor, GreatestIn}
 use Rattle.trailing_defs.proofs.Calls.{max-trailing-meets}
 

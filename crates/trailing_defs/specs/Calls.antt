@@ -5,9 +5,9 @@ use mathlib.Core.Bool.{Bool}
 use mathlib.Core.List.{List, [], _∷_}
 use Prim.Native.Nat.{ℕ, _+_, _-_, _*_, _%_, _^_, _≤_, _<_}
 use lib.Dec.{ltb}
-use Rattle.util.specs.Width.{M}
-use Rattle.util.specs.Round.{down, GreatestMultiple}
-use Rattle.util.specs.Refusal.{Outcome, Cause, unless, YesMeans}
+use Rattle.util_defs.specs.Width.{M}
+use Rattle.util_defs.specs.Round.{down, GreatestMultiple}
+use Rattle.util_defs.specs.Refusal.{Outcome, Cause, unless, YesMeans}
 use Rattle.rounding.specs.Word.{IsWord, wordZero, wordCauses}
 use Rattle.trailing_defs.specs.Size.{Trailing, A, p, sizeWith, sizeAt, HasSize, sizeOffset}
 use Rattle.trailing_defs.specs.Count.{GreatestBytes, bytesWithin}

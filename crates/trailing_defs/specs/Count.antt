@@ -1,6 +1,6 @@
 -- The greatest number of trailing bytes, and the greatest count, within a limit L. Assumes nothing.
 use Prim.Native.Nat.{ℕ, _-_, _*_, _/_, _≤_}
-use Rattle.util.specs.Round.{down}
+use Rattle.util_defs.specs.Round.{down}
 use Rattle.trailing_defs.specs.Size.{Trailing, A, p, sizeWith, sizeAt}
 
 -- x is the greatest number of trailing bytes whose size is at most L

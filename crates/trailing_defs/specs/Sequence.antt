@@ -4,7 +4,7 @@ use mathlib.Core.Bool.{Bool, _&&_, _||_}
 use mathlib.Core.Logic.{_⊎_}
 use Prim.Native.Nat.{ℕ, _%_, max}
 use lib.Dec.{eqb, leb}
-use Rattle.util.specs.Width.{M}
+use Rattle.util_defs.specs.Width.{M}
 use Rattle.trailing_defs.specs.Size.{Trailing, A, p, sizeAt, HasSize}
 
 -- equal sizes at every count

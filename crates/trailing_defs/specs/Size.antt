@@ -1,7 +1,7 @@
 -- Trailing layouts and their sizes (document 01, "The layout and its meaning"), over unlimited whole numbers. Assumes nothing.
 use Prim.Native.Nat.{ℕ, _+_, _*_, _≤_}
-use Rattle.util.specs.Width.{M}
-use Rattle.util.specs.Round.{up, down}
+use Rattle.util_defs.specs.Width.{M}
+use Rattle.util_defs.specs.Round.{up, down}
 use Rattle.rounding.specs.Word.{alignOf, phaseOf}
 
 -- a trailing layout: its offset o, element size e, base b and rounding word

@@ -4,8 +4,8 @@ use mathlib.Core.Bool.{cond}
 use mathlib.Core.List.{List, [], _∷_}
 use Prim.Native.Nat.{ℕ, _<_}
 use lib.Dec.{eqb}
-use Rattle.util.specs.Width.{M}
-use Rattle.util.specs.Refusal.{Outcome, answered, refused, None, First}
+use Rattle.util_defs.specs.Width.{M}
+use Rattle.util_defs.specs.Refusal.{Outcome, answered, refused, None, First}
 use Rattle.trailing_defs.specs.Size.{Trailing, sizeAt}
 use Rattle.trailing_defs.specs.Count.{GreatestCount, countWithin}
 use Rattle.trailing_defs.specs.Calls.{sizeCauses, sizeFor}

@@ -3,18 +3,18 @@ use mathlib.Core.Path.{_≡_, sym, ap, _∙_}
 use mathlib.Core.Bool.{Bool, cond}
 use Prim.Native.Nat.{ℕ, _-_, _^_, _≤_, _<_}
 use native.Mathlib.Omega.{arith}
-use Rattle.util.specs.Width.{M, fitting, passes, checked}
-use Rattle.util.specs.Power.{PowerOfTwo}
-use Rattle.util.specs.Round.{down, padding}
-use Rattle.util.specs.Refusal.{Outcome, answered, refused, Tells, holds, fails}
-use Rattle.util.specs.Helpers.{paddingFor, roundDownFor}
+use Rattle.util_defs.specs.Width.{M, fitting, passes, checked}
+use Rattle.util_defs.specs.Power.{PowerOfTwo}
+use Rattle.util_defs.specs.Round.{down, padding}
+use Rattle.util_defs.specs.Refusal.{Outcome, answered, refused, Tells, holds, fails}
+use Rattle.util_defs.specs.Helpers.{paddingFor, roundDownFor}
 use Rattle.util.specs.View.{numberSays, productSays}
 use Rattle.util.specs.declared.Answer.{Answer}
 use Rattle.util.specs.declared.Answer.the-variants as Answer
 use Rattle.util.specs.declared.Product.{Product}
 use Rattle.util.specs.declared.Product.the-variants as Product
-use Rattle.util.proofs.Refusals.{tells-le}
-use Rattle.util.proofs.Helpers.{down-answered, padding-answered}
+use Rattle.util_defs.proofs.Refusals.{tells-le}
+use Rattle.util_defs.proofs.Helpers.{down-answered, padding-answered}
 
 -- where the outcome is an answer, the number is it, and there is no refusal
 pub number-told : {x v : ℕ} {o : Outcome ℕ} (r : Answer) → numberSays r ≡ o → o ≡ answered x → r ≡ Answer.Number v → v ≡ x

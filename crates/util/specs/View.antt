@@ -1,8 +1,8 @@
 -- What the answers of this crate say: document 01's number and values for each case. Assumes nothing.
 use mathlib.Core.Bool.{Bool}
 use Prim.Native.Nat.{ℕ}
-use Rattle.util.specs.Width.{Checked, fitting, passes}
-use Rattle.util.specs.Refusal.{Outcome, answered, refused}
+use Rattle.util_defs.specs.Width.{Checked, fitting, passes}
+use Rattle.util_defs.specs.Refusal.{Outcome, answered, refused}
 use Rattle.util.specs.declared.Answer.{Answer}
 use Rattle.util.specs.declared.Answer.the-variants as Answer
 use Rattle.util.specs.declared.Decision.{Decision}

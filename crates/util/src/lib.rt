@@ -1,11 +1,11 @@
 // Rounding helpers, after four functions of zerocopy's src/util/mod.rs, and the refusal numbers that every crate uses.
 ghost use mathlib.Core.Path.{_≡_};
 ghost use Prim.Native.Nat.{_*_, _%_, _^_};
-ghost use Rattle.util.specs.Width.{checked};
-ghost use Rattle.util.specs.Power.{PowerOfTwo, powerOfTwo};
-ghost use Rattle.util.specs.Round.{GreatestMultiple, LeastPadding};
-ghost use Rattle.util.specs.Refusal.{Tells, Meets};
-ghost use Rattle.util.specs.Helpers.{alignCauses, alignsCauses, paddingFor, roundDownFor, maxFor, minFor, Larger, Smaller};
+ghost use Rattle.util_defs.specs.Width.{checked};
+ghost use Rattle.util_defs.specs.Power.{PowerOfTwo, powerOfTwo};
+ghost use Rattle.util_defs.specs.Round.{GreatestMultiple, LeastPadding};
+ghost use Rattle.util_defs.specs.Refusal.{Tells, Meets};
+ghost use Rattle.util_defs.specs.Helpers.{alignCauses, alignsCauses, paddingFor, roundDownFor, maxFor, minFor, Larger, Smaller};
 ghost use Rattle.util.specs.View.{numberSays, productSays};
 
 pub mod refusal;

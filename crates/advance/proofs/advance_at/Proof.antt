@@ -4,11 +4,11 @@ use Prim.Native.Nat.{ℕ, _+_, _-_, _^_, _<_}
 use lib.Bits.{bitAnd}
 use native.Mathlib.Nat.{mod-lt}
 use native.Mathlib.Omega.{arith}
-use Rattle.util.specs.Round.{down}
-use Rattle.util.specs.Refusal.{answered}
-use Rattle.util.proofs.Powers.{positive, double}
-use Rattle.util.proofs.Masks.{mask-mod, mask-down}
-use Rattle.util.proofs.Rounding.{down-le}
+use Rattle.util_defs.specs.Round.{down}
+use Rattle.util_defs.specs.Refusal.{answered}
+use Rattle.util_defs.proofs.Powers.{positive, double}
+use Rattle.util_defs.proofs.Masks.{mask-mod, mask-down}
+use Rattle.util_defs.proofs.Rounding.{down-le}
 use Rattle.trailing.specs.View.{trailingOf}
 use Rattle.trailing_defs.proofs.Sizes.{offset-fits, advance-fits}
 use Rattle.trailing_defs.proofs.Calls.{advance-refused, advance-answered}

@@ -3,7 +3,7 @@ use mathlib.Core.Path.{ap}
 use Prim.Native.Nat.{ℕ, _+_, _-_, _*_, _^_}
 use borrow.Author.Tests.{lt-ltb, le-ltb}
 use native.Mathlib.Omega.{arith}
-use Rattle.util.specs.Refusal.{answered, unless}
+use Rattle.util_defs.specs.Refusal.{answered, unless}
 use Rattle.util.proofs.Told.{product-told, product-past}
 use Rattle.convert_defs.specs.Convert.{metadataFor}
 use borrow.Author.Needs.{needs}

@@ -3,8 +3,8 @@ use mathlib.Core.Path.{refl, sym, ap, _∙_}
 use Prim.Native.Nat.{_-_, _^_}
 use borrow.Author.Tests.{le-ltb}
 use native.Mathlib.Omega.{arith}
-use Rattle.util.specs.Refusal.{unless}
-use Rattle.util.proofs.Refusals.{told}
+use Rattle.util_defs.specs.Refusal.{unless}
+use Rattle.util_defs.proofs.Refusals.{told}
 use Rattle.convert_defs.specs.Convert.{metadataFor}
 use Rattle.convert.specs.declared.CastParamsInner.{CastParamsInner}
 use Rattle.convert.specs.View.{paramsIn}

@@ -7,13 +7,13 @@ use lib.Bits.{bitAnd}
 use lib.Dec.{lit<}
 use borrow.Author.Tests.{lt-ltb, le-ltb, eq-eqb, ne-eqb}
 use native.Mathlib.Omega.{arith}
-use Rattle.util.specs.Power.{PowerOfTwo}
-use Rattle.util.specs.Refusal.{Outcome, answered, refused, unless}
-use Rattle.util.proofs.Refusals.{no}
-use Rattle.util.proofs.Tables.{told-by, refused-as, accepted-as}
-use Rattle.util.proofs.Powers.{positive}
-use Rattle.util.proofs.Masks.{mask-mod}
-use Rattle.util.proofs.Helpers.{power}
+use Rattle.util_defs.specs.Power.{PowerOfTwo}
+use Rattle.util_defs.specs.Refusal.{Outcome, answered, refused, unless}
+use Rattle.util_defs.proofs.Refusals.{no}
+use Rattle.util_defs.proofs.Tables.{told-by, refused-as, accepted-as}
+use Rattle.util_defs.proofs.Powers.{positive}
+use Rattle.util_defs.proofs.Masks.{mask-mod}
+use Rattle.util_defs.proofs.Helpers.{power}
 use Rattle.trailing.specs.View.{trailingOf}
 use Rattle.layout_defs.specs.Layout.{fixed, trailing, noWord}
 use Rattle.layout.specs.declared.SizeInfo.{SizeInfo}

@@ -1,7 +1,7 @@
 -- `cast::exact_elems` meets its contract. Assumes nothing.
 use mathlib.Core.Path.{_≡_, sym, _∙_}
 use native.Mathlib.Omega.{arith}
-use Rattle.util.specs.Refusal.{unless}
+use Rattle.util_defs.specs.Refusal.{unless}
 use Rattle.layout.specs.View.{layoutOf}
 use Rattle.cast_defs.specs.Cast.{prefix, bytesCauses, greatestGrant, castFor}
 use Rattle.cast.specs.View.{castSays}

@@ -4,9 +4,9 @@ use Prim.Native.Nat.{ℕ, _+_, _-_, _/_, _%_, _^_, _≤_}
 use lib.Bits.{bitAnd}
 use native.Mathlib.Nat.{mod-le}
 use native.Mathlib.Omega.{arith}
-use Rattle.util.specs.Round.{down}
-use Rattle.util.specs.Refusal.{answered}
-use Rattle.util.proofs.Masks.{mask-down}
+use Rattle.util_defs.specs.Round.{down}
+use Rattle.util_defs.specs.Refusal.{answered}
+use Rattle.util_defs.proofs.Masks.{mask-down}
 use Rattle.trailing_defs.specs.Size.{sizeAt}
 use Rattle.trailing_defs.specs.Count.{countWithin}
 use Rattle.trailing.specs.View.{trailingOf}

@@ -4,7 +4,7 @@ use Prim.Native.Nat.{_*_}
 use lib.Dec.{lit<}
 use borrow.Author.Tests.{lt-ltb, le-ltb}
 use native.Mathlib.Omega.{arith}
-use Rattle.util.specs.Refusal.{unless}
+use Rattle.util_defs.specs.Refusal.{unless}
 use Rattle.rounding.proofs.Told.{align-told, align-refused}
 use Rattle.trailing_defs.specs.Size.{A, p, sizeAt}
 use Rattle.trailing.specs.View.{trailingOf}

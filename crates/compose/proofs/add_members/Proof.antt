@@ -3,7 +3,7 @@ use mathlib.Core.Path.{_≡_, refl, sym, _∙_}
 use Prim.Native.Nat.{_-_, _*_, _/_, _≤_}
 use native.Mathlib.Omega.{arith}
 use lib.ListN.{length, drop}
-use Rattle.util.proofs.Tables.{told-by}
+use Rattle.util_defs.proofs.Tables.{told-by}
 use Rattle.layout.specs.View.{layoutOf, layoutSays}
 use Rattle.compose.specs.Compose.{addMembers, membersOf}
 use Rattle.compose.proofs.Compositions.{turn-on, turn-off, ended}

@@ -3,8 +3,8 @@ use mathlib.Core.Path.{_≡_, sym, ap, _∙_}
 use Prim.Native.Nat.{_-_, _*_, _/_, _≤_}
 use native.Mathlib.Omega.{arith}
 use lib.ListN.{length, drop}
-use Rattle.util.specs.Refusal.{answered}
-use Rattle.util.proofs.Tables.{told-by}
+use Rattle.util_defs.specs.Refusal.{answered}
+use Rattle.util_defs.proofs.Tables.{told-by}
 use Rattle.layout.specs.declared.SizeInfo.{SizeInfo}
 use Rattle.layout.specs.View.{infoOf, sizedOf, layoutSays}
 use Rattle.compose.specs.Compose.{addMembers, membersOf}

@@ -1,6 +1,6 @@
 -- `compose::compose` meets its contract. Assumes nothing.
 use mathlib.Core.Path.{sym, _∙_}
-use Rattle.util.proofs.Tables.{told-by}
+use Rattle.util_defs.proofs.Tables.{told-by}
 use Rattle.layout.specs.View.{layoutSays}
 use Rattle.compose.proofs.Compositions.{empty-sized, compose-on, compose-off, compose-length}
 use borrow.Author.Needs.{needs}

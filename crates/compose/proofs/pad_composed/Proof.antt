@@ -1,7 +1,7 @@
 -- `compose::pad_composed` meets its contract. Assumes nothing.
 use mathlib.Core.Path.{sym, ap}
-use Rattle.util.specs.Refusal.{Outcome}
-use Rattle.util.proofs.Tables.{told-by}
+use Rattle.util_defs.specs.Refusal.{Outcome}
+use Rattle.util_defs.proofs.Tables.{told-by}
 use Rattle.layout_defs.specs.Layout.{Layout}
 use Rattle.layout.specs.View.{layoutSays}
 use Rattle.compose.specs.Compose.{composed, andThen}

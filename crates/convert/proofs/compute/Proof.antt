@@ -5,7 +5,7 @@ use Rattle.trailing_defs.specs.Sequence.{sameSequence}
 use Rattle.layout.specs.declared.SizeInfo.{SizeInfo}
 use Rattle.layout.specs.View.{infoOf, layoutOf}
 use Rattle.convert_defs.specs.Convert.{byKinds}
-use Rattle.util.specs.Refusal.{unless}
+use Rattle.util_defs.specs.Refusal.{unless}
 use borrow.Author.Needs.{needs}
 use Rattle.convert.proofs.compute.Statement.{statement}
 use Rattle.convert.proofs.compute.Tie as tie

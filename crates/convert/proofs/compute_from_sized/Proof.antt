@@ -2,14 +2,14 @@
 use mathlib.Core.Path.{refl, sym, ap, _∙_}
 use borrow.Author.Tests.{eq-eqb, ne-eqb}
 use Rattle.util.specs.View.{numberSays}
-use Rattle.util.proofs.Tables.{told-by}
+use Rattle.util_defs.proofs.Tables.{told-by}
 use Rattle.trailing_defs.specs.Sequence.{sameSequence}
 use Rattle.layout_defs.specs.Layout.{fixed}
 use Rattle.layout.specs.declared.SizeInfo.{SizeInfo}
 use Rattle.layout.specs.View.{infoOf, layoutOf}
 use Rattle.convert_defs.specs.Convert.{Params, withCount, byKinds}
 use Rattle.convert_defs.specs.Reasons.{isRefused}
-use Rattle.util.specs.Refusal.{Outcome, answered, refused, unless}
+use Rattle.util_defs.specs.Refusal.{Outcome, answered, refused, unless}
 use mathlib.Core.Bool.{cond}
 use Prim.Native.Nat.{ℕ}
 use borrow.Author.Needs.{needs}

@@ -6,7 +6,7 @@ use Rattle.layout_defs.specs.Layout.{trailing}
 use Rattle.layout.specs.declared.SizeInfo.{SizeInfo}
 use Rattle.layout.specs.View.{infoOf, layoutOf}
 use Rattle.convert_defs.specs.Convert.{byKinds}
-use Rattle.util.specs.Refusal.{unless}
+use Rattle.util_defs.specs.Refusal.{unless}
 use borrow.Author.Needs.{needs}
 use Rattle.convert.proofs.compute_from_unsized.Statement.{statement}
 use Rattle.convert.proofs.compute_from_unsized.Tie as tie

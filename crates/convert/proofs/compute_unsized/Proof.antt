@@ -10,7 +10,7 @@ use Rattle.shift.specs.View.{shiftIn}
 use Rattle.shift.proofs.Told.{shift-told, shift-kept}
 use Rattle.convert_defs.specs.Convert.{Params, withShift}
 use Rattle.convert_defs.specs.Reasons.{isMissing}
-use Rattle.util.specs.Refusal.{Outcome, answered, refused, unless}
+use Rattle.util_defs.specs.Refusal.{Outcome, answered, refused, unless}
 use Rattle.shift_defs.specs.Shift.{Shift}
 use mathlib.Core.Bool.{cond}
 use borrow.Author.Needs.{needs}

@@ -1,6 +1,6 @@
 -- `exports_guarantee::lukaripe_convert_and_cast` meets its contract. Assumes nothing.
 use mathlib.Core.Path.{ap, _∙_}
-use Rattle.util.specs.Refusal.{Outcome, answered}
+use Rattle.util_defs.specs.Refusal.{Outcome, answered}
 use Rattle.trailing_defs.specs.Sequence.{sameSequence}
 use Rattle.layout_defs.specs.Layout.{Layout}
 use Rattle.layout.specs.View.{layoutOf}

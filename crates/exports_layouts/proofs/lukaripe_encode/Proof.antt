@@ -1,6 +1,6 @@
 -- `exports_layouts::lukaripe_encode` meets its contract. Assumes nothing.
 use mathlib.Core.Path.{sym, ap}
-use Rattle.util.proofs.Tables.{told-by}
+use Rattle.util_defs.proofs.Tables.{told-by}
 use Rattle.record.specs.View.{encodeSays}
 use Rattle.exports_layouts.specs.Layouts.{refusalOut}
 use borrow.Author.Needs.{needs}

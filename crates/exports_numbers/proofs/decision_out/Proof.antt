@@ -1,7 +1,7 @@
 -- `exports_numbers::decision_out` meets its contract. Assumes nothing.
 use mathlib.Core.Path.{sym, ap, _∙_}
 use mathlib.Core.Bool.{Bool}
-use Rattle.util.specs.Refusal.{answered}
+use Rattle.util_defs.specs.Refusal.{answered}
 use Rattle.util.specs.declared.Decision.{Decision}
 use Rattle.util.specs.View.{decisionSays}
 use Rattle.exports_numbers.specs.Numbers.{decisionOut}

@@ -1,8 +1,8 @@
 -- `extend::after_trailing` meets its contract. Assumes nothing.
 use mathlib.Core.Path.{_≡_, sym, _∙_}
-use Rattle.util.specs.Refusal.{refused, unless}
-use Rattle.util.proofs.Refusals.{told-true}
-use Rattle.util.proofs.Tables.{told-by}
+use Rattle.util_defs.specs.Refusal.{refused, unless}
+use Rattle.util_defs.proofs.Refusals.{told-true}
+use Rattle.util_defs.proofs.Tables.{told-by}
 use Rattle.layout_defs.specs.Extend.{extended, stepCauses}
 use Rattle.layout.specs.View.{layoutOf, checkSays}
 use Rattle.layout_defs.proofs.Steps.{tells-trailing, extend-own, extend-member, extend-step}

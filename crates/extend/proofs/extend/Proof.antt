@@ -1,7 +1,7 @@
 -- `extend::extend` meets its contract. Assumes nothing.
 use mathlib.Core.Path.{sym, subst}
 use native.Mathlib.Omega.{arith}
-use Rattle.util.proofs.Refusals.{told}
+use Rattle.util_defs.proofs.Refusals.{told}
 use Rattle.layout_defs.specs.Extend.{IsTrailing}
 use Rattle.layout.specs.View.{infoOf, layoutOf}
 use Rattle.layout.specs.declared.SizeInfo.{SizeInfo}

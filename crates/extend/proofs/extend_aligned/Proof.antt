@@ -1,8 +1,8 @@
 -- `extend::extend_aligned` meets its contract. Assumes nothing.
 use mathlib.Core.Path.{ap, _∙_}
 use native.Mathlib.Omega.{arith}
-use Rattle.util.specs.Round.{up}
-use Rattle.util.specs.Refusal.{refused}
+use Rattle.util_defs.specs.Round.{up}
+use Rattle.util_defs.specs.Refusal.{refused}
 use Rattle.layout_defs.specs.Extend.{extended}
 use Rattle.layout.specs.View.{layoutOf}
 use Rattle.layout_defs.proofs.Passes.{up-told, up-refused, round-power}

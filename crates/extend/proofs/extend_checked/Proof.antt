@@ -1,8 +1,8 @@
 -- `extend::extend_checked` meets its contract. Assumes nothing.
 use mathlib.Core.Path.{refl, sym, _∙_, subst}
-use Rattle.util.specs.Power.{PowerOfTwo}
-use Rattle.util.specs.Refusal.{unless}
-use Rattle.util.proofs.Refusals.{no, tells-not}
+use Rattle.util_defs.specs.Power.{PowerOfTwo}
+use Rattle.util_defs.specs.Refusal.{unless}
+use Rattle.util_defs.proofs.Refusals.{no, tells-not}
 use Rattle.util.proofs.Told.{number-told, number-kept}
 use Rattle.layout_defs.proofs.Steps.{tells-packing, member-power}
 use borrow.Author.Needs.{needs}

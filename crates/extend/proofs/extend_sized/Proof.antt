@@ -1,9 +1,9 @@
 -- `extend::extend_sized` meets its contract. Assumes nothing.
 use mathlib.Core.Path.{sym, _∙_}
 use native.Mathlib.Omega.{arith}
-use Rattle.util.proofs.Refusals.{told, yes}
-use Rattle.util.proofs.Helpers.{power}
-use Rattle.util.proofs.Tables.{told-by, accepted-none}
+use Rattle.util_defs.proofs.Refusals.{told, yes}
+use Rattle.util_defs.proofs.Helpers.{power}
+use Rattle.util_defs.proofs.Tables.{told-by, accepted-none}
 use Rattle.layout_defs.specs.Layout.{layoutCauses, checkFor}
 use Rattle.layout.specs.View.{layoutOf, sizedOf, checkSays}
 use Rattle.layout_defs.proofs.Layouts.{layout-decided, fixed-accepted, fixed-refused}

@@ -1,7 +1,7 @@
 -- `extend::packed_align` meets its contract. Assumes nothing.
 use mathlib.Core.Path.{_∙_}
 use borrow.Author.Tests.{eq-eqb, ne-eqb}
-use Rattle.util.proofs.Helpers.{min-answered}
+use Rattle.util_defs.proofs.Helpers.{min-answered}
 use Rattle.layout_defs.proofs.Steps.{packing-power}
 use borrow.Author.Needs.{needs}
 use Rattle.extend.proofs.packed_align.Statement.{statement}

@@ -1,7 +1,7 @@
 -- `extend::padding_to_power` meets its contract. Assumes nothing.
 use native.Mathlib.Omega.{arith}
-use Rattle.util.proofs.Powers.{positive}
-use Rattle.util.proofs.Masks.{mask-padding}
+use Rattle.util_defs.proofs.Powers.{positive}
+use Rattle.util_defs.proofs.Masks.{mask-padding}
 use borrow.Author.Needs.{needs}
 use Rattle.extend.proofs.padding_to_power.Statement.{statement}
 use Rattle.extend.proofs.padding_to_power.Tie as tie

@@ -2,10 +2,10 @@
 use mathlib.Core.Path.{_≡_, sym, ap, _∙_}
 use Prim.Native.Nat.{_+_}
 use native.Mathlib.Omega.{arith}
-use Rattle.util.specs.Round.{up}
-use Rattle.util.specs.Refusal.{answered}
-use Rattle.util.proofs.Powers.{positive}
-use Rattle.util.proofs.Rounding.{up-padding}
+use Rattle.util_defs.specs.Round.{up}
+use Rattle.util_defs.specs.Refusal.{answered}
+use Rattle.util_defs.proofs.Powers.{positive}
+use Rattle.util_defs.proofs.Rounding.{up-padding}
 use Rattle.layout_defs.proofs.Passes.{within, past, round-power}
 use borrow.Author.Needs.{needs}
 use Rattle.extend.proofs.round_up_to_power.Statement.{statement}

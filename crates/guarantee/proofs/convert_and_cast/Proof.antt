@@ -2,7 +2,7 @@
 use mathlib.Core.Path.{sym, ap, _∙_, subst}
 use lib.Dec.{lit<}
 use native.Mathlib.Omega.{arith}
-use Rattle.util.specs.Refusal.{Outcome}
+use Rattle.util_defs.specs.Refusal.{Outcome}
 use Rattle.trailing_defs.specs.Sequence.{sameSequence}
 use Rattle.layout.specs.View.{layoutOf}
 use Rattle.convert_defs.specs.Convert.{Params}

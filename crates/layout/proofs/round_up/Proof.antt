@@ -3,18 +3,18 @@ use mathlib.Core.Path.{_≡_, sym, ap, _∙_}
 use mathlib.Core.List.{[], _∷_}
 use Prim.Native.Nat.{ℕ, _+_}
 use native.Mathlib.Omega.{arith}
-use Rattle.util.specs.Power.{PowerOfTwo}
-use Rattle.util.specs.Round.{up, padding}
-use Rattle.util.specs.Refusal.{answered}
-use Rattle.util.specs.Helpers.{alignCauses, paddingFor}
+use Rattle.util_defs.specs.Power.{PowerOfTwo}
+use Rattle.util_defs.specs.Round.{up, padding}
+use Rattle.util_defs.specs.Refusal.{answered}
+use Rattle.util_defs.specs.Helpers.{alignCauses, paddingFor}
 use Rattle.util.specs.View.{numberSays}
 use Rattle.util.specs.declared.Answer.{Answer}
 use Rattle.util.specs.declared.Answer.the-variants as Variants
-use Rattle.util.proofs.Refusals.{told}
-use Rattle.util.proofs.Tables.{told-by, accepted-none, refused-first}
-use Rattle.util.proofs.Powers.{positive}
-use Rattle.util.proofs.Rounding.{up-padding}
-use Rattle.util.proofs.Helpers.{power, align-decided, padding-answered}
+use Rattle.util_defs.proofs.Refusals.{told}
+use Rattle.util_defs.proofs.Tables.{told-by, accepted-none, refused-first}
+use Rattle.util_defs.proofs.Powers.{positive}
+use Rattle.util_defs.proofs.Rounding.{up-padding}
+use Rattle.util_defs.proofs.Helpers.{power, align-decided, padding-answered}
 use Rattle.util.proofs.Told.{number-told}
 use Rattle.layout_defs.proofs.Passes.{within, past, round-meets, round-power}
 use Rattle.layout_defs.specs.Extend.{roundingPasses, roundUpFor}

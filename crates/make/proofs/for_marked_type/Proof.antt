@@ -1,11 +1,11 @@
 -- `make::for_marked_type` meets its contract. Assumes nothing.
 use mathlib.Core.Path.{sym, _∙_}
 use borrow.Author.Tests.{eq-eqb, ne-eqb}
-use Rattle.util.specs.Refusal.{unless}
-use Rattle.util.proofs.Powers.{positive}
-use Rattle.util.proofs.Masks.{mask-mod}
+use Rattle.util_defs.specs.Refusal.{unless}
+use Rattle.util_defs.proofs.Powers.{positive}
+use Rattle.util_defs.proofs.Masks.{mask-mod}
 use borrow.Author.Needs.{needs}
-use Rattle.util.proofs.Refusals.{yes}
+use Rattle.util_defs.proofs.Refusals.{yes}
 use Rattle.make.specs.Make.{typeFor}
 use Rattle.make.proofs.for_marked_type.Statement.{statement}
 use Rattle.make.proofs.for_marked_type.Tie as tie

@@ -1,8 +1,8 @@
 -- `make::new_zst` meets its contract. Assumes nothing.
 use mathlib.Core.Path.{sym, _∙_}
 use native.Mathlib.Omega.{arith}
-use Rattle.util.specs.Refusal.{unless}
-use Rattle.util.proofs.Refusals.{told}
+use Rattle.util_defs.specs.Refusal.{unless}
+use Rattle.util_defs.proofs.Refusals.{told}
 use Rattle.make.specs.Make.{newZstFor}
 use Rattle.make.proofs.Made.{zst-meets}
 use borrow.Author.Needs.{needs}

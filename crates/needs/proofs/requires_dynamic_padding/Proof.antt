@@ -1,11 +1,11 @@
 -- `needs::requires_dynamic_padding` meets its contract. Assumes nothing.
 use mathlib.Core.Path.{sym, _∙_}
 use native.Mathlib.Omega.{arith}
-use Rattle.util.proofs.Refusals.{told}
+use Rattle.util_defs.proofs.Refusals.{told}
 use Rattle.layout_defs.specs.Layout.{layoutCauses, checkFor}
 use Rattle.padding_defs.specs.Pad.{dynamicPadding, dynamicFor}
 use Rattle.layout.specs.View.{layoutOf, checkSays}
-use Rattle.util.proofs.Tables.{told-by, accepted-as, refused-as, accepted-none}
+use Rattle.util_defs.proofs.Tables.{told-by, accepted-as, refused-as, accepted-none}
 use Rattle.layout_defs.proofs.Layouts.{layout-decided}
 use Rattle.padding_defs.proofs.Marks.{dynamic-meets}
 use borrow.Author.Needs.{needs}

@@ -2,11 +2,11 @@
 use mathlib.Core.Path.{sym}
 use mathlib.Core.Bool.{not}
 use native.Mathlib.Omega.{arith}
-use Rattle.util.proofs.Refusals.{told}
+use Rattle.util_defs.proofs.Refusals.{told}
 use Rattle.layout_defs.specs.Layout.{layoutCauses, checkFor}
 use Rattle.padding_defs.specs.Pad.{staticFor}
 use Rattle.layout.specs.View.{layoutOf, checkSays}
-use Rattle.util.proofs.Tables.{told-by, accepted-as, refused-as}
+use Rattle.util_defs.proofs.Tables.{told-by, accepted-as, refused-as}
 use Rattle.padding_defs.proofs.Marks.{static-meets}
 use borrow.Author.Needs.{needs}
 use Rattle.needs.proofs.requires_static_padding.Statement.{statement}

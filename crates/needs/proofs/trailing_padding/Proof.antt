@@ -5,11 +5,11 @@ use Prim.Native.Nat.{ℕ, _%_}
 use native.Mathlib.Omega.{arith}
 use lib.Dec.{eqb}
 use borrow.Author.Tests.{eq-eqb, ne-eqb, le-ltb, lt-ltb}
-use Rattle.util.specs.Power.{PowerOfTwo}
-use Rattle.util.specs.Refusal.{answered}
-use Rattle.util.specs.Width.{M}
-use Rattle.util.proofs.Powers.{positive}
-use Rattle.util.proofs.Masks.{mask-mod}
+use Rattle.util_defs.specs.Power.{PowerOfTwo}
+use Rattle.util_defs.specs.Refusal.{answered}
+use Rattle.util_defs.specs.Width.{M}
+use Rattle.util_defs.proofs.Powers.{positive}
+use Rattle.util_defs.proofs.Masks.{mask-mod}
 use Rattle.util.proofs.Told.{number-told, number-kept}
 use Rattle.rounding.proofs.Words.{parts-of}
 use Rattle.trailing_defs.specs.Size.{sizeAt}

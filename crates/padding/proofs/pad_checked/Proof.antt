@@ -4,12 +4,12 @@ use mathlib.Core.Bool.{Bool}
 use mathlib.Core.List.{[], _∷_}
 use Prim.Native.Nat.{ℕ}
 use native.Mathlib.Omega.{arith}
-use Rattle.util.specs.Power.{PowerOfTwo}
-use Rattle.util.specs.Round.{up}
-use Rattle.util.specs.Refusal.{Outcome, answered, unless}
+use Rattle.util_defs.specs.Power.{PowerOfTwo}
+use Rattle.util_defs.specs.Round.{up}
+use Rattle.util_defs.specs.Refusal.{Outcome, answered, unless}
 use Rattle.util.specs.View.{numberSays}
-use Rattle.util.proofs.Helpers.{power}
-use Rattle.util.proofs.Tables.{told-by, answer-is, accepted-as, refused-as}
+use Rattle.util_defs.proofs.Helpers.{power}
+use Rattle.util_defs.proofs.Tables.{told-by, answer-is, accepted-as, refused-as}
 use Rattle.trailing.specs.View.{trailingOf}
 use Rattle.layout_defs.specs.Layout.{Info, Layout, fixed, trailing, noWord}
 use Rattle.layout_defs.specs.Extend.{roundingPasses}

@@ -3,10 +3,10 @@ use mathlib.Core.Path.{_≡_, ap, ap₂, _∙_}
 use Prim.Native.Nat.{ℕ, _+_, _%_}
 use native.Mathlib.Nat.{mod-lt}
 use native.Mathlib.Omega.{arith}
-use Rattle.util.specs.Round.{up, down}
-use Rattle.util.specs.Refusal.{answered, refused}
-use Rattle.util.proofs.Powers.{positive, double}
-use Rattle.util.proofs.Masks.{mask-mod, mask-down}
+use Rattle.util_defs.specs.Round.{up, down}
+use Rattle.util_defs.specs.Refusal.{answered, refused}
+use Rattle.util_defs.proofs.Powers.{positive, double}
+use Rattle.util_defs.proofs.Masks.{mask-mod, mask-down}
 use Rattle.rounding.proofs.Words.{align-is, phase-is}
 use Rattle.trailing.specs.View.{trailingOf}
 use Rattle.layout_defs.specs.Layout.{trailing}

@@ -2,15 +2,15 @@
 use mathlib.Core.Path.{sym, ap, _∙_}
 use mathlib.Core.List.{[], _∷_}
 use Prim.Native.Nat.{ℕ}
-use Rattle.util.specs.Round.{up}
-use Rattle.util.specs.Refusal.{answered}
+use Rattle.util_defs.specs.Round.{up}
+use Rattle.util_defs.specs.Refusal.{answered}
 use Rattle.util.specs.View.{numberSays}
 use Rattle.trailing.specs.View.{trailingOf}
 use Rattle.layout_defs.specs.Layout.{trailing}
 use Rattle.layout_defs.specs.Extend.{roundingPasses}
 use Rattle.padding_defs.specs.Pad.{finer}
 use Rattle.layout_defs.proofs.Passes.{round-power}
-use Rattle.util.proofs.Tables.{told-by, answer-is, accepted-as, refused-as}
+use Rattle.util_defs.proofs.Tables.{told-by, answer-is, accepted-as, refused-as}
 use borrow.Author.Needs.{needs}
 use Rattle.padding.proofs.pad_finer.Statement.{statement}
 use Rattle.padding.proofs.pad_finer.Tie as tie

@@ -1,5 +1,5 @@
 -- `padding::pad_mark` meets its contract. Assumes nothing.
-use Rattle.util.proofs.Powers.{positive}
+use Rattle.util_defs.proofs.Powers.{positive}
 use Rattle.padding_defs.proofs.Padding.{up-same}
 use borrow.Author.Needs.{needs}
 use Rattle.padding.proofs.pad_mark.Statement.{statement}

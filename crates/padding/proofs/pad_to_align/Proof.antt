@@ -2,12 +2,12 @@
 use mathlib.Core.Path.{sym, _∙_}
 use mathlib.Core.List.{[], _∷_}
 use native.Mathlib.Omega.{arith}
-use Rattle.util.proofs.Refusals.{told}
+use Rattle.util_defs.proofs.Refusals.{told}
 use Rattle.layout_defs.specs.Layout.{layoutCauses, checkFor}
 use Rattle.layout_defs.specs.Extend.{roundingPasses}
 use Rattle.padding_defs.specs.Pad.{padded, paddingNeeds, padFor}
 use Rattle.layout.specs.View.{layoutOf, checkSays}
-use Rattle.util.proofs.Tables.{told-by, refused-first, accepted-first, accepted-none}
+use Rattle.util_defs.proofs.Tables.{told-by, refused-first, accepted-first, accepted-none}
 use Rattle.layout_defs.proofs.Layouts.{layout-decided}
 use Rattle.padding_defs.proofs.Padding.{pad-meets}
 use borrow.Author.Needs.{needs}

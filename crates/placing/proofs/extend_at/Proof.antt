@@ -1,10 +1,10 @@
 -- `placing::extend_at` meets its contract. Assumes nothing.
 use mathlib.Core.Path.{sym, _∙_}
 use mathlib.Core.List.{[], _∷_}
-use Rattle.util.specs.Refusal.{answered}
+use Rattle.util_defs.specs.Refusal.{answered}
 use Rattle.layout_defs.specs.Extend.{placedAt, memberPasses}
 use Rattle.layout.specs.View.{layoutOf, infoSays}
-use Rattle.util.proofs.Tables.{told-by, answer-is, accepted-as, refused-as}
+use Rattle.util_defs.proofs.Tables.{told-by, answer-is, accepted-as, refused-as}
 use borrow.Author.Needs.{needs}
 use Rattle.placing.proofs.extend_at.Statement.{statement}
 use Rattle.placing.proofs.extend_at.Tie as tie

@@ -2,8 +2,8 @@
 use Prim.Native.Nat.{_+_}
 use native.Mathlib.Omega.{arith}
 use borrow.Author.Tests.{le-ltb, lt-ltb}
-use Rattle.util.specs.Width.{M}
-use Rattle.util.specs.Refusal.{unless}
+use Rattle.util_defs.specs.Width.{M}
+use Rattle.util_defs.specs.Refusal.{unless}
 use borrow.Author.Needs.{needs}
 use Rattle.placing.proofs.place_trailing.Statement.{statement}
 use Rattle.placing.proofs.place_trailing.Tie as tie

@@ -5,8 +5,8 @@ use borrow.Author.Tests.{ne-eqb}
 use Prim.Native.Nat.{_^_, _<_}
 use native.Mathlib.Omega.{arith}
 use lib.ListN.{length}
-use Rattle.util.specs.Refusal.{unless, refuses}
-use Rattle.util.proofs.Refusals.{told}
+use Rattle.util_defs.specs.Refusal.{unless, refuses}
+use Rattle.util_defs.proofs.Refusals.{told}
 use Rattle.words.specs.Bytes.{wordAt}
 use Rattle.record_defs.specs.Record.{Words, wordsFor, decodeFor}
 use Rattle.record_defs.proofs.Records.{record-meets, decode-words}

@@ -1,7 +1,7 @@
 -- `record::encode` meets its contract. Assumes nothing.
 use mathlib.Core.Path.{ap, ap₂, _∙_}
 use lib.ListN.{length}
-use Rattle.util.specs.Refusal.{Outcome}
+use Rattle.util_defs.specs.Refusal.{Outcome}
 use Rattle.layout.specs.View.{layoutOf}
 use Rattle.record_defs.specs.Record.{Words, recordBytes, after, encodeWordsFor}
 use Rattle.record_defs.proofs.RoundTrips.{words-encoded}

@@ -2,8 +2,8 @@
 use mathlib.Core.Path.{_≡_, ap, _∙_}
 use Prim.Native.Nat.{ℕ}
 use lib.Seq.{sets}
-use Rattle.util.specs.Refusal.{Outcome, answered, unless}
-use Rattle.util.proofs.Tables.{told-by, accepted-as, refused-as}
+use Rattle.util_defs.specs.Refusal.{Outcome, answered, unless}
+use Rattle.util_defs.proofs.Tables.{told-by, accepted-as, refused-as}
 use Rattle.layout_defs.specs.Layout.{Layout}
 use Rattle.layout.specs.View.{layoutSays}
 use Rattle.record_defs.specs.Record.{Words, recordBytes, wordsLayout, wordsCauses, wordsFor, encodeWordsFor}

@@ -2,8 +2,8 @@
 use mathlib.Core.Path.{sym, _∙_}
 use borrow.Author.Tests.{lt-ltb, le-ltb, le-leb, lt-leb, eq-eqb, ne-eqb}
 use native.Mathlib.Omega.{arith}
-use Rattle.util.specs.Refusal.{unless}
-use Rattle.util.proofs.Refusals.{told}
+use Rattle.util_defs.specs.Refusal.{unless}
+use Rattle.util_defs.proofs.Refusals.{told}
 use Rattle.record_defs.specs.Record.{wordsFor}
 use Rattle.record.specs.View.{wordsIn}
 use Rattle.record_defs.proofs.Records.{words-meets}

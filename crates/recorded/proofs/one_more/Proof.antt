@@ -1,7 +1,7 @@
 -- `recorded::one_more` meets its contract. Assumes nothing.
 use borrow.Author.Needs.{needs}
 use borrow.Author.Tests.{lt-ltb, le-ltb}
-use Rattle.util.specs.Width.{M}
+use Rattle.util_defs.specs.Width.{M}
 use Rattle.recorded.proofs.one_more.Statement.{statement}
 use Rattle.recorded.proofs.one_more.Tie as tie
 

@@ -5,7 +5,7 @@ use Prim.Native.Nat.{_+_, _-_, _*_, _≤_}
 use native.Mathlib.Omega.{arith}
 use native.Mathlib.Nat.{le-refl}
 use borrow.Author.Tests.{lt-ltb, le-ltb}
-use Rattle.util.specs.Width.{M}
+use Rattle.util_defs.specs.Width.{M}
 use lib.Dec.{ltb}
 use lib.ListN.{length, drop}
 use Rattle.recorded_defs.specs.Lines.{numberFrom}

@@ -1,7 +1,7 @@
 -- `scalar::scalar` meets its contract. Assumes nothing.
 use borrow.Author.Tests.{lt-ltb, le-ltb}
-use Rattle.util.specs.Refusal.{unless}
-use Rattle.util.proofs.Refusals.{told}
+use Rattle.util_defs.specs.Refusal.{unless}
+use Rattle.util_defs.proofs.Refusals.{told}
 use Rattle.scalar.specs.Scalar.{target64, scalarFor}
 use Rattle.scalar.proofs.Scalars.{scalar-meets}
 use borrow.Author.Needs.{needs}

@@ -1,8 +1,8 @@
 -- `sequence::has_same_size_sequence` meets its contract. Assumes nothing.
 use mathlib.Core.Path.{sym, ap, _∙_}
 use native.Mathlib.Omega.{arith}
-use Rattle.util.specs.Refusal.{answered}
-use Rattle.util.proofs.Refusals.{told}
+use Rattle.util_defs.specs.Refusal.{answered}
+use Rattle.util_defs.proofs.Refusals.{told}
 use Rattle.rounding.proofs.Words.{not-zero, word-clear, word-stop}
 use Rattle.rounding.proofs.Told.{parts-told, parts-refused}
 use Rattle.trailing_defs.specs.Calls.{sameFor}

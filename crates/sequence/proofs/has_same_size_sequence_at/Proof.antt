@@ -2,7 +2,7 @@
 use mathlib.Core.Path.{sym, _∙_}
 use native.Mathlib.Omega.{arith}
 use borrow.Author.Tests.{eq-eqb, ne-eqb}
-use Rattle.util.proofs.Powers.{double}
+use Rattle.util_defs.proofs.Powers.{double}
 use Rattle.rounding.proofs.Words.{not-zero, at-parts}
 use Rattle.trailing_defs.specs.Size.{A, p}
 use Rattle.trailing_defs.specs.Sequence.{sameStride, sameSequence}

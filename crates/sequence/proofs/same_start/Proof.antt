@@ -1,7 +1,7 @@
 -- `sequence::same_start` meets its contract. Assumes nothing.
 use mathlib.Core.Path.{sym, _∙_}
 use native.Mathlib.Omega.{arith}
-use Rattle.util.proofs.Refusals.{told-false, agree, tells-eq, tells-as}
+use Rattle.util_defs.proofs.Refusals.{told-false, agree, tells-eq, tells-as}
 use Rattle.trailing.specs.View.{trailingOf}
 use Rattle.trailing_defs.proofs.Sequences.{tells-start}
 use Rattle.trailing.proofs.Told.{size-told, size-not}

@@ -1,5 +1,5 @@
 -- `sequence::same_stride` meets its contract. Assumes nothing.
-use Rattle.util.proofs.Powers.{positive}
+use Rattle.util_defs.proofs.Powers.{positive}
 use Rattle.trailing_defs.proofs.Sequences.{stride-first, stride-yes, stride-equal, stride-no}
 use borrow.Author.Needs.{needs}
 use Rattle.sequence.proofs.same_stride.Statement.{statement}

@@ -4,7 +4,7 @@ use Prim.Native.Nat.{_-_, _^_}
 use borrow.Author.Tests.{le-leb, lt-leb}
 use native.Mathlib.Omega.{arith}
 use Rattle.util.specs.View.{numberSays}
-use Rattle.util.proofs.Tables.{told-by}
+use Rattle.util_defs.proofs.Tables.{told-by}
 use Rattle.trailing_defs.specs.Size.{sizeAt}
 use Rattle.trailing.specs.View.{trailingOf}
 use Rattle.trailing.proofs.Told.{size-told, size-not}

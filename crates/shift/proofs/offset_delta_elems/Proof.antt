@@ -2,9 +2,9 @@
 use mathlib.Core.Path.{sym, ap, _∙_}
 use lib.Dec.{lit<}
 use native.Mathlib.Omega.{arith}
-use Rattle.util.specs.Refusal.{answered}
-use Rattle.util.proofs.Refusals.{told}
-use Rattle.util.proofs.Tables.{told-by, refused-as, accepted-as, refused-first, accepted-first, accepted-none}
+use Rattle.util_defs.specs.Refusal.{answered}
+use Rattle.util_defs.proofs.Refusals.{told}
+use Rattle.util_defs.proofs.Tables.{told-by, refused-as, accepted-as, refused-first, accepted-first, accepted-none}
 use Rattle.trailing_defs.specs.Sequence.{sameSequence}
 use Rattle.layout_defs.specs.Layout.{layoutCauses, checkFor}
 use Rattle.layout.specs.View.{layoutOf, checkSays}

@@ -2,10 +2,10 @@
 use mathlib.Core.Path.{_≡_, sym, ap, _∙_}
 use Prim.Native.Nat.{ℕ, _*_}
 use native.Mathlib.Omega.{arith}
-use Rattle.util.specs.Refusal.{answered}
+use Rattle.util_defs.specs.Refusal.{answered}
 use Rattle.util.specs.View.{decisionSays}
-use Rattle.util.proofs.Refusals.{tells-true, yes, told-false, agree, tells-as}
-use Rattle.util.proofs.Tables.{told-by, apart}
+use Rattle.util_defs.proofs.Refusals.{tells-true, yes, told-false, agree, tells-as}
+use Rattle.util_defs.proofs.Tables.{told-by, apart}
 use Rattle.util.proofs.Told.{product-told, product-past}
 use Rattle.rounding.proofs.Words.{not-zero}
 use Rattle.trailing_defs.specs.Sequence.{sameSequence}

@@ -2,7 +2,7 @@
 use mathlib.Core.Path.{sym, ap, _∙_}
 use Prim.Native.Nat.{ℕ}
 use native.Mathlib.Omega.{arith}
-use Rattle.util.specs.Round.{up}
+use Rattle.util_defs.specs.Round.{up}
 use Rattle.trailing_defs.proofs.Sizes.{rounded-zero, rounded-phase}
 use Rattle.trailing.proofs.rounded_phase.Statement.{statement}
 use Rattle.trailing.proofs.rounded_phase.Tie as tie

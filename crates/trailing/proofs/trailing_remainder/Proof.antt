@@ -1,5 +1,5 @@
 -- `trailing::trailing_remainder` meets its contract. Assumes nothing.
-use Rattle.util.proofs.Powers.{positive}
+use Rattle.util_defs.proofs.Powers.{positive}
 use Rattle.trailing_defs.proofs.Sizes.{remainder}
 use borrow.Author.Needs.{needs}
 use Rattle.trailing.proofs.trailing_remainder.Statement.{statement}

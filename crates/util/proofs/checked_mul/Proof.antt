@@ -2,7 +2,7 @@
 use mathlib.Core.Path.{sym, ap, _∙_}
 use Prim.Native.Nat.{ℕ, _*_, _/_, _^_}
 use native.Mathlib.Omega.{arith}
-use Rattle.util.proofs.Products.{checked-wrapped, checked-past, product-within, product-past}
+use Rattle.util_defs.proofs.Products.{checked-wrapped, checked-past, product-within, product-past}
 use borrow.Author.Needs.{needs}
 use Rattle.util.proofs.checked_mul.Statement.{statement}
 use Rattle.util.proofs.checked_mul.Tie as tie

@@ -2,10 +2,10 @@
 use mathlib.Core.Bool.{false}
 use native.Mathlib.Omega.{arith}
 use borrow.Author.Needs.{needs}
-use Rattle.util.specs.Refusal.{Tells, fails}
-use Rattle.util.specs.Power.{PowerOfTwo}
-use Rattle.util.proofs.Refusals.{agree}
-use Rattle.util.proofs.Powers.{positive, tells-power, tells-mask}
+use Rattle.util_defs.specs.Refusal.{Tells, fails}
+use Rattle.util_defs.specs.Power.{PowerOfTwo}
+use Rattle.util_defs.proofs.Refusals.{agree}
+use Rattle.util_defs.proofs.Powers.{positive, tells-power, tells-mask}
 use Rattle.util.proofs.is_power_of_two.Statement.{statement}
 use Rattle.util.proofs.is_power_of_two.Tie as tie
 

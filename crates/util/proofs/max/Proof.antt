@@ -1,10 +1,10 @@
 -- `util::max` meets its contract. Assumes nothing.
 use mathlib.Core.Path.{_≡_, sym, ap, _∙_}
 use native.Mathlib.Nat.{le-of-lt, max-eq-left, max-eq-right}
-use Rattle.util.specs.Refusal.{answered, unless}
-use Rattle.util.specs.Helpers.{maxFor}
-use Rattle.util.proofs.Refusals.{yes, told}
-use Rattle.util.proofs.Helpers.{max-meets, max-answered}
+use Rattle.util_defs.specs.Refusal.{answered, unless}
+use Rattle.util_defs.specs.Helpers.{maxFor}
+use Rattle.util_defs.proofs.Refusals.{yes, told}
+use Rattle.util_defs.proofs.Helpers.{max-meets, max-answered}
 use borrow.Author.Needs.{needs}
 use Rattle.util.proofs.max.Statement.{statement}
 use Rattle.util.proofs.max.Tie as tie

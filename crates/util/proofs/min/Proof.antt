@@ -1,10 +1,10 @@
 -- `util::min` meets its contract. Assumes nothing.
 use mathlib.Core.Path.{_≡_, sym, ap, _∙_}
 use native.Mathlib.Nat.{le-of-lt, min-eq-left, min-eq-right}
-use Rattle.util.specs.Refusal.{answered, unless}
-use Rattle.util.specs.Helpers.{minFor}
-use Rattle.util.proofs.Refusals.{yes, told}
-use Rattle.util.proofs.Helpers.{min-meets, min-answered}
+use Rattle.util_defs.specs.Refusal.{answered, unless}
+use Rattle.util_defs.specs.Helpers.{minFor}
+use Rattle.util_defs.proofs.Refusals.{yes, told}
+use Rattle.util_defs.proofs.Helpers.{min-meets, min-answered}
 use borrow.Author.Needs.{needs}
 use Rattle.util.proofs.min.Statement.{statement}
 use Rattle.util.proofs.min.Tie as tie

@@ -1,12 +1,12 @@
 -- `util::padding_needed_for` meets its contract. Assumes nothing.
 use mathlib.Core.Path.{_≡_, sym, ap, _∙_}
 use native.Mathlib.Omega.{arith}
-use Rattle.util.specs.Refusal.{answered, unless}
-use Rattle.util.specs.Helpers.{paddingFor}
-use Rattle.util.proofs.Refusals.{yes, told}
-use Rattle.util.proofs.Powers.{positive}
-use Rattle.util.proofs.Masks.{mask-padding}
-use Rattle.util.proofs.Helpers.{padding-meets, padding-answered}
+use Rattle.util_defs.specs.Refusal.{answered, unless}
+use Rattle.util_defs.specs.Helpers.{paddingFor}
+use Rattle.util_defs.proofs.Refusals.{yes, told}
+use Rattle.util_defs.proofs.Powers.{positive}
+use Rattle.util_defs.proofs.Masks.{mask-padding}
+use Rattle.util_defs.proofs.Helpers.{padding-meets, padding-answered}
 use borrow.Author.Needs.{needs}
 use Rattle.util.proofs.padding_needed_for.Statement.{statement}
 use Rattle.util.proofs.padding_needed_for.Tie as tie

@@ -1,11 +1,11 @@
 -- `util::round_down_to_next_multiple_of_alignment` meets its contract. Assumes nothing.
 use mathlib.Core.Path.{_≡_, sym, ap, _∙_}
-use Rattle.util.specs.Refusal.{answered, unless}
-use Rattle.util.specs.Helpers.{roundDownFor}
-use Rattle.util.proofs.Refusals.{yes, told}
-use Rattle.util.proofs.Powers.{positive}
-use Rattle.util.proofs.Masks.{mask-down}
-use Rattle.util.proofs.Helpers.{down-meets, down-answered}
+use Rattle.util_defs.specs.Refusal.{answered, unless}
+use Rattle.util_defs.specs.Helpers.{roundDownFor}
+use Rattle.util_defs.proofs.Refusals.{yes, told}
+use Rattle.util_defs.proofs.Powers.{positive}
+use Rattle.util_defs.proofs.Masks.{mask-down}
+use Rattle.util_defs.proofs.Helpers.{down-meets, down-answered}
 use borrow.Author.Needs.{needs}
 use Rattle.util.proofs.round_down_to_next_multiple_of_alignment.Statement.{statement}
 use Rattle.util.proofs.round_down_to_next_multiple_of_alignment.Tie as tie

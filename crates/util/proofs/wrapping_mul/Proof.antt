@@ -3,7 +3,7 @@ use mathlib.Core.Path.{_∙_}
 use Prim.Native.Nat.{_+_}
 use lib.Pow.{shr-lt}
 use mir.Facts.{fits-bits}
-use Rattle.util.proofs.Products.{mul-lt-pow, lo-lt, wrapped}
+use Rattle.util_defs.proofs.Products.{mul-lt-pow, lo-lt, wrapped}
 use borrow.Author.Needs.{needs}
 use Rattle.util.proofs.wrapping_mul.Statement.{statement}
 use Rattle.util.proofs.wrapping_mul.Tie as tie

@@ -2,8 +2,8 @@
 use mathlib.Core.Path.{sym, _∙_, subst}
 use native.Mathlib.Omega.{arith}
 use borrow.Author.Tests.{eq-eqb, ne-eqb}
-use Rattle.util.specs.Refusal.{unless}
-use Rattle.util.proofs.Refusals.{told}
+use Rattle.util_defs.specs.Refusal.{unless}
+use Rattle.util_defs.proofs.Refusals.{told}
 use Rattle.layout_defs.specs.Layout.{WordFits, checkFor}
 use Rattle.layout.specs.declared.SizeInfo.{SizeInfo}
 use Rattle.layout.specs.View.{infoOf, layoutOf}

@@ -2,8 +2,8 @@
 use mathlib.Core.Path.{ap, _∙_}
 use native.Mathlib.Omega.{arith}
 use borrow.Author.Tests.{eq-eqb, ne-eqb}
-use Rattle.util.specs.Refusal.{answered, refused, unless}
-use Rattle.util.proofs.Refusals.{told}
+use Rattle.util_defs.specs.Refusal.{answered, refused, unless}
+use Rattle.util_defs.proofs.Refusals.{told}
 use Rattle.rounding.specs.Word.{alignFor}
 use Rattle.rounding.proofs.Words.{align-meets, align-is, not-zero}
 use Rattle.rounding.proofs.Told.{parts-told, parts-refused}

@@ -4,8 +4,8 @@ use Prim.Native.Nat.{ℕ}
 use lib.Bits.{bitXor}
 use native.Mathlib.Omega.{arith}
 use borrow.Author.Tests.{eq-eqb, ne-eqb}
-use Rattle.util.specs.Refusal.{answered, unless}
-use Rattle.util.proofs.Refusals.{told}
+use Rattle.util_defs.specs.Refusal.{answered, unless}
+use Rattle.util_defs.proofs.Refusals.{told}
 use Rattle.rounding.specs.Word.{alignOf, componentsFor}
 use Rattle.rounding.proofs.Words.{components-meets, parts-of, top-bit, xor-phase, zeros-below}
 use borrow.Author.Needs.{needs}

@@ -2,9 +2,9 @@
 use mathlib.Core.Path.{sym, _∙_}
 use native.Mathlib.Omega.{arith}
 use borrow.Author.Tests.{le-leb, lt-leb}
-use Rattle.util.specs.Refusal.{unless}
-use Rattle.util.proofs.Refusals.{yes, told}
-use Rattle.util.proofs.Powers.{double}
+use Rattle.util_defs.specs.Refusal.{unless}
+use Rattle.util_defs.proofs.Refusals.{yes, told}
+use Rattle.util_defs.proofs.Powers.{double}
 use Rattle.rounding.specs.Word.{newFor}
 use Rattle.rounding.proofs.Words.{new-meets}
 use borrow.Author.Needs.{needs}

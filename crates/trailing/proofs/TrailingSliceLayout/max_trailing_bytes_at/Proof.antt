@@ -2,9 +2,9 @@
 use mathlib.Core.Path.{_≡_, sym}
 use Prim.Native.Nat.{_+_, _-_}
 use native.Mathlib.Omega.{arith}
-use Rattle.util.specs.Round.{down}
-use Rattle.util.proofs.Powers.{positive}
-use Rattle.util.proofs.Rounding.{up-ge, down-le}
+use Rattle.util_defs.specs.Round.{down}
+use Rattle.util_defs.proofs.Powers.{positive}
+use Rattle.util_defs.proofs.Rounding.{up-ge, down-le}
 use Rattle.util.proofs.Told.{down-told, down-kept}
 use Rattle.trailing.specs.View.{trailingOf}
 use Rattle.trailing_defs.proofs.Calls.{max-trailing-refused, max-trailing-answered}

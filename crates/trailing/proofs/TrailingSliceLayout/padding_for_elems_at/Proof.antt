@@ -3,9 +3,9 @@ use mathlib.Core.Path.{_≡_, sym, ap, _∙_}
 use Prim.Native.Nat.{ℕ, _+_, _*_, _%_, _^_, _<_}
 use native.Mathlib.Nat.{mod-lt}
 use native.Mathlib.Omega.{arith}
-use Rattle.util.specs.Round.{padding}
-use Rattle.util.proofs.Powers.{positive, double}
-use Rattle.util.proofs.Rounding.{padding-mod}
+use Rattle.util_defs.specs.Round.{padding}
+use Rattle.util_defs.proofs.Powers.{positive, double}
+use Rattle.util_defs.proofs.Rounding.{padding-mod}
 use Rattle.util.proofs.Told.{padding-told, padding-kept}
 use Rattle.rounding.proofs.Words.{parts-of, at-parts, not-zero}
 use Rattle.trailing_defs.specs.Size.{A, p}

@@ -2,7 +2,7 @@
 use mathlib.Core.Path.{_≡_, sym, _∙_}
 use Prim.Native.Nat.{_-_, _*_, _/_, _^_, _≤_, _<_}
 use native.Mathlib.Omega.{arith}
-use Rattle.util.proofs.Powers.{positive}
+use Rattle.util_defs.proofs.Powers.{positive}
 use Rattle.util.proofs.Told.{product-told, product-past}
 use Rattle.rounding.proofs.Words.{not-zero, parts-of}
 use Rattle.trailing_defs.specs.Size.{A, p, sizeAt, HasSize}

@@ -2,8 +2,8 @@
 use mathlib.Core.Path.{_≡_, sym, ap, _∙_}
 use Prim.Native.Nat.{ℕ, _+_}
 use native.Mathlib.Omega.{arith}
-use Rattle.util.specs.Round.{down}
-use Rattle.util.specs.Refusal.{answered}
+use Rattle.util_defs.specs.Round.{down}
+use Rattle.util_defs.specs.Refusal.{answered}
 use Rattle.util.proofs.Told.{down-told, down-kept}
 use Rattle.trailing.specs.View.{trailingOf}
 use Rattle.trailing_defs.proofs.Sizes.{offset-fits}

@@ -7,7 +7,7 @@ use Prim.Native.Nat.{ℕ, suc, _≤_, _<_}
 use lib.Dec.{eqb, leb, ltb}
 use borrow.Author.Tests.{eqb-true, eqb-false, leb-true, leb-false}
 use native.Mathlib.Omega.{arith}
-use Rattle.util.specs.Refusal.{Outcome, answered, refused, Cause, unless, Tells, holds, fails, None, First, Meets, answers, refuses, Decided}
+use Rattle.util_defs.specs.Refusal.{Outcome, answered, refused, Cause, unless, Tells, holds, fails, None, First, Meets, answers, refuses, Decided}
 
 -- a decided test that came out true, or false
 pub yes : {P : Type 0} {b : Bool} → Tells P b → b ≡ true → P

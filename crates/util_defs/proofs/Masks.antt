@@ -6,10 +6,10 @@ use native.Mathlib.Nat.{eq-or-lt-of-le, mod-eq-of-lt, mod-lt, add-mod-mod, mod-s
 use native.Mathlib.Omega.{arith}
 use lib.Pow.{shr-mod}
 use lib.Bits.{bitAnd, and-mask, and-high}
-use Rattle.util.specs.Power.{PowerOfTwo}
-use Rattle.util.specs.Round.{down, padding}
-use Rattle.util.proofs.Powers.{positive, exponent-lt, divides}
-use Rattle.util.proofs.Rounding.{padding-is}
+use Rattle.util_defs.specs.Power.{PowerOfTwo}
+use Rattle.util_defs.specs.Round.{down, padding}
+use Rattle.util_defs.proofs.Powers.{positive, exponent-lt, divides}
+use Rattle.util_defs.proofs.Rounding.{padding-is}
 
 -- v & (a - 1) is the remainder
 pub mask-mod : {a : ℕ} (v : ℕ) → PowerOfTwo a → bitAnd v (a - 1) ≡ v % a

@@ -4,9 +4,9 @@ use mathlib.Core.Bool.{not}
 use mathlib.Core.List.{List, [], _∷_}
 use mathlib.Core.Logic.{_⊎_}
 use Prim.Native.Nat.{ℕ, _≤_, max, min}
-use Rattle.util.specs.Power.{PowerOfTwo, powerOfTwo}
-use Rattle.util.specs.Round.{down, padding}
-use Rattle.util.specs.Refusal.{Outcome, Cause, unless}
+use Rattle.util_defs.specs.Power.{PowerOfTwo, powerOfTwo}
+use Rattle.util_defs.specs.Round.{down, padding}
+use Rattle.util_defs.specs.Refusal.{Outcome, Cause, unless}
 
 -- 1: an alignment is 0 or no power of two
 abbrev pub badAlign : ℕ → ℕ → Cause

@@ -5,7 +5,7 @@ use mathlib.Core.List.{List, [], _∷_, _++_}
 use mathlib.Core.Logic.{_⊎_, inl, inr, ⊎-elim}
 use Prim.Native.Nat.{ℕ}
 use native.Mathlib.Omega.{arith}
-use Rattle.util.specs.Refusal.{Outcome, answered, refused, Cause, unless, Tells, holds, fails, None, First, Decided}
+use Rattle.util_defs.specs.Refusal.{Outcome, answered, refused, Cause, unless, Tells, holds, fails, None, First, Decided}
 
 -- what an answer that a match found says is the outcome
 pub told-by : {R T : Type 0} (says : R → Outcome T) {r s : R} {o : Outcome T} → says r ≡ o → r ≡ s → o ≡ says s

@@ -3,7 +3,7 @@ use mathlib.Core.Path.{_≡_, sym, ap, _∙_}
 use Prim.Native.Nat.{ℕ, _+_, _-_, _*_, _/_, _%_, _≤_, _<_}
 use native.Mathlib.Nat.{mod-lt, div-add-mod', mul-mod-left, lt-of-mul-lt-mul-right, mul-le-mul-right, mul-add-mod-self-right}
 use native.Mathlib.Omega.{arith}
-use Rattle.util.specs.Round.{down, up, padding, GreatestMultiple}
+use Rattle.util_defs.specs.Round.{down, up, padding, GreatestMultiple}
 
 -- a number with no remainder is its quotient's multiple
 pub multiple : (v A : ℕ) → v % A ≡ 0 → v / A * A ≡ v

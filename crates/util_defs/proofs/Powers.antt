@@ -10,8 +10,8 @@ use lib.Bits.{bitAnd, and-mask, and-block}
 use lib.Count.{leading-top}
 use lib.Dec.{eqb, leb}
 use borrow.Author.Tests.{eqb-true, eqb-false, leb-true, leb-false}
-use Rattle.util.specs.Power.{PowerOfTwo, powerOfTwo}
-use Rattle.util.specs.Refusal.{Tells, holds, fails}
+use Rattle.util_defs.specs.Power.{PowerOfTwo, powerOfTwo}
+use Rattle.util_defs.specs.Refusal.{Tells, holds, fails}
 
 pub positive : {a : ℕ} → PowerOfTwo a → 0 < a
 positive {a} p = subst (λ (x : ℕ). 0 < x) (sym (p .power)) (pow-pos (p .exponent))

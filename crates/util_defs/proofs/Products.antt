@@ -6,8 +6,8 @@ use lib.Pow.{pow-add, shl-lt, split}
 use borrow.Author.Tests.{le-leb, lt-leb}
 use native.Mathlib.Nat.{le-of-lt, lt-of-le-of-lt, mul-le-mul-left, mul-add-mod-self-right, div-add-mod', add-mod-mod, mod-lt, mod-eq-of-lt, div-mul-le-self, mul-div-cancel}
 use native.Mathlib.Omega.{arith}
-use Rattle.util.specs.Width.{M, fitting, passes, checked}
-use Rattle.util.proofs.Refusals.{known, tells-le}
+use Rattle.util_defs.specs.Width.{M, fitting, passes, checked}
+use Rattle.util_defs.proofs.Refusals.{known, tells-le}
 
 -- a number of s bits times one of t bits has at most s + t bits
 pub mul-lt-pow : {a b : ℕ} (s t : ℕ) → a < 2 ^ s → b < 2 ^ t → a * b < 2 ^ (s + t)

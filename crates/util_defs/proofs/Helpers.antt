@@ -7,13 +7,13 @@ use native.Mathlib.Nat.{le-max-left, le-max-right, max-eq-left, max-eq-right, mi
 use native.Mathlib.Omega.{arith}
 use lib.Dec.{leb}
 use borrow.Author.Tests.{leb-true, leb-false}
-use Rattle.util.specs.Power.{PowerOfTwo}
-use Rattle.util.specs.Round.{down, padding, GreatestMultiple, LeastPadding}
-use Rattle.util.specs.Refusal.{answered, Tells, Meets, Decided}
-use Rattle.util.specs.Helpers.{badAlign, alignCauses, alignsCauses, paddingFor, roundDownFor, maxFor, minFor, Larger, Smaller}
-use Rattle.util.proofs.Refusals.{known, tells-not, meets, clear}
-use Rattle.util.proofs.Powers.{positive, tells-power, divides, mod-through}
-use Rattle.util.proofs.Rounding.{down-is, up-multiple, up-least, up-padding}
+use Rattle.util_defs.specs.Power.{PowerOfTwo}
+use Rattle.util_defs.specs.Round.{down, padding, GreatestMultiple, LeastPadding}
+use Rattle.util_defs.specs.Refusal.{answered, Tells, Meets, Decided}
+use Rattle.util_defs.specs.Helpers.{badAlign, alignCauses, alignsCauses, paddingFor, roundDownFor, maxFor, minFor, Larger, Smaller}
+use Rattle.util_defs.proofs.Refusals.{known, tells-not, meets, clear}
+use Rattle.util_defs.proofs.Powers.{positive, tells-power, divides, mod-through}
+use Rattle.util_defs.proofs.Rounding.{down-is, up-multiple, up-least, up-padding}
 
 -- not no power is a power, for a number that w bits hold
 pub power : (w a : ℕ) → a < 2 ^ w → ((PowerOfTwo a → ⊥) → ⊥) → PowerOfTwo a

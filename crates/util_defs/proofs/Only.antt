@@ -3,8 +3,8 @@ use mathlib.Core.Path.{_≡_}
 use mathlib.Core.Logic.{_⊎_, inl, inr}
 use Prim.Native.Nat.{ℕ}
 use native.Mathlib.Omega.{arith}
-use Rattle.util.specs.Round.{GreatestMultiple, LeastPadding}
-use Rattle.util.specs.Helpers.{Larger, Smaller}
+use Rattle.util_defs.specs.Round.{GreatestMultiple, LeastPadding}
+use Rattle.util_defs.specs.Helpers.{Larger, Smaller}
 
 pub one-multiple : {v A m n : ℕ} → GreatestMultiple v A m → GreatestMultiple v A n → m ≡ n
 one-multiple {v} {A} {m} {n} g h = omega (arith, g .greatest n (h .multiple) (h .within), h .greatest m (g .multiple) (g .within))

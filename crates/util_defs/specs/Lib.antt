@@ -1,0 +1,5 @@
+pub mod Width
+pub mod Power
+pub mod Round
+pub mod Refusal
+pub mod Helpers
