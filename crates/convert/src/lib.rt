@@ -9,7 +9,7 @@ ghost use Rattle.layout.specs.View.{infoOf, layoutOf};
 ghost use Rattle.convert_defs.specs.Reasons.{conversionCauses};
 ghost use Rattle.convert_defs.specs.Convert.{Params, paramsOf, byKinds};
 ghost use Rattle.convert_defs.specs.Convert.{Converts, computeCauses, computeFor};
-ghost use Rattle.convert.specs.View.{computeSays};
+ghost use Rattle.convert.specs.View.{reasonSays, computedSays, computeSays};
 use layout::Check;
 use layout::DstLayout;
 use layout::SizeInfo;
@@ -33,6 +33,24 @@ pub enum CastParamsInner {
     SizedToSized,
 }
 
+// Why there is no conversion, in the order tested.
+enum Reason {
+    SourceAlignLower,
+    FixedSizesDiffer,
+    TrailingToFixed,
+    NoExactCount,
+    TargetElemZero,
+    SourceElemSmaller,
+    NoWholeMultiple,
+    NoShift,
+}
+
+// A conversion, or why there is none. A reason is no number yet, which would share a word with the kind of a conversion.
+enum Computed {
+    Accepted(CastParamsInner),
+    None(Reason),
+}
+
 // A conversion, or the number of the refusal.
 pub enum ComputeAnswer {
     Params(CastParamsInner),
@@ -45,42 +63,42 @@ fn compute_unsized(
     src: TrailingSliceLayout,
     dst_layout: DstLayout,
     dst: TrailingSliceLayout,
-) -> ComputeAnswer
+) -> Computed
     requires { ⌜
         None (layoutCauses 64 (layoutOf «src_layout»)) × (infoOf («src_layout» .«size_info») ≡ trailing (trailingOf src))
         × None (layoutCauses 64 (layoutOf «dst_layout»)) × (infoOf («dst_layout» .«size_info») ≡ trailing (trailingOf dst))
         ⌝ }
     ensures { λ r. ⌜
-        computeSays r ≡ byKinds 64 (sameSequence 64) (trailing (trailingOf src)) (layoutOf «dst_layout»)
+        computedSays r ≡ byKinds 64 (sameSequence 64) (trailing (trailingOf src)) (layoutOf «dst_layout»)
         (trailing (trailingOf dst))
         ⌝ }
 {
     let dst_elem_size = dst.elem_size;
     if dst_elem_size == 0 {
-        return ComputeAnswer::Refused(refusal::TARGET_ELEM_SIZE_ZERO);
+        return Computed::None(Reason::TargetElemZero);
     }
     let src_elem_size = src.elem_size;
     if src_elem_size < dst_elem_size {
-        return ComputeAnswer::Refused(refusal::SOURCE_ELEM_SMALLER);
+        return Computed::None(Reason::SourceElemSmaller);
     }
     if src_elem_size % dst_elem_size != 0 {
-        return ComputeAnswer::Refused(refusal::ELEM_NO_MULTIPLE);
+        return Computed::None(Reason::NoWholeMultiple);
     }
     let ShiftAnswer::Shift(shift) = shift::offset_delta_elems(src_layout, dst_layout) else {
-        return ComputeAnswer::Refused(refusal::NO_SHIFT);
+        return Computed::None(Reason::NoShift);
     };
     match shift {
-        Shift::By(elems) => ComputeAnswer::Params(CastParamsInner::UnsizedToUnsized {
+        Shift::By(elems) => Computed::Accepted(CastParamsInner::UnsizedToUnsized {
             offset_delta_elems: elems,
             elem_multiple: src_elem_size / dst_elem_size,
         }),
-        Shift::Missing => ComputeAnswer::Refused(refusal::NO_SHIFT),
+        Shift::Missing => Computed::None(Reason::NoShift),
     }
 }
 
-fn compute_from_sized(src_size: u64, dst_layout: DstLayout) -> ComputeAnswer
+fn compute_from_sized(src_size: u64, dst_layout: DstLayout) -> Computed
     ensures { λ r. ⌜
-        computeSays r ≡ byKinds 64 (sameSequence 64) (fixed «src_size») (layoutOf «dst_layout»)
+        computedSays r ≡ byKinds 64 (sameSequence 64) (fixed «src_size») (layoutOf «dst_layout»)
         (infoOf («dst_layout» .«size_info»))
         ⌝ }
 {
@@ -88,16 +106,16 @@ fn compute_from_sized(src_size: u64, dst_layout: DstLayout) -> ComputeAnswer
     match size_info {
         SizeInfo::Sized { size } => {
             if src_size == size {
-                ComputeAnswer::Params(CastParamsInner::SizedToSized)
+                Computed::Accepted(CastParamsInner::SizedToSized)
             } else {
-                ComputeAnswer::Refused(refusal::FIXED_SIZES_DIFFER)
+                Computed::None(Reason::FixedSizesDiffer)
             }
         }
         SizeInfo::SliceDst(_) => match cast::metadata_for_exact_size(dst_layout, src_size) {
             Answer::Number(dst_meta) => {
-                ComputeAnswer::Params(CastParamsInner::SizedToUnsized { dst_meta })
+                Computed::Accepted(CastParamsInner::SizedToUnsized { dst_meta })
             }
-            Answer::Refused(_) => ComputeAnswer::Refused(refusal::SOURCE_NO_EXACT_COUNT),
+            Answer::Refused(_) => Computed::None(Reason::NoExactCount),
         },
     }
 }
@@ -106,38 +124,67 @@ fn compute_from_unsized(
     src_layout: DstLayout,
     src: TrailingSliceLayout,
     dst_layout: DstLayout,
-) -> ComputeAnswer
+) -> Computed
     requires { ⌜
         None (layoutCauses 64 (layoutOf «src_layout»)) × (infoOf («src_layout» .«size_info») ≡ trailing (trailingOf src))
         × None (layoutCauses 64 (layoutOf «dst_layout»))
         ⌝ }
     ensures { λ r. ⌜
-        computeSays r ≡ byKinds 64 (sameSequence 64) (trailing (trailingOf src)) (layoutOf «dst_layout»)
+        computedSays r ≡ byKinds 64 (sameSequence 64) (trailing (trailingOf src)) (layoutOf «dst_layout»)
         (infoOf («dst_layout» .«size_info»))
         ⌝ }
 {
     let size_info = dst_layout.size_info;
     match size_info {
-        SizeInfo::Sized { size: _ } => ComputeAnswer::Refused(refusal::TRAILING_TO_FIXED),
+        SizeInfo::Sized { size: _ } => Computed::None(Reason::TrailingToFixed),
         SizeInfo::SliceDst(dst) => compute_unsized(src_layout, src, dst_layout, dst),
     }
 }
 
 // The conversion between two layouts that passed their checks.
-fn compute(src_layout: DstLayout, dst_layout: DstLayout) -> ComputeAnswer
+fn compute(src_layout: DstLayout, dst_layout: DstLayout) -> Computed
+    requires { ⌜ None (layoutCauses 64 (layoutOf «src_layout»)) × None (layoutCauses 64 (layoutOf «dst_layout»)) ⌝ }
+    ensures { λ r. ⌜
+        computedSays r ≡ unless (conversionCauses 64 (sameSequence 64) (layoutOf «src_layout») (layoutOf «dst_layout»))
+        (paramsOf 64 (sameSequence 64) (layoutOf «src_layout» .info) (layoutOf «dst_layout») (layoutOf «dst_layout» .info))
+        ⌝ }
+{
+    if src_layout.align < dst_layout.align {
+        return Computed::None(Reason::SourceAlignLower);
+    }
+    let size_info = src_layout.size_info;
+    match size_info {
+        SizeInfo::Sized { size } => compute_from_sized(size, dst_layout),
+        SizeInfo::SliceDst(src) => compute_from_unsized(src_layout, src, dst_layout),
+    }
+}
+
+// The refusal number of a reason.
+fn reason_number(reason: Reason) -> u64
+    ensures { λ r. ⌜ r ≡ reasonSays reason ⌝ }
+{
+    match reason {
+        Reason::SourceAlignLower => refusal::SOURCE_ALIGN_LOWER,
+        Reason::FixedSizesDiffer => refusal::FIXED_SIZES_DIFFER,
+        Reason::TrailingToFixed => refusal::TRAILING_TO_FIXED,
+        Reason::NoExactCount => refusal::SOURCE_NO_EXACT_COUNT,
+        Reason::TargetElemZero => refusal::TARGET_ELEM_SIZE_ZERO,
+        Reason::SourceElemSmaller => refusal::SOURCE_ELEM_SMALLER,
+        Reason::NoWholeMultiple => refusal::ELEM_NO_MULTIPLE,
+        Reason::NoShift => refusal::NO_SHIFT,
+    }
+}
+
+fn compute_answer(src_layout: DstLayout, dst_layout: DstLayout) -> ComputeAnswer
     requires { ⌜ None (layoutCauses 64 (layoutOf «src_layout»)) × None (layoutCauses 64 (layoutOf «dst_layout»)) ⌝ }
     ensures { λ r. ⌜
         computeSays r ≡ unless (conversionCauses 64 (sameSequence 64) (layoutOf «src_layout») (layoutOf «dst_layout»))
         (paramsOf 64 (sameSequence 64) (layoutOf «src_layout» .info) (layoutOf «dst_layout») (layoutOf «dst_layout» .info))
         ⌝ }
 {
-    if src_layout.align < dst_layout.align {
-        return ComputeAnswer::Refused(refusal::SOURCE_ALIGN_LOWER);
-    }
-    let size_info = src_layout.size_info;
-    match size_info {
-        SizeInfo::Sized { size } => compute_from_sized(size, dst_layout),
-        SizeInfo::SliceDst(src) => compute_from_unsized(src_layout, src, dst_layout),
+    match compute(src_layout, dst_layout) {
+        Computed::Accepted(params) => ComputeAnswer::Params(params),
+        Computed::None(reason) => ComputeAnswer::Refused(reason_number(reason)),
     }
 }
 
@@ -156,7 +203,7 @@ pub fn try_compute(src_layout: DstLayout, dst_layout: DstLayout) -> ComputeAnswe
 {
     match src_layout.check() {
         Check::Accepted => match dst_layout.check() {
-            Check::Accepted => compute(src_layout, dst_layout),
+            Check::Accepted => compute_answer(src_layout, dst_layout),
             Check::Refused(number) => ComputeAnswer::Refused(number),
         },
         Check::Refused(number) => ComputeAnswer::Refused(number),

@@ -68,8 +68,8 @@ returns-4 c =
 enum-known-shift-2 : tie.Need-enum-known-shift-2
 enum-known-shift-2 c = search needs
 
-div-t13 : tie.Need-div-t13
-div-t13 c = search needs
+div-t17 : tie.Need-div-t17
+div-t17 c = search needs
 
 enum-told-2 : tie.Need-enum-told-2
 enum-told-2 c = search needs
@@ -105,7 +105,7 @@ compute-unsized-spec =
     enum-told
     returns-4
     enum-known-shift-2
-    div-t13
+    div-t17
     enum-told-2
     returns-5
     returns-6)

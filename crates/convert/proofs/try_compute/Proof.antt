@@ -29,9 +29,9 @@ check-requires-2 c κs = search needs
 enum-told-2 : tie.Need-enum-told-2
 enum-told-2 c = search needs
 
-compute-requires : tie.Need-compute-requires
+compute-answer-requires : tie.Need-compute-answer-requires
 unfolding checkFor
-compute-requires c κs =
+compute-answer-requires c κs =
     let k = c .before .before .before .before .before .before in
     let s = layoutOf (k .args .src-layout) in
     let t = layoutOf (k .args .dst-layout) in (
@@ -55,7 +55,7 @@ returns c =
     let q = paramsOf 64 (sameSequence 64) (s .info) t (t .info) in
     let m = compute-meets 64 (sameSequence 64) s t (omega arith) (omega arith) (lit< tt) in
     told-also m
-    (c .compute .ensures
+    (c .compute-answer .ensures
     ∙ sym (accepted-first (layoutCauses 64 s) (layoutCauses 64 t ++ ds) tt q (told-by checkSays (c .before .before .before .before .before .before .check .ensures .0) (c .before .before .before .before .enum-told .given .1)) ∙ accepted-first (layoutCauses 64 t) ds tt q (told-by checkSays (c .before .before .before .check2 .ensures .0) (c .before .enum-told2 .given .1))))
     (λ q e. (held-accepted (c .before .before .before .before .before .before .check .result) (c .before .before .before .before .before .before .check .ensures .1) (c .before .before .before .before .enum-told .given .1), held-accepted (c .before .before .before .check2 .result) (c .before .before .before .check2 .ensures .1) (c .before .enum-told2 .given .1)))
 
@@ -91,7 +91,7 @@ try-compute-spec =
     enum-told
     check-requires-2
     enum-told-2
-    compute-requires
+    compute-answer-requires
     enum-known-number
     enum-known-number-2
     returns
