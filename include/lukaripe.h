@@ -8,9 +8,11 @@
  * Words used below:
  *   alignment   a power of two
  *   layout      the six words of a record: alignment, kind, size or base, offset, element size, rounding word
- *   kind        whether a layout is fixed (it has one size) or trailing (it ends in a run of elements), and whether it has
- *               the mark: LUKARIPE_KIND_..
+ *   kind        whether a layout is fixed (it has one size) or trailing (it ends in a run of elements), whether it has the
+ *               mark, and whether it has an alignment modifier: LUKARIPE_KIND_..
  *   mark        no padding is known between the members, nor after the last
+ *   modifier    the alignment modifier: an `align` was asked for, as by repr(align(N)) and whatever N is, of the type or of
+ *               one inside it, at any depth. An array or a run has the modifier of its element
  *   word        the rounding word: an alignment A plus a phase p below it. Every number but 0 is one such pair
  *   size        of a trailing layout with n elements: size_base + (p + n * elem_size rounded up to a multiple of A). The
  *               offset, where the elements begin, does not enter it. There is no size where this is above 2^64 - 1
@@ -32,9 +34,9 @@
 #include <stdint.h>
 
 #define LUKARIPE_VERSION_MAJOR 0
-#define LUKARIPE_VERSION_MINOR 2
+#define LUKARIPE_VERSION_MINOR 3
 #define LUKARIPE_VERSION_PATCH 0
-#define LUKARIPE_VERSION "0.2.0"
+#define LUKARIPE_VERSION "0.3.0"
 
 /* An answer that is not looked at is a mistake: a refusal would go unseen. */
 #if defined(__GNUC__) || defined(__clang__)
@@ -80,7 +82,9 @@ enum {
     LUKARIPE_REFUSED_SOURCE_ELEM_SMALLER = 30,
     LUKARIPE_REFUSED_ELEM_NO_MULTIPLE = 31,
     LUKARIPE_REFUSED_NO_SHIFT = 32,
-    LUKARIPE_REFUSED_NO_SIZE_AT_ZERO = 39
+    LUKARIPE_REFUSED_NO_SIZE_AT_ZERO = 39,
+    LUKARIPE_REFUSED_ALIGN_AND_PACKED = 49,
+    LUKARIPE_REFUSED_ALIGN_MODIFIER_IN_PACKED = 50
 };
 
 /* The cause of a refusal in words. "accepted" for 0, and "unknown refusal" for a number that this version does not have. */
@@ -127,7 +131,7 @@ static inline const char *lukaripe_refusal_text(uint64_t refusal) {
     case LUKARIPE_REFUSED_RECORD_LENGTH:
         return "a record is not 48 bytes long, or a list no multiple of that";
     case LUKARIPE_REFUSED_KIND:
-        return "the kind of a record is above 3";
+        return "the kind of a record is above 7";
     case LUKARIPE_REFUSED_FIXED_RECORD:
         return "a record of a fixed size has a later word that is not 0";
     case LUKARIPE_REFUSED_SCALAR_CODE:
@@ -150,6 +154,10 @@ static inline const char *lukaripe_refusal_text(uint64_t refusal) {
         return "no shift lines the sizes of source and target up";
     case LUKARIPE_REFUSED_NO_SIZE_AT_ZERO:
         return "the size without elements overflows";
+    case LUKARIPE_REFUSED_ALIGN_AND_PACKED:
+        return "an alignment and a packing are both asked for";
+    case LUKARIPE_REFUSED_ALIGN_MODIFIER_IN_PACKED:
+        return "a member of a packed struct has an alignment modifier";
     default:
         return "unknown refusal";
     }
@@ -233,11 +241,13 @@ LUKARIPE_USE_RESULT lukaripe_number lukaripe_has_same_size_sequence(lukaripe_tra
 
 /* ---- layouts ---- */
 
+/* A kind is one of the first four; with an alignment modifier, that and LUKARIPE_KIND_ALIGN_MODIFIER: 4 to 7. */
 enum {
     LUKARIPE_KIND_FIXED = 0,
     LUKARIPE_KIND_FIXED_MARKED = 1,
     LUKARIPE_KIND_TRAILING = 2,
-    LUKARIPE_KIND_TRAILING_MARKED = 3
+    LUKARIPE_KIND_TRAILING_MARKED = 3,
+    LUKARIPE_KIND_ALIGN_MODIFIER = 4
 };
 
 /* A layout: the six words of its record. The last three are 0 when it is fixed; size_base is then its size. */
@@ -255,10 +265,12 @@ typedef struct {
     lukaripe_layout layout;
 } lukaripe_layout_answer;
 
-/* The empty layout: size 0, the alignment that is asked for, or 1 for 0, and the mark. Refusals: 1. */
+/* The empty layout: size 0, the alignment that is asked for, or 1 for 0, and the mark. It has the modifier where repr_align
+ * is not 0. Refusals: 1. */
 LUKARIPE_USE_RESULT lukaripe_layout_answer lukaripe_new_zst(uint64_t repr_align);
 
-/* A type of this size and alignment, without the mark. Refusals: 1, 4. */
+/* A type of this size and alignment, without the mark. Here and below: two numbers say nothing of a modifier, so there is
+ * none; where the type or the element has one, add LUKARIPE_KIND_ALIGN_MODIFIER to the kind. Refusals: 1, 4. */
 LUKARIPE_USE_RESULT lukaripe_layout_answer lukaripe_for_type(uint64_t size, uint64_t align);
 
 /* A type of this size and alignment that has no padding: with the mark. Refusals: 1, 4. */
@@ -268,8 +280,8 @@ LUKARIPE_USE_RESULT lukaripe_layout_answer lukaripe_for_unpadded_type(uint64_t s
 LUKARIPE_USE_RESULT lukaripe_layout_answer lukaripe_for_slice(uint64_t size, uint64_t align);
 
 /* The layout with one member more, at the next place that is a multiple of the member's alignment, or of the packing where
- * that is lower. repr_packed 0: no packing is asked for. Refusals: layout refusals, of the layout and then of the field;
- * 5, 6, 7, 8, 9. */
+ * that is lower. It has the modifier where one of the two has. repr_packed 0: no packing is asked for. Refusals: layout
+ * refusals, of the layout and then of the field; 5, 6, 7, 8, 9. */
 LUKARIPE_USE_RESULT lukaripe_layout_answer lukaripe_extend(lukaripe_layout layout, lukaripe_layout field,
                                                            uint64_t repr_packed);
 
@@ -311,7 +323,7 @@ LUKARIPE_USE_RESULT uint64_t lukaripe_encode(lukaripe_layout layout, uint8_t *ou
 LUKARIPE_USE_RESULT lukaripe_layout_answer lukaripe_scalar(uint64_t code);
 
 /* A composed layout. place, of a refusal: the index of the member at fault; the member count where closing padding is at
- * fault; 0 for the length of the list and for repr_align. */
+ * fault; 0 for the length of the list, for repr_align, and for repr_align and repr_packed together. */
 typedef struct {
     uint64_t refusal;
     uint64_t place;
@@ -326,6 +338,13 @@ LUKARIPE_USE_RESULT lukaripe_composed lukaripe_compose(uint64_t repr_align, uint
 /* The layout of a repr(C) struct with these members: lukaripe_compose, and closing padding. Refusals: the same, then 8. */
 LUKARIPE_USE_RESULT lukaripe_composed lukaripe_for_repr_c_struct(uint64_t repr_align, uint64_t repr_packed,
                                                                  const uint8_t *members, size_t len);
+
+/* The same of what the Rust Reference allows: no type has both an alignment and a packing, and no packed one holds a type
+ * with an alignment modifier, at any depth. Refusals: 20 where len is no multiple of 48; 1 of repr_align; 49 where
+ * repr_align and repr_packed are both not 0; of each member in turn: layout refusals, 50 where repr_packed is not 0 and the
+ * member has the modifier, 5, 6, 7, 8, 9; then 8. What is not refused by 49 or 50 is answered or refused as above. */
+LUKARIPE_USE_RESULT lukaripe_composed lukaripe_for_repr_c_struct_strict(uint64_t repr_align, uint64_t repr_packed,
+                                                                        const uint8_t *members, size_t len);
 
 /* ---- casts ---- */
 

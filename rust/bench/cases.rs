@@ -103,7 +103,7 @@ pub fn cases(set: Set) -> Vec<Case> {
 
 /// Cases with lists of as many members; fewer of long ones, but one for each refusal.
 pub fn lists(set: Set, members: usize) -> Vec<Case> {
-    let least = if set == Set::Refused { 12 } else { 1 };
+    let least = if set == Set::Refused { 14 } else { 1 };
     drawn(set, CASES.div_ceil(4 * members).max(least), members)
 }
 

@@ -18,7 +18,7 @@ pub fn spoilt(cases: Vec<Case>, spoils: &[Spoil]) -> Vec<Case> {
 macro_rules! layouts {
     ($($layout:ident),*; $($more:expr),*) => {
         &[
-            $((21, |c| c.$layout.0[1] = 4 + c.code),
+            $((21, |c| c.$layout.0[1] = 8 + c.code),
             (1, |c| c.$layout.0[0] = 0),
             (1, |c| c.$layout.0[0] *= 3),
             (22, |c| {
@@ -165,7 +165,7 @@ fn size_before(case: &Case, from_end: usize) -> u64 {
     crate::layout_numbers(whole).unwrap()[2]
 }
 
-const LAST_21: Spoil = (21, |c| put(c, 0, [1, 4, 0, 0, 0, 0]));
+const LAST_21: Spoil = (21, |c| put(c, 0, [1, 8, 0, 0, 0, 0]));
 const LAST_1: Spoil = (1, |c| put(c, 0, [3, 1, 3, 0, 0, 0]));
 const LAST_22: Spoil = (22, |c| put(c, 0, [1, 1, 1, 0, 1, 0]));
 const LAST_2: Spoil = (2, |c| put(c, 0, [1, 3, 1, 0, 1, 0]));
@@ -191,4 +191,29 @@ pub const COMPOSE: &[Spoil] =
     &[UNEVEN, OWN_ALIGN, PACKING, LAST_21, LAST_1, LAST_22, LAST_2, LAST_6, LAST_7, LAST_8, LAST_9];
 pub const STRUCT: &[Spoil] =
     &[UNEVEN, OWN_ALIGN, PACKING, LAST_21, LAST_1, LAST_22, LAST_2, LAST_6, LAST_7, LAST_8, LAST_9, FINAL_8];
+const BOTH: Spoil = (49, |c| (c.own_align, c.packing) = (c.align, c.align));
+const LAST_50: Spoil = (50, |c| {
+    c.packing = c.align;
+    put(c, 0, [4, 5, 4, 0, 0, 0]);
+});
+const ALIGNED_FINAL_8: Spoil = (8, |c| {
+    (c.packing, c.packing_n) = (0, None);
+    (FINAL_8.1)(c);
+});
+pub const STRICT: &[Spoil] = &[
+    UNEVEN,
+    OWN_ALIGN,
+    BOTH,
+    PACKING,
+    LAST_21,
+    LAST_1,
+    LAST_22,
+    LAST_2,
+    LAST_50,
+    LAST_6,
+    LAST_7,
+    LAST_8,
+    LAST_9,
+    ALIGNED_FINAL_8,
+];
 pub const STRUCT_OF_ONE: &[Spoil] = &[UNEVEN, OWN_ALIGN, PACKING, LAST_21, LAST_1, LAST_22, LAST_2, LAST_6, FINAL_8];

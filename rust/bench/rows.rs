@@ -176,6 +176,12 @@ pub fn rows() -> Vec<Row> {
             [lukaripe_for_repr_c_struct, tested::for_repr_c_struct],
             unsafe { f(c.own_align, c.packing, c.list.as_ptr(), c.list.len()) };
             plain::for_repr_c_struct as fn(_, _, &[_]) -> _, f(None, c.packing_n, &c.list_n)),
+        row!("for_repr_c_struct_strict, 10 members", |set| lists(set, 10), STRICT, f, c =>
+            [lukaripe_for_repr_c_struct_strict, tested::for_repr_c_struct_strict],
+            unsafe { f(c.own_align, c.packing, c.list.as_ptr(), c.list.len()) };),
+        row!("for_repr_c_struct_strict, 1365 members", |set| lists(set, 1365), STRICT, f, c =>
+            [lukaripe_for_repr_c_struct_strict, tested::for_repr_c_struct_strict],
+            unsafe { f(c.own_align, c.packing, c.list.as_ptr(), c.list.len()) };),
         row!("validate_cast_and_convert_metadata", cases, CAST, f, c =>
             [lukaripe_validate_cast_and_convert_metadata, tested::validate_cast_and_convert_metadata],
             f(c.whole, c.addr, c.len, c.suffix);

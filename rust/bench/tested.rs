@@ -42,13 +42,28 @@ fn tail(Words([size_base, offset, elem_size, word]): Trailing) -> Result<Trailin
     })
 }
 
+/// 4 of a kind, which the Rust's types do not carry.
+#[inline]
+fn modifier(Words([_, kind, ..]): Layout) -> u64 {
+    kind & 4
+}
+
+#[inline]
+fn asked_modifier(repr_align: u64) -> u64 {
+    if repr_align == 0 {
+        0
+    } else {
+        4
+    }
+}
+
 #[inline]
 fn layout(Words([align, kind, size_base, offset, elem_size, word]): Layout) -> Result<DstLayout, u64> {
-    if kind > 3 {
+    if kind > 7 {
         return Err(21);
     }
     let align = alignment(align)?;
-    let size_info = if kind < 2 {
+    let size_info = if kind & 2 == 0 {
         if (offset | elem_size | word) != 0 {
             return Err(22);
         }
@@ -89,21 +104,29 @@ fn words(record: &[u8; 48]) -> Layout {
     ])
 }
 
-/// The members one after the other, or the refusal and its place.
+/// The members one after the other and the alignment modifier, or the refusal and its place.
 #[inline]
-fn composed(repr_align: u64, repr_packed: u64, members: &[u8]) -> Result<DstLayout, (u64, u64)> {
+fn composed(strict: bool, repr_align: u64, repr_packed: u64, members: &[u8]) -> Result<(DstLayout, u64), (u64, u64)> {
     if members.len() % 48 != 0 {
         return Err((20, 0));
     }
     let align = asked_alignment(repr_align).map_err(|number| (number, 0))?;
     let packing = asked(repr_packed);
-    let mut whole = DstLayout::new_zst(align);
+    if strict && align.is_some() && packing.is_some() {
+        return Err((49, 0));
+    }
+    let (mut whole, mut of_all) = (DstLayout::new_zst(align), asked_modifier(repr_align));
     for (place, record) in members.chunks_exact(48).enumerate() {
         let refused = |number| (number, place as u64);
-        let member = layout(words(record.try_into().unwrap())).map_err(refused)?;
+        let words = words(record.try_into().unwrap());
+        let member = layout(words).map_err(refused)?;
+        if strict && packing.is_some() && modifier(words) != 0 {
+            return Err(refused(50));
+        }
         whole = whole.try_extend(member, packing).map_err(refused)?;
+        of_all |= modifier(words);
     }
-    Ok(whole)
+    Ok((whole, of_all))
 }
 
 // ---- the answers of the C interface ----
@@ -117,10 +140,10 @@ fn told<const N: usize>(says: Says<N>) -> Told<N> {
 }
 
 #[inline]
-fn told_at(says: Result<DstLayout, (u64, u64)>) -> Told<7> {
+fn told_at(says: Result<(DstLayout, u64), (u64, u64)>) -> Told<7> {
     match says {
-        Ok(layout) => {
-            let [align, kind, size_base, offset, elem_size, word] = layout_words(layout);
+        Ok((layout, modifier)) => {
+            let [align, kind, size_base, offset, elem_size, word] = with_modifier(layout, modifier);
             Told { refusal: 0, values: [0, align, kind, size_base, offset, elem_size, word] }
         }
         Err((refusal, place)) => Told { refusal, values: [place, 0, 0, 0, 0, 0, 0] },
@@ -137,6 +160,12 @@ fn layout_words(layout: DstLayout) -> [u64; 6] {
             [align, 2 + mark, size_base, offset, elem_size, word]
         }
     }
+}
+
+#[inline]
+fn with_modifier(layout: DstLayout, modifier: u64) -> [u64; 6] {
+    let [align, kind, size_base, offset, elem_size, word] = layout_words(layout);
+    [align, kind + modifier, size_base, offset, elem_size, word]
 }
 
 macro_rules! functions {
@@ -195,7 +224,9 @@ functions! {
         yes_or_no(tail(layout)?.has_same_size_sequence(tail(other)?))
     }
 
-    new_zst(repr_align: u64) -> 6 { Ok(layout_words(DstLayout::new_zst(asked_alignment(repr_align)?))) }
+    new_zst(repr_align: u64) -> 6 {
+        Ok(with_modifier(DstLayout::new_zst(asked_alignment(repr_align)?), asked_modifier(repr_align)))
+    }
     for_type(size: u64, align: u64) -> 6 {
         check_type(size, align)?;
         Ok(layout_words(DstLayout::for_type(size as usize, align as usize)))
@@ -209,10 +240,11 @@ functions! {
         Ok(layout_words(DstLayout::for_slice(size as usize, align as usize)))
     }
     extend(own: Layout, field: Layout, repr_packed: u64) -> 6 {
+        let of_both = modifier(own) | modifier(field);
         let (own, field) = (layout(own)?, layout(field)?);
-        Ok(layout_words(own.try_extend(field, asked(repr_packed))?))
+        Ok(with_modifier(own.try_extend(field, asked(repr_packed))?, of_both))
     }
-    pad_to_align(own: Layout) -> 6 { Ok(layout_words(layout(own)?.try_pad_to_align()?)) }
+    pad_to_align(own: Layout) -> 6 { Ok(with_modifier(layout(own)?.try_pad_to_align()?, modifier(own))) }
     requires_static_padding(own: Layout) -> 1 { yes_or_no(layout(own)?.requires_static_padding()) }
     requires_dynamic_padding(own: Layout) -> 1 { yes_or_no(layout(own)?.requires_dynamic_padding()) }
 
@@ -324,7 +356,16 @@ pub unsafe extern "C" fn encode(own: Layout, out: *mut u8, len: usize) -> u64 {
 }
 
 pub unsafe extern "C" fn compose(repr_align: u64, repr_packed: u64, members: *const u8, len: usize) -> Told<7> {
-    told_at(composed(repr_align, repr_packed, unsafe { slice::from_raw_parts(members, len) }))
+    told_at(composed(false, repr_align, repr_packed, unsafe { slice::from_raw_parts(members, len) }))
+}
+
+#[inline]
+fn of_struct(strict: bool, repr_align: u64, repr_packed: u64, members: &[u8]) -> Told<7> {
+    let whole = composed(strict, repr_align, repr_packed, members);
+    told_at(whole.and_then(|(whole, modifier)| match whole.try_pad_to_align() {
+        Ok(padded) => Ok((padded, modifier)),
+        Err(number) => Err((number, members.len() as u64 / 48)),
+    }))
 }
 
 pub unsafe extern "C" fn for_repr_c_struct(
@@ -333,6 +374,14 @@ pub unsafe extern "C" fn for_repr_c_struct(
     members: *const u8,
     len: usize,
 ) -> Told<7> {
-    let whole = composed(repr_align, repr_packed, unsafe { slice::from_raw_parts(members, len) });
-    told_at(whole.and_then(|whole| whole.try_pad_to_align().map_err(|number| (number, len as u64 / 48))))
+    of_struct(false, repr_align, repr_packed, unsafe { slice::from_raw_parts(members, len) })
+}
+
+pub unsafe extern "C" fn for_repr_c_struct_strict(
+    repr_align: u64,
+    repr_packed: u64,
+    members: *const u8,
+    len: usize,
+) -> Told<7> {
+    of_struct(true, repr_align, repr_packed, unsafe { slice::from_raw_parts(members, len) })
 }

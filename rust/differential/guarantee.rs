@@ -33,12 +33,12 @@ pub fn broken(inputs: &[u64], answer: &Answer) -> Option<&'static str> {
 
 /// A fixed layout has one count.
 fn is_count([_, kind, ..]: Layout, count: u64) -> bool {
-    kind > 1 || count == 0
+    kind & 2 != 0 || count == 0
 }
 
 /// The base and the elements rounded up, over unlimited numbers. A fixed source ignores the count.
 fn size([_, kind, size_base, _, elem_size, word]: Layout, count: u64) -> u128 {
-    if kind < 2 {
+    if kind & 2 == 0 {
         return size_base.into();
     }
     let align = 1 << word.ilog2();

@@ -4,7 +4,11 @@
 
 use crate::kinds::{any, power_of_two, rounding_word, BOUNDARIES};
 use crate::random::Random;
+use crate::table::is_fixed;
 use oracle::{Layout, Trailing};
+
+pub const FIXED_KINDS: [u64; 4] = [0, 1, 4, 5];
+pub const TRAILING_KINDS: [u64; 4] = [2, 3, 6, 7];
 
 // ---- arithmetic to aim by: it wraps, since a number that misses is as good as another ----
 
@@ -26,7 +30,7 @@ pub fn rounded_phase(word: u64) -> u64 {
 
 /// The size at a count.
 pub fn size_at([_, kind, size_base, _, elem_size, word]: Layout, count: u64) -> u64 {
-    if kind < 2 {
+    if is_fixed(kind) {
         return size_base;
     }
     let (align, phase) = parts(word);
@@ -64,8 +68,8 @@ fn small_aligns(level: u64) -> Vec<u64> {
 fn small_fixed(level: u64) -> Vec<Layout> {
     let mut layouts = Vec::new();
     for align in small_aligns(level) {
-        for mark in 0..2 {
-            layouts.extend((0..2 * level).map(|size| [align, mark, size, 0, 0, 0]));
+        for kind in FIXED_KINDS {
+            layouts.extend((0..2 * level).map(|size| [align, kind, size, 0, 0, 0]));
         }
     }
     layouts
@@ -74,7 +78,7 @@ fn small_fixed(level: u64) -> Vec<Layout> {
 fn small_trailing(level: u64) -> Vec<Layout> {
     let mut layouts = Vec::new();
     for align in small_aligns(level) {
-        for (kind, offset) in [(2, 0), (2, 3), (3, 0), (3, 3)] {
+        for (kind, offset) in [(2, 0), (2, 3), (3, 0), (3, 3), (6, 3), (7, 0)] {
             for (base, elem_size) in (0..level * level).map(|both| (both / level, both % level)) {
                 layouts.extend((1..2 * level).map(|word| [align, kind, base, offset, elem_size, word]));
             }
@@ -99,27 +103,27 @@ pub fn small_preceding(level: u64) -> Vec<Layout> {
 // ---- at the boundaries ----
 
 /// Any numbers of the boundaries, but mostly with an alignment and a kind, and later words only where they may stand.
-fn with_kinds(random: &mut Random, kinds: u64) -> Layout {
+fn with_kinds(random: &mut Random, kinds: &[u64]) -> Layout {
     let mut layout = [(); 6].map(|()| random.one_of(&BOUNDARIES));
     if !random.one_in(16) {
         layout[0] = random.one_of(&[1, 2, 1 << 29, 1 << 30, 1 << 32, 1 << 63]);
     }
     if !random.one_in(16) {
-        layout[1] = random.below(kinds);
+        layout[1] = random.one_of(kinds);
     }
-    if layout[1] < 2 && !random.one_in(16) {
+    if is_fixed(layout[1]) && !random.one_in(16) {
         layout[3..].fill(0);
     }
     layout
 }
 
 pub fn at_boundaries(random: &mut Random) -> Layout {
-    with_kinds(random, 4)
+    with_kinds(random, &[0, 1, 2, 3, 4, 5, 6, 7])
 }
 
 pub fn preceding_at_boundaries(random: &mut Random) -> Layout {
-    let kinds = if random.one_in(8) { 4 } else { 2 };
-    with_kinds(random, kinds)
+    let kinds = if random.one_in(8) { TRAILING_KINDS } else { FIXED_KINDS };
+    with_kinds(random, &kinds)
 }
 
 // ---- random ones ----
@@ -171,7 +175,10 @@ fn composed(random: &mut Random, ends_in_slice: bool) -> Layout {
 /// In one case of four any number for a word, or any numbers.
 fn spoiled(random: &mut Random, mut layout: Layout) -> Layout {
     match random.below(16) {
-        0 => [power_of_two(random), 2 + random.below(2), any(random), any(random), any(random), rounding_word(random)],
+        0 => {
+            let kind = random.one_of(&TRAILING_KINDS);
+            [power_of_two(random), kind, any(random), any(random), any(random), rounding_word(random)]
+        }
         1 => [(); 6].map(|()| any(random)),
         2 | 3 => {
             layout[random.below(6) as usize] = any(random);
@@ -181,12 +188,22 @@ fn spoiled(random: &mut Random, mut layout: Layout) -> Layout {
     }
 }
 
+/// In one case of three with the alignment modifier, which no layout of the Rust has.
+fn modified(random: &mut Random, mut layout: Layout) -> Layout {
+    if random.one_in(3) {
+        layout[1] += 4;
+    }
+    layout
+}
+
 pub fn draw(random: &mut Random) -> Layout {
     let layout = if random.one_in(3) { fixed(random) } else { trailing(random) };
+    let layout = modified(random, layout);
     spoiled(random, layout)
 }
 
 pub fn draw_preceding(random: &mut Random) -> Layout {
     let layout = if random.one_in(16) { trailing(random) } else { fixed(random) };
+    let layout = modified(random, layout);
     spoiled(random, layout)
 }

@@ -25,13 +25,14 @@ pub fn small_records(level: u64) -> Vec<Vec<u64>> {
     records
 }
 
-const MEMBERS: [Layout; 6] = [
+const MEMBERS: [Layout; 7] = [
     [1, 1, 1, 0, 0, 0],
     [2, 1, 2, 0, 0, 0],
     [4, 0, 8, 0, 0, 0],
+    [4, 5, 4, 0, 0, 0],
     [8, 1, 3, 0, 0, 0],
     [1, 3, 0, 0, 1, 1],
-    [4, 3, 8, 9, 2, 5],
+    [4, 7, 8, 9, 2, 5],
 ];
 
 /// Every list of a few of these members.
@@ -79,6 +80,7 @@ pub fn draw(random: &mut Random) -> Vec<u64> {
     if random.one_in(2) {
         fill(random, &mut members);
     }
+    modify(random, &mut members);
     for _ in 0..random.below(3) {
         spoil(random, &mut members);
     }
@@ -103,17 +105,26 @@ fn fill(random: &mut Random, members: &mut [Layout]) {
     members[at][2] = u64::MAX - place - random.below(16);
 }
 
+/// In half of the cases no member has the alignment modifier, else one at some place, or any of them.
+fn modify(random: &mut Random, members: &mut [Layout]) {
+    match random.below(4) {
+        0 => members.iter_mut().for_each(|member| member[1] += 4 * random.below(2)),
+        1 => members[random.below(members.len() as u64) as usize][1] += 4,
+        _ => {}
+    }
+}
+
 /// Something wrong with one of the members.
 fn spoil(random: &mut Random, members: &mut [Layout]) {
     let at = random.below(members.len() as u64) as usize;
     let [align, kind, size_base, offset, elem_size, word] = members[at];
     members[at] = match random.below(7) {
-        0 => [align, 4 + random.below(2), size_base, offset, elem_size, word],
+        0 => [align, 8 + random.below(8), size_base, offset, elem_size, word],
         1 => [random.one_of(&[0, 3, 6]), kind, size_base, offset, elem_size, word],
         // A fixed one with a later word.
-        2 => [align, kind % 2, size_base, 0, random.below(2), 1],
+        2 => [align, kind & !2, size_base, 0, random.below(2), 1],
         // A trailing one without its word.
-        3 => [align, 2 + kind % 2, size_base, offset, elem_size, 0],
+        3 => [align, kind | 2, size_base, offset, elem_size, 0],
         4 => [1 << (29 + random.below(35)), kind, size_base, offset, elem_size, word],
         // A trailing one before others.
         5 => layouts::trailing(random),

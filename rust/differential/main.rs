@@ -88,15 +88,23 @@ fn rust(row: &Row, inputs: &[u64]) -> Result<Answer, String> {
 fn compare(row: &Row, slots: &[Slot], inputs: &[u64]) -> Result<(usize, Answer), String> {
     let ours = (row.ours)(inputs);
     let apart = (row.apart)(inputs);
-    let expected = match apart {
-        Some(answer) => Ok(answer),
-        None => rust(row, inputs),
+    // The Rust has no alignment modifier, so the comparison with it leaves that out; it is looked at beside, below.
+    let (compared, modifier) = row.without_modifier(ours);
+    let (expected, given) = match apart {
+        Some(answer) => (Ok(answer), ours),
+        None => (rust(row, inputs), compared),
     };
-    if expected != Ok(ours) {
+    if expected != Ok(given) {
         let show = |answer: Answer| format!("refusal, then values {:?}", answer.numbers(row.values));
         let other = if apart.is_some() { "table:" } else { "Rust: " };
         let broken = ours.broken.map_or(String::new(), |what| format!(", and {what}"));
         return Err(format!("ours:  {}{broken}\n{other} {}", show(ours), expected.map_or_else(|panic| panic, show)));
+    }
+    if let (None, 0, Some(rule)) = (apart, ours.refusal, row.modifier) {
+        if modifier != rule(inputs) {
+            let [ours, rule] = [modifier, !modifier].map(|has| if has { "has it" } else { "has it not" });
+            return Err(format!("the alignment modifier: our answer {ours}, by document 02 it {rule}"));
+        }
     }
     let label = if apart.is_some() { "" } else { (row.label)(inputs, &ours) };
     match slots.iter().position(|slot| slot.holds(&ours, apart.is_some(), label)) {
@@ -202,7 +210,7 @@ fn report(tried: &[Tried], seed: u64, progress: &Progress) {
         compared += totals.0;
         apart += totals.1;
     }
-    println!("{compared} inputs compared with the Rust, and apart {apart} checked against document 01's table");
+    println!("{compared} inputs compared with the Rust, and apart {apart} checked against the documents' table");
     println!("seed {seed}, {:.1} million inputs a second", progress.rate());
 }
 

@@ -1,5 +1,6 @@
-//! Recorded answers, the Rust's, and document 01's table where the Rust has none: a choice of the inputs tried, spread
-//! evenly over what can come of each function. Beside them lines that are wrong on purpose, which a reader must report.
+//! Recorded answers, the Rust's, and the documents' table where the Rust has none: a choice of the inputs tried, spread
+//! evenly over what can come of each function. Their kinds have the alignment modifier, which the Rust has not. Beside
+//! them lines that are wrong on purpose, which a reader must report.
 //!
 //! A line is decimal numbers with single spaces between: the function's number (its row has it), the inputs in the
 //! order of the C parameters, the refusal number (0: none), and the numbers of the answer, which are 0 on a refusal.

@@ -12,6 +12,7 @@ use crate::answer::Answer;
 use crate::inputs::{Aim, Input};
 use crate::kinds::{number, word};
 use crate::random::Random;
+use crate::table::{has_modifier, is_fixed};
 use std::fmt;
 
 pub const LAYERS: &[&[Row]] =
@@ -28,6 +29,9 @@ pub struct Row {
     pub values: usize,
     /// What can come of a call.
     pub cells: &'static [Cell],
+    /// Whether an answer that is a layout has the alignment modifier, by document 02 alone: the Rust has none. None:
+    /// the answer is no layout, or the Rust is never asked.
+    pub modifier: Option<fn(&[u64]) -> bool>,
     /// Which answer it is, or which reason for a refusal, where cells tell several apart. The Rust was asked.
     pub label: fn(&[u64], &Answer) -> &'static str,
     /// Its cases in document 01, "Pages from the proof table", and others that are easily misread.
@@ -35,7 +39,7 @@ pub struct Row {
     pub aim: Aim,
     /// The export.
     pub ours: fn(&[u64]) -> Answer,
-    /// What document 01 says of inputs that the Rust is not handed; None: the Rust is.
+    /// What the documents say of inputs that the Rust is not handed; None: the Rust is.
     pub apart: fn(&[u64]) -> Option<Answer>,
     pub rust: fn(&[u64]) -> Answer,
 }
@@ -45,7 +49,7 @@ pub struct Row {
 pub struct Cell {
     /// The refusal number, 0 for an answer.
     refusal: u64,
-    /// Whether it is checked against document 01 alone, since the Rust has no answer.
+    /// Whether it is checked against the documents alone, since the Rust has no answer.
     pub apart: bool,
     label: &'static str,
     /// The least and the greatest place of a list's refusal.
@@ -138,6 +142,18 @@ impl Row {
         }
         slots
     }
+
+    /// The answer as the Rust can give it, without the alignment modifier, and whether it had that. The six words of a
+    /// layout come last; beside a refusal they are all 0.
+    pub fn without_modifier(&self, mut answer: Answer) -> (Answer, bool) {
+        if self.modifier.is_none() || answer.refusal != 0 {
+            return (answer, false);
+        }
+        let kind = &mut answer.values[self.values - 5];
+        let had = has_modifier(*kind);
+        *kind &= !4;
+        (answer, had)
+    }
 }
 
 // ---- what rows of several layers share ----
@@ -156,6 +172,20 @@ fn layout_of(inputs: &[u64]) -> [u64; 6] {
 
 fn no_label(_: &[u64], _: &Answer) -> &'static str {
     ""
+}
+
+/// What an answer of this kind is.
+fn layout_kind(kind: u64) -> &'static str {
+    match (is_fixed(kind), has_modifier(kind)) {
+        (true, false) => "fixed",
+        (true, true) => "fixed, modifier",
+        (false, false) => "trailing",
+        (false, true) => "trailing, modifier",
+    }
+}
+
+fn no_modifier(_: &[u64]) -> bool {
+    false
 }
 
 fn yes_or_no(_: &[u64], answer: &Answer) -> &'static str {

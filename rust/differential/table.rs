@@ -1,4 +1,5 @@
-//! Document 01's table of refusals, for the inputs that the Rust is not handed. It shares nothing with either side.
+//! The table of refusals, of document 01 and as document 02 changed it, for the inputs that the Rust is not handed. It
+//! shares nothing with either side.
 
 use crate::answer::Answer;
 
@@ -15,11 +16,20 @@ pub fn bad_align(align: u64) -> bool {
     align.count_ones() != 1
 }
 
+/// Of a kind 1 is the mark, 2 a run of elements at the end, and 4 the alignment modifier.
+pub fn is_fixed(kind: u64) -> bool {
+    kind & 2 == 0
+}
+
+pub fn has_modifier(kind: u64) -> bool {
+    kind & 4 != 0
+}
+
 /// The causes of a layout, which is tested as its record is.
 pub fn layout([align, kind, _, offset, elem_size, word]: [u64; 6]) -> [Cause; 4] {
-    let fixed = kind < 2;
+    let fixed = is_fixed(kind);
     [
-        (21, kind > 3),
+        (21, kind > 7),
         (1, bad_align(align)),
         (22, fixed && (offset, elem_size, word) != (0, 0, 0)),
         (2, !fixed && word == 0),

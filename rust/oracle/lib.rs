@@ -103,9 +103,10 @@ fn trailing_numbers(layout: TrailingSliceLayout) -> Trailing {
     ]
 }
 
+/// The Rust has no alignment modifier: 4 of a kind is left out, and no answer has it.
 fn layout([align, kind, tail @ ..]: Layout) -> DstLayout {
     let size_info =
-        if kind < 2 { SizeInfo::Sized { size: tail[0] as usize } } else { SizeInfo::SliceDst(trailing(tail)) };
+        if kind & 2 == 0 { SizeInfo::Sized { size: tail[0] as usize } } else { SizeInfo::SliceDst(trailing(tail)) };
     DstLayout { align: nonzero(align), size_info, statically_shallow_unpadded: kind % 2 == 1 }
 }
 

@@ -1,8 +1,10 @@
 //! Compares the exports with the compiler on repr(C) structs: alignments, sizes, the places of members, and where a
-//! struct ends in a slice its sizes at some counts. tools/rustc-types writes the structs, builds and runs.
+//! struct ends in a slice its sizes at some counts; and what the strict composition refuses with what the compiler
+//! refuses. tools/rustc-types writes the structs, builds and runs.
 
 #[path = "../lukaripe/src/exports.rs"]
 mod exports;
+mod strict;
 
 use exports::*;
 use std::mem::{align_of, align_of_val, offset_of, size_of, size_of_val};
@@ -70,10 +72,20 @@ fn check_places(align: u64, packing: u64, members: &[[u64; 6]], places: &[usize]
     for (at, place) in places.iter().enumerate() {
         let [_, kind, size, offset, ..] = composed(lukaripe_compose, align, packing, &members[..=at]);
         let [_, _, own_size, own_offset, ..] = members[at];
-        let ours = if kind < 2 { size.wrapping_sub(own_size) } else { offset.wrapping_sub(own_offset) };
+        let ours = if kind & 2 == 0 { size.wrapping_sub(own_size) } else { offset.wrapping_sub(own_offset) };
         equal(&format!("place of f{at}"), ours, *place)?;
     }
     Ok(())
+}
+
+/// None of the structs here is one that the strict composition refuses.
+fn check_strict(align: u64, packing: u64, members: &[[u64; 6]]) -> Result<(), String> {
+    let ported = composed(lukaripe_for_repr_c_struct, align, packing, members);
+    let strict = composed(lukaripe_for_repr_c_struct_strict, align, packing, members);
+    if strict == ported {
+        return Ok(());
+    }
+    Err(format!("ours {ported:?}, the strict composition's {strict:?}"))
 }
 
 /// Defines a struct, and its layout by the exports.
@@ -102,6 +114,7 @@ macro_rules! fixed {
                 equal("size", size, size_of::<$name>())?;
                 let places: &[usize] = &[$(offset_of!($name, $field)),*];
                 check_places($align, $packing, &[$(<$type>::layout()),*], places)?;
+                check_strict($align, $packing, &[$(<$type>::layout()),*])?;
                 Ok(2 + places.len())
             }
         }
@@ -126,6 +139,7 @@ macro_rules! ends_in_slice {
                 let start = (empty as *const $name).cast::<u8>() as usize;
                 let places: &[usize] = &[$((&raw const empty.$field).cast::<u8>() as usize - start),*];
                 check_places($align, $packing, &[$(<$type>::layout()),*], places)?;
+                check_strict($align, $packing, &[$(<$type>::layout()),*])?;
                 for count in COUNTS {
                     let told = lukaripe_size_for_elems(Words(tail), count as u64);
                     equal(&format!("size at {count}"), told.values[0], size_of_val($name::at(count)))?;
@@ -150,5 +164,14 @@ fn main() -> ExitCode {
         }
     }
     println!("{} structs: {compared} alignments, sizes and places are the compiler's", CHECKS.len());
-    ExitCode::SUCCESS
+    match strict::check_all() {
+        Ok(found) => {
+            println!("{found}");
+            ExitCode::SUCCESS
+        }
+        Err(what) => {
+            eprintln!("{what}");
+            ExitCode::FAILURE
+        }
+    }
 }

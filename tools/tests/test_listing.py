@@ -35,6 +35,18 @@ class Listing(WithLists):
             self.lists(self.list_of(*words), 0, f"{said}\n")
         self.lists(self.list_of("u8") * 1365, 0, "1 1 1365 0 0 0\n")
 
+    def test_alignment_modifiers(self):
+        # Of the first member or the last, in each kind.
+        byte, aligned = record(1, 1, 1, 0, 0, 0), record(4, 5, 4, 0, 0, 0)
+        for given, said in [
+            (byte + record(4, 4, 8, 0, 0, 0), "4 4 12 0 0 0"),
+            (aligned + record(4, 1, 4, 0, 0, 0), "4 5 8 0 0 0"),
+            (byte + record(4, 6, 8, 9, 1, 5), "4 6 12 13 1 5"),
+            (aligned + record(1, 3, 0, 0, 1, 1), "4 7 4 4 1 4"),
+            (byte + record(1, 7, 0, 0, 1, 1), "1 7 1 1 1 1"),
+        ]:
+            self.lists(given, 0, f"{said}\n")
+
     def refuses(self, given, number, place, where):
         """The list must be refused so, and the cause said in the header's words."""
         self.run_shell("head -c 1 /dev/zero | tools/listing")
@@ -48,10 +60,12 @@ class Listing(WithLists):
         self.refuses(self.list_of(f"bytes:{M}", "u8"), 9, 1, "member 1")
         self.refuses(self.list_of(f"type:0:{2**30}"), 6, 0, "member 0")
         one = self.list_of("u8")
-        self.refuses(one + record(1, 4, 0, 0, 0, 0), 21, 1, "member 1")
+        self.refuses(one + record(1, 8, 0, 0, 0, 0), 21, 1, "member 1")
         self.refuses(one + record(3, 0, 0, 0, 0, 0), 1, 1, "member 1")
-        self.refuses(one + record(1, 0, 0, 0, 0, 1), 22, 1, "member 1")
-        self.refuses(one + record(1, 2, 0, 0, 0, 0), 2, 1, "member 1")
+        for fixed in 0, 4:
+            self.refuses(one + record(1, fixed, 0, 0, 0, 1), 22, 1, "member 1")
+        for trailing in 2, 6:
+            self.refuses(one + record(1, trailing, 0, 0, 0, 0), 2, 1, "member 1")
 
     def test_closing_padding(self):
         # The same number and place, of a member and of closing padding.

@@ -7,7 +7,7 @@ use Rattle.util_defs.specs.Refusal.{answered, Tells, None, Meets, Decided, refu
 use Rattle.rounding.specs.Word.{IsWord}
 use Rattle.trailing_defs.specs.Size.{Trailing, A, p, sizeAt}
 use Rattle.trailing_defs.specs.Count.{GreatestBytes, bytesWithin, GreatestCount, countWithin}
-use Rattle.layout_defs.specs.Layout.{Info, Layout, sizeIn, noWord, layoutCauses}
+use Rattle.layout_defs.specs.Layout.{Marks, marks, Info, Layout, sizeIn, noWord, layoutCauses}
 use Rattle.padding_defs.specs.Pad.{Padded}
 use Rattle.cast_defs.specs.Cast.{Side, suffix, testedAddress, Greatest, countIn, IsElemZero, elemZero, tooSmall, bytesCauses, castCauses, Grant, castFor, GrantMeans, prefix, greatestGrant}
 use Rattle.cast_defs.specs.Exact.{hasExact, ExactCount, ExactIn, noExact, exactCauses, exactFor}

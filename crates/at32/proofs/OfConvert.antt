@@ -4,7 +4,7 @@ use mathlib.Core.Bool.{Bool}
 use Prim.Native.Nat.{ℕ, _^_, _≤_, _<_}
 use Rattle.util_defs.specs.Width.{M}
 use Rattle.util_defs.specs.Refusal.{answered, refused, Meets, None}
-use Rattle.layout_defs.specs.Layout.{Info, Layout, sizeIn, layoutCauses, FitsWidth}
+use Rattle.layout_defs.specs.Layout.{Marks, marks, Info, Layout, sizeIn, layoutCauses, FitsWidth}
 use Rattle.shift_defs.specs.Match.{Comparison, Sound}
 use Rattle.convert_defs.specs.Convert.{Params, Converts, NoConversion, paramsOf, computeCauses, computeFor, converted, metadataCauses, metadataFor}
 use Rattle.convert_defs.specs.Convert.{KindsConvert, Converted}
@@ -42,9 +42,9 @@ compute-meets = Conversions.compute-meets 32
 pub metadata-meets : (q : Params) (n : ℕ) → Meets (metadataCauses 32 q n) (λ m. m ≡ converted q n) (metadataFor 32 q n)
 metadata-meets = Conversions.metadata-meets 32
 
-pub count-kept : {i j : Info} {q : Params} (same : Comparison) (a b : ℕ) (k m : Bool) (n : ℕ) → 0 < 32 → Sound 32 same
-    → let s : Layout = record { align = a; info = i; mark = k } in
-    let t : Layout = record { align = b; info = j; mark = m } in
+pub count-kept : {i j : Info} {q : Params} (same : Comparison) (a b : ℕ) (k m : Marks) (n : ℕ) → 0 < 32 → Sound 32 same
+    → let s : Layout = record { align = a; info = i; mark = k .0; modifier = k .1 } in
+    let t : Layout = record { align = b; info = j; mark = m .0; modifier = m .1 } in
     FitsWidth 32 s → FitsWidth 32 t → None (layoutCauses 32 s) → None (layoutCauses 32 t) → KindsConvert 32 same i j q
     → sizeIn 32 i n ≤ M 32 → Converted 32 i j q n
 count-kept = Counts.count-kept 32

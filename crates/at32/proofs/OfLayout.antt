@@ -49,10 +49,10 @@ check-meets = Layouts.check-meets 32
 pub check-refused : {k : ℕ} (l : Layout) → l .align < 2 ^ 32 → refused k ≡ checkFor 32 l → (refused k ≡ checkFor 32 l) × Meets (layoutCauses 32 l) (λ (_ : Unit {0}). FitsWidth 32 l) (refused k)
 check-refused {k} = Layouts.check-refused {k = k} 32
 
-pub fixed-accepted : (a s : ℕ) (mark : Bool) → powerOfTwo 32 a ≡ true → checkFor 32 (record { align = a; info = fixed s; mark = mark }) ≡ answered tt
+pub fixed-accepted : (a s : ℕ) (mark over : Bool) → powerOfTwo 32 a ≡ true → checkFor 32 (record { align = a; info = fixed s; mark = mark; modifier = over }) ≡ answered tt
 fixed-accepted = Layouts.fixed-accepted 32
 
-pub fixed-refused : (a s : ℕ) (mark : Bool) → powerOfTwo 32 a ≡ false → checkFor 32 (record { align = a; info = fixed s; mark = mark }) ≡ refused 1
+pub fixed-refused : (a s : ℕ) (mark over : Bool) → powerOfTwo 32 a ≡ false → checkFor 32 (record { align = a; info = fixed s; mark = mark; modifier = over }) ≡ refused 1
 fixed-refused = Layouts.fixed-refused 32
 
 pub held-accepted : {l : Layout} (r : Check) → Meets (layoutCauses 32 l) (λ _. FitsWidth 32 l) (checkSays r) → r ≡ Check.Accepted → FitsWidth 32 l
@@ -88,8 +88,8 @@ extend-member {k} = Steps.extend-member {k = k} 32
 pub extend-step : (l m : Layout) (packing : ℕ) → checkFor 32 l ≡ answered tt → checkFor 32 m ≡ answered tt → unless (stepCauses 32 l m packing) (extended l m packing) ≡ extendFor 32 l m packing
 extend-step = Steps.extend-step 32
 
-pub step-past : (k s : ℕ) (mark : Bool) (m : Layout) (packing : ℕ) → M 32 < up s (memberAlign (m .align) packing) → refused 8 ≡ unless (placeCauses 32 (record { align = k; info = fixed s; mark = mark }) m packing) (extended (record { align = k; info = fixed s; mark = mark }) m packing)
+pub step-past : (k s : ℕ) (mark over : Bool) (m : Layout) (packing : ℕ) → M 32 < up s (memberAlign (m .align) packing) → refused 8 ≡ unless (placeCauses 32 (record { align = k; info = fixed s; mark = mark; modifier = over }) m packing) (extended (record { align = k; info = fixed s; mark = mark; modifier = over }) m packing)
 step-past = Steps.step-past 32
 
-pub step-placed : (k s : ℕ) (mark : Bool) (m : Layout) (packing : ℕ) → up s (memberAlign (m .align) packing) ≤ M 32 → unless (memberPasses 32 (up s (memberAlign (m .align) packing)) (m .info) ∷ []) (extended (record { align = k; info = fixed s; mark = mark }) m packing) ≡ unless (placeCauses 32 (record { align = k; info = fixed s; mark = mark }) m packing) (extended (record { align = k; info = fixed s; mark = mark }) m packing)
+pub step-placed : (k s : ℕ) (mark over : Bool) (m : Layout) (packing : ℕ) → up s (memberAlign (m .align) packing) ≤ M 32 → unless (memberPasses 32 (up s (memberAlign (m .align) packing)) (m .info) ∷ []) (extended (record { align = k; info = fixed s; mark = mark; modifier = over }) m packing) ≡ unless (placeCauses 32 (record { align = k; info = fixed s; mark = mark; modifier = over }) m packing) (extended (record { align = k; info = fixed s; mark = mark; modifier = over }) m packing)
 step-placed = Steps.step-placed 32

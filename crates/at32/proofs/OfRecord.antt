@@ -40,7 +40,7 @@ words-encoded = RoundTrips.words-encoded 32
 pub words-kept : (r : Words) {l : Layout} → wordsFor 32 r ≡ answered l → wordsOf l ≡ r
 words-kept r {l} = RoundTrips.words-kept 32 r {l = l}
 
-pub words-checked : (a : ℕ) (i : Info) (m : Bool) → let l : Layout = record { align = a; info = i; mark = m } in wordsFor 32 (wordsOf l) ≡ unless (layoutCauses 32 l) l
+pub words-checked : (a : ℕ) (i : Info) (m u : Bool) → let l : Layout = record { align = a; info = i; mark = m; modifier = u } in wordsFor 32 (wordsOf l) ≡ unless (layoutCauses 32 l) l
 words-checked = RoundTrips.words-checked 32
 
 pub layout-back : (l : Layout) → Fits (wordsOf l) → checkFor 32 l ≡ answered tt → decodeFor 32 (recordBytes (wordsOf l)) ≡ answered l

@@ -6,7 +6,7 @@ use Rattle.util_defs.specs.Refusal.{Tells, Meets, None, Decided}
 use Rattle.trailing_defs.specs.Size.{Trailing, sizeAt}
 use Rattle.trailing_defs.specs.Sequence.{EqualSizes, sameSequence}
 use Rattle.trailing_defs.specs.Calls.{sameCauses}
-use Rattle.layout_defs.specs.Layout.{trailing, Layout, layoutCauses}
+use Rattle.layout_defs.specs.Layout.{Marks, marks, trailing, Layout, layoutCauses}
 use Rattle.shift_defs.specs.Match.{Comparison, Sound, shifted, Matches, matchTest, matchFor, FoundMatch}
 use Rattle.shift_defs.specs.Shift.{by, shiftOf, IsShift, IsMultiple, shiftCauses, shiftFor, ShiftMeans}
 use Rattle.shift.specs.View.{shiftIn, shiftSays}
@@ -33,10 +33,10 @@ match-sizes {same} {s} {t} {d} {k} = Matching.match-sizes {w = 32} {same = same}
 pub match-meets : (same : Comparison) (s t : Trailing) (d : ℕ) → Sound 32 same → s .word < 2 ^ 32 → t .word < 2 ^ 32 → Meets (sameCauses s t) (FoundMatch 32 same s t d) (matchFor 32 same s t d)
 match-meets = Matching.match-meets 32
 
-pub shift-sound : (a : ℕ) (k : Bool) (same : Comparison) (s t : Trailing) (d : ℕ) → a < 2 ^ 32 → 0 < 32 → 0 < t .elem → shiftOf 32 same s (slice a k t) t ≡ by d → IsShift 32 same s t d
+pub shift-sound : (a : ℕ) (k : Marks) (same : Comparison) (s t : Trailing) (d : ℕ) → a < 2 ^ 32 → 0 < 32 → 0 < t .elem → shiftOf 32 same s (slice a k t) t ≡ by d → IsShift 32 same s t d
 shift-sound = Shifts.shift-sound 32
 
-pub shift-complete : (a : ℕ) (k : Bool) (same : Comparison) (s t : Trailing) (d : ℕ) → a < 2 ^ 32 → 0 < 32 → None (layoutCauses 32 (slice a k t)) → 0 < t .elem → IsShift 32 same s t d → shiftOf 32 same s (slice a k t) t ≡ by d
+pub shift-complete : (a : ℕ) (k : Marks) (same : Comparison) (s t : Trailing) (d : ℕ) → a < 2 ^ 32 → 0 < 32 → None (layoutCauses 32 (slice a k t)) → 0 < t .elem → IsShift 32 same s t d → shiftOf 32 same s (slice a k t) t ≡ by d
 shift-complete = Shifts.shift-complete 32
 
 pub one-shift : {same : Comparison} {s t : Trailing} {c d : ℕ} → 0 < t .elem → IsShift 32 same s t c → IsShift 32 same s t d → c ≡ d

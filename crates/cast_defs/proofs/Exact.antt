@@ -12,7 +12,7 @@ use Rattle.util_defs.proofs.Tables.{none-both, both-none, decided-both}
 use Rattle.trailing_defs.specs.Size.{Trailing, A, sizeAt}
 use Rattle.trailing_defs.specs.Count.{GreatestCount, countWithin}
 use Rattle.trailing_defs.proofs.Sizes.{greatest-count, one-count, count-mono}
-use Rattle.layout_defs.specs.Layout.{Info, fixed, trailing, Layout, noWord, layoutCauses}
+use Rattle.layout_defs.specs.Layout.{Marks, marks, Info, fixed, trailing, Layout, noWord, layoutCauses}
 use Rattle.layout_defs.proofs.Layouts.{layout-decided}
 use Rattle.cast_defs.specs.Cast.{prefix, castCauses, Grant, GrantMeans, countIn}
 use Rattle.cast_defs.specs.Exact.{splitIs, hasExact, ExactCount, ExactIn, noExact, exactCauses, exactFor}
@@ -32,8 +32,8 @@ exact-count {w} {t} {s} {n} h x =
     one-count (exact-greatest h x) (greatest-count w t s h (x .elem) (omega (arith, x .size, count-mono w t 0 n h (omega arith))))
 
 -- a prefix cast at address 0 over s has the split s exactly where there is an exact count of s
-split-exact : {o : Outcome Grant} (w a : ℕ) (k : Bool) (t : Trailing) (s : ℕ) → 0 < A w t
-    → let l : Layout = record { align = a; info = trailing t; mark = k } in
+split-exact : {o : Outcome Grant} (w a : ℕ) (k : Marks) (t : Trailing) (s : ℕ) → 0 < A w t
+    → let l : Layout = record { align = a; info = trailing t; mark = k .0; modifier = k .1 } in
     None (layoutCauses w l) → Meets (castCauses w l prefix 0 s) (GrantMeans w (trailing t) prefix s) o
     → Tells ((n : ℕ) × ExactCount w t s n) (splitIs s o)
 split-exact w a k t s h ok (answers {x = g} n q) =
@@ -51,7 +51,7 @@ split-exact w a k t s h ok (answers {x = g} n q) =
     (tells-eq (g .split) s)
 split-exact w a k t s h ok (refuses f) = fails (λ x. never (x .0) (x .1) f)
   where
-    never : {j : ℕ} (n : ℕ) → ExactCount w t s n → First (castCauses w (record { align = a; info = trailing t; mark = k }) prefix 0 s) j → ⊥
+    never : {j : ℕ} (n : ℕ) → ExactCount w t s n → First (castCauses w (record { align = a; info = trailing t; mark = k .0; modifier = k .1 }) prefix 0 s) j → ⊥
     never n x (inl z) = ok .0 (z .0)
     never n x (inr (_, inl z)) = ok .1 .0 (z .0)
     never n x (inr (_, inr (_, inl z))) = omega (arith, z .0, x .elem)
@@ -61,16 +61,16 @@ split-exact w a k t s h ok (refuses f) = fails (λ x. never (x .0) (x .1) f)
     never n x (inr (_, inr (_, inr (_, inr (_, inr (_, inr z)))))) = z .1
 
 -- the test of an exact count decides that there is one
-tells-info : (w a : ℕ) (k : Bool) (i : Info) (s : ℕ) → a < 2 ^ w → 0 < w
-    → let l : Layout = record { align = a; info = i; mark = k } in None (layoutCauses w l) → Tells ((n : ℕ) × ExactIn w i s n) (hasExact w l s)
+tells-info : (w a : ℕ) (k : Marks) (i : Info) (s : ℕ) → a < 2 ^ w → 0 < w
+    → let l : Layout = record { align = a; info = i; mark = k .0; modifier = k .1 } in None (layoutCauses w l) → Tells ((n : ℕ) × ExactIn w i s n) (hasExact w l s)
 tells-info w a k (fixed z) s h f ok = fails (λ x. x .1)
 tells-info w a k (trailing t) s h f ok =
     split-exact w a k t s (align-pos w t f (ok .1 .0)) ok
-    (cast-meets w (record { align = a; info = trailing t; mark = k }) prefix 0 s h f)
+    (cast-meets w (record { align = a; info = trailing t; mark = k .0; modifier = k .1 }) prefix 0 s h f)
 
 pub tells-exact : (w : ℕ) (l : Layout) (s : ℕ) → l .align < 2 ^ w → 0 < w → None (layoutCauses w l)
     → Tells ((n : ℕ) × ExactIn w (l .info) s n) (hasExact w l s)
-tells-exact w l s h f ok = tells-info w (l .align) (l .mark) (l .info) s h f ok
+tells-exact w l s h f ok = tells-info w (l .align) (marks l) (l .info) s h f ok
 
 -- the exact count is the count of that cast
 pub exact-is : (w : ℕ) (i : Info) (s n : ℕ) → 0 < w → (noWord i .means → ⊥) → ExactIn w i s n → n ≡ countIn w i s

@@ -1,2 +1,1 @@
-pub mod Compose
 pub mod View

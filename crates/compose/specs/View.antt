@@ -1,6 +1,6 @@
 -- What the answer of this crate is, over numbers: document 01's number and values for each of its cases. Assumes nothing.
 use Rattle.layout.specs.View.{layoutOf}
-use Rattle.compose.specs.Compose.{Composed, composed, refusedAt}
+use Rattle.compose_defs.specs.Compose.{Composed, composed, refusedAt}
 use Rattle.compose.specs.declared.ComposeAnswer.{ComposeAnswer}
 use Rattle.compose.specs.declared.ComposeAnswer.the-variants as Compose
 

@@ -11,7 +11,7 @@ use Rattle.util_defs.proofs.Refusals.{known, tells-eq, tells-lt, meets, clear, 
 use Rattle.util_defs.proofs.Tables.{apart, decided-both, none-both, both-none}
 use Rattle.util_defs.proofs.Rounding.{multiple, same-multiple}
 use Rattle.trailing_defs.specs.Size.{Trailing}
-use Rattle.layout_defs.specs.Layout.{Info, fixed, trailing, Layout, layoutCauses}
+use Rattle.layout_defs.specs.Layout.{Marks, marks, Info, fixed, trailing, Layout, layoutCauses}
 use Rattle.layout_defs.proofs.Layouts.{layout-decided}
 use Rattle.cast_defs.specs.Exact.{exactFor}
 use Rattle.cast_defs.proofs.Exact.{exact-sound, exact-complete}
@@ -23,7 +23,7 @@ use Rattle.convert_defs.specs.Convert.{Params, unsizedToUnsized, withCou
 use Rattle.convert_defs.proofs.Reasons.{kinds-decided}
 
 -- where no reason holds, the kinds of the source i and of the target convert
-trailing-sound : (w a : ℕ) (k : Bool) (same : Comparison) (s t : Trailing) → a < 2 ^ w → 0 < w → None (layoutCauses w (slice a k t))
+trailing-sound : (w a : ℕ) (k : Marks) (same : Comparison) (s t : Trailing) → a < 2 ^ w → 0 < w → None (layoutCauses w (slice a k t))
     → None (kindCauses w same (trailing s) (slice a k t) (trailing t))
     → KindsConvert w same (trailing s) (trailing t) (paramsOf w same (trailing s) (slice a k t) (trailing t))
 trailing-sound w a k same s t h pos ok n = go (shiftOf w same s (slice a k t) t) refl
@@ -44,11 +44,11 @@ trailing-sound w a k same s t h pos ok n = go (shiftOf w same s (slice a k t) t)
         let one : 0 < s .elem / e = lt-of-mul-lt-mul-right e (omega (arith, n .1 .1 .1 .1 .0)) in
         trailingToTrailing (record { target = target; least = one; multiple = sym x }) (shift-sound w a k same s t d h pos target i)
 
-kinds-sound : (w a : ℕ) (k : Bool) (same : Comparison) (i j : Info) → a < 2 ^ w → 0 < w
-    → let l : Layout = record { align = a; info = j; mark = k } in None (layoutCauses w l) → None (kindCauses w same i l j)
+kinds-sound : (w a : ℕ) (k : Marks) (same : Comparison) (i j : Info) → a < 2 ^ w → 0 < w
+    → let l : Layout = record { align = a; info = j; mark = k .0; modifier = k .1 } in None (layoutCauses w l) → None (kindCauses w same i l j)
     → KindsConvert w same i j (paramsOf w same i l j)
 kinds-sound w a k same (fixed x) (fixed y) h pos ok n =
-    subst (λ (z : ℕ). KindsConvert w same (fixed x) (fixed z) (paramsOf w same (fixed x) (record { align = a; info = fixed z; mark = k }) (fixed z))) (known (tells-eq x y) (n .0)) fixedToFixed
+    subst (λ (z : ℕ). KindsConvert w same (fixed x) (fixed z) (paramsOf w same (fixed x) (record { align = a; info = fixed z; mark = k .0; modifier = k .1 }) (fixed z))) (known (tells-eq x y) (n .0)) fixedToFixed
 kinds-sound w a k same (fixed x) (trailing t) h pos ok n = go (exactFor w (slice a k t) x) refl
   where
     go : (o : Outcome ℕ) → exactFor w (slice a k t) x ≡ o → KindsConvert w same (fixed x) (trailing t) (withCount o)
@@ -58,8 +58,8 @@ kinds-sound w a k same (trailing s) (fixed y) h pos ok n = absurd (n .1 .0 tt)
 kinds-sound w a k same (trailing s) (trailing t) h pos ok n = trailing-sound w a k same s t h pos ok n
 
 -- and where they convert no reason holds
-kinds-complete : {i j : Info} {q : Params} (w a : ℕ) (k : Bool) (same : Comparison) → a < 2 ^ w → 0 < w
-    → let l : Layout = record { align = a; info = j; mark = k } in None (layoutCauses w l) → KindsConvert w same i j q
+kinds-complete : {i j : Info} {q : Params} (w a : ℕ) (k : Marks) (same : Comparison) → a < 2 ^ w → 0 < w
+    → let l : Layout = record { align = a; info = j; mark = k .0; modifier = k .1 } in None (layoutCauses w l) → KindsConvert w same i j q
     → None (kindCauses w same i l j) × (paramsOf w same i l j ≡ q)
 kinds-complete w a k same h pos ok (fixedToFixed {a = x}) =
     (((λ f. f refl), ((λ z. z), ((λ z. z), ((λ z. z), ((λ z. z), ((λ z. z), ((λ z. z), tt))))))), refl)
@@ -98,12 +98,12 @@ kinds-complete w a k same h pos ok (trailingToTrailing {s = s} {t = t} {d = d} {
 conversion-sound : (w : ℕ) (same : Comparison) (s t : Layout) → t .align < 2 ^ w → 0 < w → None (layoutCauses w t)
     → None (conversionCauses w same s t) → Converts w same s t (paramsOf w same (s .info) t (t .info))
 conversion-sound w same s t h pos ok n =
-    record { align = omega (arith, n .0); kinds = kinds-sound w (t .align) (t .mark) same (s .info) (t .info) h pos ok (n .1) }
+    record { align = omega (arith, n .0); kinds = kinds-sound w (t .align) (marks t) same (s .info) (t .info) h pos ok (n .1) }
 
 pub conversion-complete : (w : ℕ) (same : Comparison) (s t : Layout) (q : Params) → t .align < 2 ^ w → 0 < w → None (layoutCauses w t)
     → Converts w same s t q → None (conversionCauses w same s t) × (paramsOf w same (s .info) t (t .info) ≡ q)
 conversion-complete w same s t q h pos ok c =
-    let z = kinds-complete w (t .align) (t .mark) same h pos ok (c .kinds) in
+    let z = kinds-complete w (t .align) (marks t) same h pos ok (c .kinds) in
     (((λ l. omega (arith, c .align)), z .0), z .1)
 
 -- there is one conversion at most
@@ -114,7 +114,7 @@ one-conversion w same s t q r h pos ok x y =
 
 conversion-decided : (w : ℕ) (same : Comparison) (s t : Layout) → t .align < 2 ^ w → 0 < w → None (layoutCauses w t) → Decided (conversionCauses w same s t)
 conversion-decided w same s t h pos ok =
-    (tells-lt (s .align) (t .align), λ _. kinds-decided w (t .align) (t .mark) same (s .info) (t .info) h pos ok)
+    (tells-lt (s .align) (t .align), λ _. kinds-decided w (t .align) (marks t) same (s .info) (t .info) h pos ok)
 
 compute-decided : (w : ℕ) (same : Comparison) (s t : Layout) → s .align < 2 ^ w → t .align < 2 ^ w → 0 < w → Decided (computeCauses w same s t)
 compute-decided w same s t hs ht pos =

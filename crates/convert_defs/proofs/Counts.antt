@@ -10,7 +10,7 @@ use Rattle.util_defs.specs.Width.{M}
 use Rattle.util_defs.specs.Refusal.{None}
 use Rattle.trailing_defs.specs.Size.{Trailing, A, p, sizeAt}
 use Rattle.trailing_defs.proofs.Sizes.{size-ge}
-use Rattle.layout_defs.specs.Layout.{Info, Layout, sizeIn, layoutCauses, FitsWidth}
+use Rattle.layout_defs.specs.Layout.{Marks, marks, Info, Layout, sizeIn, layoutCauses, FitsWidth}
 use Rattle.cast_defs.proofs.Grants.{align-pos}
 use Rattle.shift_defs.specs.Match.{Comparison, Sound, Matches}
 use Rattle.shift_defs.specs.Shift.{IsShift}
@@ -27,9 +27,9 @@ shift-match (inl f) = f .match
 shift-match (inr f) = f .match
 
 -- the converted count keeps what it should, where the kinds convert
-pub count-kept : {i j : Info} {q : Params} (w : ℕ) (same : Comparison) (a b : ℕ) (k m : Bool) (n : ℕ) → 0 < w → Sound w same
-    → let s : Layout = record { align = a; info = i; mark = k } in
-    let t : Layout = record { align = b; info = j; mark = m } in
+pub count-kept : {i j : Info} {q : Params} (w : ℕ) (same : Comparison) (a b : ℕ) (k m : Marks) (n : ℕ) → 0 < w → Sound w same
+    → let s : Layout = record { align = a; info = i; mark = k .0; modifier = k .1 } in
+    let t : Layout = record { align = b; info = j; mark = m .0; modifier = m .1 } in
     FitsWidth w s → FitsWidth w t → None (layoutCauses w s) → None (layoutCauses w t) → KindsConvert w same i j q
     → sizeIn w i n ≤ M w → Converted w i j q n
 count-kept w same a b k m n pos sound hs ht oks okt (fixedToFixed {a = x}) fits =

@@ -1,7 +1,7 @@
 -- Each number of document 02's list is given: a pair of layouts for each, and pairs of which two reasons hold, where the one tested
 -- first gives its number. At 64 bits, with the ported comparison. Assumes nothing.
 use mathlib.Core.Path.{_≡_, refl}
-use mathlib.Core.Bool.{true}
+use mathlib.Core.Bool.{true, false}
 use mathlib.Core.List.{List, [], _∷_}
 use Prim.Native.Nat.{ℕ}
 use Rattle.util_defs.specs.Power.{powerOfTwo}
@@ -20,10 +20,10 @@ use Rattle.shift_defs.specs.Shift.{shiftOf}
 use Rattle.convert_defs.specs.Convert.{Params, computeFor}
 
 abbrev sized : (align size : ℕ) → Layout
-sized a s = record { align = a; info = fixed s; mark = true }
+sized a s = record { align = a; info = fixed s; mark = true; modifier = false }
 
 abbrev slice : (align base word elem : ℕ) → Layout
-slice a b n e = record { align = a; info = trailing (record { offset = 0; elem = e; base = b; word = n }); mark = true }
+slice a b n e = record { align = a; info = trailing (record { offset = 0; elem = e; base = b; word = n }); mark = true; modifier = false }
 
 abbrev gives : Layout → Layout → Outcome Params
 gives s t = computeFor 64 (sameSequence 64) s t

@@ -10,7 +10,7 @@ use Rattle.util_defs.proofs.Refusals.{tells-eq, tells-lt, tells-not, tells-as}
 use Rattle.util_defs.proofs.Tables.{apart}
 use Rattle.util_defs.proofs.Rounding.{multiple}
 use Rattle.trailing_defs.specs.Size.{Trailing}
-use Rattle.layout_defs.specs.Layout.{Info, fixed, trailing, Layout, layoutCauses}
+use Rattle.layout_defs.specs.Layout.{Marks, marks, Info, fixed, trailing, Layout, layoutCauses}
 use Rattle.cast_defs.specs.Exact.{ExactCount, exactFor}
 use Rattle.cast_defs.proofs.Exact.{exact-sound, exact-complete}
 use Rattle.shift_defs.specs.Match.{Comparison}
@@ -22,7 +22,7 @@ use Rattle.convert_defs.specs.Reasons.{never, isRefused, isMissing, kind
 off : Tells (never .means) (never .test)
 off = fails (λ x. x)
 
-pub tells-no-count : (w a : ℕ) (k : Bool) (t : Trailing) (s : ℕ) → a < 2 ^ w → 0 < w → None (layoutCauses w (slice a k t))
+pub tells-no-count : (w a : ℕ) (k : Marks) (t : Trailing) (s : ℕ) → a < 2 ^ w → 0 < w → None (layoutCauses w (slice a k t))
     → Tells ((n : ℕ) → ExactCount w t s n → ⊥) (isRefused (exactFor w (slice a k t) s))
 tells-no-count w a k t s h pos ok = go (exactFor w (slice a k t) s) refl
   where
@@ -30,7 +30,7 @@ tells-no-count w a k t s h pos ok = go (exactFor w (slice a k t) s) refl
     go (answered n) e = fails (λ f. f n (exact-sound w (slice a k t) s n h pos e))
     go (refused c) e = holds (λ n x. apart (sym e ∙ exact-complete w (slice a k t) s n h pos ok x))
 
-pub tells-no-shift : (w a : ℕ) (k : Bool) (same : Comparison) (s t : Trailing) → a < 2 ^ w → 0 < w
+pub tells-no-shift : (w a : ℕ) (k : Marks) (same : Comparison) (s t : Trailing) → a < 2 ^ w → 0 < w
     → None (layoutCauses w (slice a k t)) → 0 < t .elem
     → Tells ((d : ℕ) → IsShift w same s t d → ⊥) (isMissing (shiftOf w same s (slice a k t) t))
 tells-no-shift w a k same s t h pos ok pe = go (shiftOf w same s (slice a k t) t) refl
@@ -45,8 +45,8 @@ tells-no-multiple m e =
     (tells-not (tells-eq (m % e) 0))
 
 -- by the kinds of the source i and of the target
-pub kinds-decided : (w a : ℕ) (k : Bool) (same : Comparison) (i j : Info) → a < 2 ^ w → 0 < w
-    → let l : Layout = record { align = a; info = j; mark = k } in None (layoutCauses w l) → Decided (kindCauses w same i l j)
+pub kinds-decided : (w a : ℕ) (k : Marks) (same : Comparison) (i j : Info) → a < 2 ^ w → 0 < w
+    → let l : Layout = record { align = a; info = j; mark = k .0; modifier = k .1 } in None (layoutCauses w l) → Decided (kindCauses w same i l j)
 kinds-decided w a k same (fixed x) (fixed y) h pos ok =
     (tells-not (tells-eq x y), λ _. (off, λ _. (off, λ _. (off, λ _. (off, λ _. (off, λ _. (off, λ _. tt)))))))
 kinds-decided w a k same (fixed x) (trailing t) h pos ok =

@@ -3,7 +3,7 @@ use Prim.Native.Nat.{ℕ}
 use Rattle.util_defs.specs.Refusal.{Outcome, answered, refused}
 use Rattle.layout_defs.specs.Layout.{Layout}
 use Rattle.record_defs.specs.Record.{Words, wordsOf, wordsFor}
-use Rattle.compose.specs.Compose.{Composed, composed, refusedAt}
+use Rattle.compose_defs.specs.Compose.{Composed, composed, refusedAt}
 use Rattle.exports_layouts.specs.declared.Layout as given
 use Rattle.exports_layouts.specs.declared.LayoutOut.{LayoutOut}
 use Rattle.exports_layouts.specs.declared.ComposedOut.{ComposedOut}

@@ -9,7 +9,7 @@ ghost use Rattle.padding_defs.specs.Pad.{padFor, staticFor, dynamicFor};
 ghost use Rattle.record_defs.specs.Record.{wordsFor, decodeFor, encodeWordsFor, encodedWordsInto};
 ghost use Rattle.scalar.specs.Scalar.{target64, scalarFor};
 ghost use Rattle.record.specs.View.{wordsIn};
-ghost use Rattle.compose.specs.Compose.{composeFor, structFor};
+ghost use Rattle.compose_defs.specs.Compose.{ported, composeFor, structFor};
 ghost use Rattle.compose.specs.View.{composeSays};
 ghost use Rattle.exports_numbers.specs.Numbers.{decisionOut};
 ghost use Rattle.exports_layouts.specs.Layouts.{wordsGiven, wordsOut, noLayout, layoutOut, withLayout};
@@ -74,6 +74,7 @@ fn with_member(l: DstLayout, m: DstLayout, repr_packed: u64) -> LayoutAnswer
                 align: l.align,
                 size,
                 statically_shallow_unpadded: l.statically_shallow_unpadded,
+                align_modifier: l.align_modifier,
             },
             m,
             repr_packed,
@@ -82,6 +83,7 @@ fn with_member(l: DstLayout, m: DstLayout, repr_packed: u64) -> LayoutAnswer
             l.align,
             tail,
             l.statically_shallow_unpadded,
+            l.align_modifier,
             m,
             repr_packed,
         )),
@@ -131,7 +133,7 @@ fn layout_out(a: LayoutAnswer) -> LayoutOut
     }
 }
 
-fn composed_out(a: ComposeAnswer) -> ComposedOut
+pub fn composed_out(a: ComposeAnswer) -> ComposedOut
     ensures { λ r. ⌜ r ≡ composedOut (composeSays a) ⌝ }
 {
     match a {
@@ -268,7 +270,7 @@ pub extern "C" fn lukaripe_scalar(code: u64) -> LayoutOut
 // The layout of a member list before its closing padding.
 #[no_mangle]
 pub extern "C" fn lukaripe_compose(repr_align: u64, repr_packed: u64, members: &[u8]) -> ComposedOut
-    ensures { λ r. ⌜ r ≡ composedOut (composeFor 64 «repr_align» «repr_packed» (now (members .entry))) ⌝ }
+    ensures { λ r. ⌜ r ≡ composedOut (composeFor 64 ported «repr_align» «repr_packed» (now (members .entry))) ⌝ }
 {
     composed_out(compose::compose(repr_align, repr_packed, members))
 }
@@ -280,7 +282,7 @@ pub extern "C" fn lukaripe_for_repr_c_struct(
     repr_packed: u64,
     members: &[u8],
 ) -> ComposedOut
-    ensures { λ r. ⌜ r ≡ composedOut (structFor 64 «repr_align» «repr_packed» (now (members .entry))) ⌝ }
+    ensures { λ r. ⌜ r ≡ composedOut (structFor 64 ported «repr_align» «repr_packed» (now (members .entry))) ⌝ }
 {
     composed_out(compose::for_repr_c_struct(repr_align, repr_packed, members))
 }

@@ -160,11 +160,13 @@ pub fn extend_trailing(
     align: u64,
     tail: TrailingSliceLayout,
     unpadded: bool,
+    align_modifier: bool,
     field: DstLayout,
     repr_packed: u64,
 ) -> u64
     ensures { λ r. ⌜
-        refused r ≡ extendFor 64 (record { align = align; info = trailing (trailingOf tail); mark = unpadded })
+        refused r ≡ extendFor 64
+        (record { align = align; info = trailing (trailingOf tail); mark = unpadded; modifier = «align_modifier» })
         (layoutOf field) «repr_packed»
         ⌝ }
 {
@@ -172,6 +174,7 @@ pub fn extend_trailing(
         align,
         size_info: SizeInfo::SliceDst(tail),
         statically_shallow_unpadded: unpadded,
+        align_modifier,
     };
     after_trailing(own, field, repr_packed)
 }
@@ -191,6 +194,7 @@ pub fn extend(own: DstLayout, field: DstLayout, repr_packed: u64) -> LayoutAnswe
                 align: own.align,
                 size,
                 statically_shallow_unpadded: own.statically_shallow_unpadded,
+                align_modifier: own.align_modifier,
             },
             field,
             repr_packed,

@@ -10,7 +10,7 @@ use Rattle.util_defs.proofs.Refusals.{clear}
 use Rattle.util_defs.proofs.Tables.{both-none}
 use Rattle.trailing_defs.specs.Size.{A, p}
 use Rattle.trailing_defs.specs.Sequence.{sameSequence}
-use Rattle.layout_defs.specs.Layout.{Info, fixed, trailing, Layout, IsCount, sizeIn, noWord, layoutCauses}
+use Rattle.layout_defs.specs.Layout.{Marks, marks, Info, fixed, trailing, Layout, IsCount, sizeIn, noWord, layoutCauses}
 use Rattle.cast_defs.specs.Cast.{prefix, Grant, countIn, IsElemZero, bytesCauses, castCauses, castFor}
 use Rattle.cast_defs.proofs.Grants.{align-pos, greatest-in, cast-decided}
 use Rattle.trailing_defs.proofs.Sizes.{count-mono}
@@ -67,7 +67,7 @@ kept w same s t q n addr len more pos ht ok e ne fits is size = record {
 pub demand-3 : (w : ℕ) (same : Comparison) → 0 < w → Sound w same → Demand3 w same
 demand-3 w same pos sound s t n addr len more hs ht q acc is fits =
     let e = compute-accepts w same s t q (hs .align) (ht .align) pos (acc .source) (acc .target) (acc .converts) in
-    let c = count-kept w same (s .align) (t .align) (s .mark) (t .mark) n pos sound hs ht (acc .source) (acc .target) (acc .converts .kinds) fits in
+    let c = count-kept w same (s .align) (t .align) (marks s) (marks t) n pos sound hs ht (acc .source) (acc .target) (acc .converts .kinds) fits in
     kept w same s t q n addr len more pos (ht .align) (acc .target) e (c .elem) (c .fits) (c .count) (c .size)
 
 -- demand 3 of the ported comparison, closed

@@ -1,6 +1,6 @@
 -- Uses of demand 3. Assumes nothing.
 use mathlib.Core.Path.{_≡_, refl, ap, _∙_}
-use mathlib.Core.Bool.{true}
+use mathlib.Core.Bool.{true, false}
 use Prim.Native.Nat.{ℕ, _+_, _%_, _≤_}
 use lib.Dec.{lit<}
 use native.Mathlib.Omega.{arith}
@@ -37,10 +37,10 @@ demand-3-gives {w} s t q n addr len more r d acc is fits l al f m g =
 
 -- document 01's source b 8, word 4, e 4 and target b 4, word 2, e 2 (alignments 4, 2): d 2, k 2
 abbrev source : Layout
-source = record { align = 4; info = trailing (record { offset = 0; elem = 4; base = 8; word = 4 }); mark = true }
+source = record { align = 4; info = trailing (record { offset = 0; elem = 4; base = 8; word = 4 }); mark = true; modifier = false }
 
 abbrev target : Layout
-target = record { align = 2; info = trailing (record { offset = 0; elem = 2; base = 4; word = 2 }); mark = true }
+target = record { align = 2; info = trailing (record { offset = 0; elem = 2; base = 4; word = 2 }); mark = true; modifier = false }
 
 accepts : Accepts 64 (sameSequence 64) source target (unsizedToUnsized 2 2)
 unfolding powerOfTwo up down highestBit sizeWith bytesWithin countWithin sameSequence advanced castFor exactFor matchTest shiftOf computeFor unless

@@ -18,10 +18,20 @@ infoOf (Sized s) = fixed s
 infoOf (SliceDst t) = trailing (trailingOf t)
 
 abbrev pub layoutOf : DstLayout → Layout
-layoutOf l = record { align = l .align; info = infoOf (l .«size_info»); mark = l .«statically_shallow_unpadded» }
+layoutOf l = record {
+  align = l .align;
+  info = infoOf (l .«size_info»);
+  mark = l .«statically_shallow_unpadded»;
+  modifier = l .«align_modifier»;
+}
 
 abbrev pub sizedOf : SizedLayout → Layout
-sizedOf l = record { align = l .align; info = fixed (l .size); mark = l .«statically_shallow_unpadded» }
+sizedOf l = record {
+  align = l .align;
+  info = fixed (l .size);
+  mark = l .«statically_shallow_unpadded»;
+  modifier = l .«align_modifier»;
+}
 
 abbrev pub layoutSays : LayoutAnswer → Outcome Layout
 layoutSays (Answer.Layout l) = answered (layoutOf l)

@@ -20,6 +20,8 @@ pub struct DstLayout {
     pub size_info: SizeInfo,
     // No padding is known between the members.
     pub statically_shallow_unpadded: bool,
+    // An alignment modifier was asked for, of the type or of a member at any depth. The Rust has no such mark.
+    pub align_modifier: bool,
 }
 
 // A layout with a size: no member of it is trailing.
@@ -27,6 +29,7 @@ pub struct SizedLayout {
     pub align: u64,
     pub size: u64,
     pub statically_shallow_unpadded: bool,
+    pub align_modifier: bool,
 }
 
 // A layout, or the number of the refusal.

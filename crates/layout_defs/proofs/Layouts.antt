@@ -29,10 +29,10 @@ check-refused {k} w l h e = (e, refuses (refused-means m))
     m = subst (λ (o : Outcome (Unit {0})). Meets (layoutCauses w l) (λ (_ : Unit {0}). Unit {0}) o) (sym e) (meets (layoutCauses w l) tt (layout-decided w l h) (λ _. tt))
 
 -- a fixed layout is accepted exactly when its alignment is a power of two
-pub fixed-accepted : (w a s : ℕ) (mark : Bool) → powerOfTwo w a ≡ true → checkFor w (record { align = a; info = fixed s; mark = mark }) ≡ answered tt
+pub fixed-accepted : (w a s : ℕ) (mark over : Bool) → powerOfTwo w a ≡ true → checkFor w (record { align = a; info = fixed s; mark = mark; modifier = over }) ≡ answered tt
 unfolding checkFor unless
-fixed-accepted w a s mark e = simp e
+fixed-accepted w a s mark over e = simp e
 
-pub fixed-refused : (w a s : ℕ) (mark : Bool) → powerOfTwo w a ≡ false → checkFor w (record { align = a; info = fixed s; mark = mark }) ≡ refused 1
+pub fixed-refused : (w a s : ℕ) (mark over : Bool) → powerOfTwo w a ≡ false → checkFor w (record { align = a; info = fixed s; mark = mark; modifier = over }) ≡ refused 1
 unfolding checkFor unless
-fixed-refused w a s mark e = simp e
+fixed-refused w a s mark over e = simp e

@@ -21,6 +21,7 @@ one-extended {l} {m} {packing} r s x y = λ i. record {
   align = one-larger (x .align) (y .align) i;
   info = (x .info ∙ ap (λ (q : ℕ). placedAt q (m .info)) place ∙ sym (y .info)) i;
   mark = agree (x .mark) both i;
+  modifier = agree (x .modifier) (y .modifier) i;
 }
   where
     size : y .size ≡ x .size

@@ -100,11 +100,11 @@ larger : {a b : ℕ} (w : ℕ) → PowerOfTwo a → PowerOfTwo b → a < 2 ^ w �
 larger {a} {b} w p q ha hb = answered-means (subst (λ (o : Outcome ℕ). Meets (alignsCauses w a b) (Larger a b) o) (max-answered w p q ha hb) (max-meets w a b ha hb)) .1
 
 -- the step means what it should, where nothing refuses it
-fixed-extended : (w a s : ℕ) (mark : Bool) (m : Layout) (packing : ℕ) → PowerOfTwo a → PowerOfTwo (memberAlign (m .align) packing)
+fixed-extended : (w a s : ℕ) (mark over : Bool) (m : Layout) (packing : ℕ) → PowerOfTwo a → PowerOfTwo (memberAlign (m .align) packing)
     → a < 2 ^ w → m .align < 2 ^ w
-    → Extended (record { align = a; info = fixed s; mark = mark }) m packing (extended (record { align = a; info = fixed s; mark = mark }) m packing)
+    → Extended (record { align = a; info = fixed s; mark = mark; modifier = over }) m packing (extended (record { align = a; info = fixed s; mark = mark; modifier = over }) m packing)
 unfolding extended
-fixed-extended w a s mark m packing p q ha hm =
+fixed-extended w a s mark over m packing p q ha hm =
     let b = memberAlign (m .align) packing in
     record {
       size = s;
@@ -114,15 +114,16 @@ fixed-extended w a s mark m packing p q ha hm =
       align = larger w p q ha (omega (arith, member-le (m .align) packing));
       info = refl;
       mark = tells-and (tells-true mark) (tells-and (tells-true (m .mark)) (tells-eq (up s b) s));
+      modifier = tells-or (tells-true over) (tells-true (m .modifier));
     }
 
 pub extended-is : (w : ℕ) (l m : Layout) (packing : ℕ) → l .align < 2 ^ w → m .align < 2 ^ w → packing < 2 ^ w
     → None (layoutCauses w l) → None (layoutCauses w m) → None (stepCauses w l m packing) → Extended l m packing (extended l m packing)
 extended-is w l m packing hl hm hp nl nm n = go (l .info) (n .1 .1 .0)
   where
-    go : (i : Info) → (IsTrailing i → ⊥) → Extended (record { align = l .align; info = i; mark = l .mark }) m packing (extended (record { align = l .align; info = i; mark = l .mark }) m packing)
+    go : (i : Info) → (IsTrailing i → ⊥) → Extended (record { align = l .align; info = i; mark = l .mark; modifier = l .modifier }) m packing (extended (record { align = l .align; info = i; mark = l .mark; modifier = l .modifier }) m packing)
     go (fixed s) z =
-        fixed-extended w (l .align) s (l .mark) m packing (power w (l .align) hl (nl .0))
+        fixed-extended w (l .align) s (l .mark) (l .modifier) m packing (power w (l .align) hl (nl .0))
         (member-power w packing (power w (m .align) hm (nm .0)) hp (n .0)) hl hm
     go (trailing t) z = absurd (z tt)
 
@@ -155,13 +156,13 @@ extend-step w l m packing e f =
     ∙ accepted-first (layoutCauses w m) (stepCauses w l m packing) tt (extended l m packing) f)
 
 -- the step after a fixed layout: it is refused by 8, or the rest goes by the place
-pub step-past : (w k s : ℕ) (mark : Bool) (m : Layout) (packing : ℕ) → M w < up s (memberAlign (m .align) packing)
-    → refused 8 ≡ unless (placeCauses w (record { align = k; info = fixed s; mark = mark }) m packing) (extended (record { align = k; info = fixed s; mark = mark }) m packing)
+pub step-past : (w k s : ℕ) (mark over : Bool) (m : Layout) (packing : ℕ) → M w < up s (memberAlign (m .align) packing)
+    → refused 8 ≡ unless (placeCauses w (record { align = k; info = fixed s; mark = mark; modifier = over }) m packing) (extended (record { align = k; info = fixed s; mark = mark; modifier = over }) m packing)
 unfolding unless
-step-past w k s mark m packing h = simp (lt-ltb (M w) (up s (memberAlign (m .align) packing)) h)
+step-past w k s mark over m packing h = simp (lt-ltb (M w) (up s (memberAlign (m .align) packing)) h)
 
-pub step-placed : (w k s : ℕ) (mark : Bool) (m : Layout) (packing : ℕ) → up s (memberAlign (m .align) packing) ≤ M w
-    → unless (memberPasses w (up s (memberAlign (m .align) packing)) (m .info) ∷ []) (extended (record { align = k; info = fixed s; mark = mark }) m packing)
-    ≡ unless (placeCauses w (record { align = k; info = fixed s; mark = mark }) m packing) (extended (record { align = k; info = fixed s; mark = mark }) m packing)
+pub step-placed : (w k s : ℕ) (mark over : Bool) (m : Layout) (packing : ℕ) → up s (memberAlign (m .align) packing) ≤ M w
+    → unless (memberPasses w (up s (memberAlign (m .align) packing)) (m .info) ∷ []) (extended (record { align = k; info = fixed s; mark = mark; modifier = over }) m packing)
+    ≡ unless (placeCauses w (record { align = k; info = fixed s; mark = mark; modifier = over }) m packing) (extended (record { align = k; info = fixed s; mark = mark; modifier = over }) m packing)
 unfolding unless
-step-placed w k s mark m packing h = simp (le-ltb (M w) (up s (memberAlign (m .align) packing)) h)
+step-placed w k s mark over m packing h = simp (le-ltb (M w) (up s (memberAlign (m .align) packing)) h)

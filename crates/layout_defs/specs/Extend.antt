@@ -39,11 +39,16 @@ placedAt q (trailing t) = trailing (record { offset = q + t .offset; elem = t .e
 abbrev pub stepMark : Layout → Layout → ℕ → Bool
 stepMark l m packing = l .mark && (m .mark && eqb (placeOf l m packing) (precedingSize (l .info)))
 
+-- the alignment modifier after the step: either had one
+abbrev pub stepModifier : Layout → Layout → Bool
+stepModifier l m = l .modifier || m .modifier
+
 unfoldable pub extended : Layout → Layout → ℕ → Layout
 extended l m packing = record {
   align = stepAlign l m packing;
   info = placedAt (placeOf l m packing) (m .info);
   mark = stepMark l m packing;
+  modifier = stepModifier l m;
 }
 
 -- 5: the packing is no power of two
@@ -134,3 +139,4 @@ pub record Extended (l m : Layout) (packing : ℕ) (r : Layout) : Type 0 where
   pub align : Larger (l .align) (memberAlign (m .align) packing) (r .align)
   pub info : r .info ≡ placedAt place (m .info)
   pub mark : Tells ((l .mark ≡ true) × ((m .mark ≡ true) × (place ≡ size))) (r .mark)
+  pub modifier : Tells ((l .modifier ≡ true) ⊎ (m .modifier ≡ true)) (r .modifier)

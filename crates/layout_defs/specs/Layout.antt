@@ -13,11 +13,20 @@ pub data Info : Type 0 where
   fixed : ℕ → Info
   trailing : Trailing → Info
 
--- a layout: its alignment, what its size is, and the mark: no padding is known between its members
+-- a layout: its alignment, what its size is, the mark: no padding is known between its members, and whether an alignment modifier
+-- (the Reference's `align`) was asked for, of it or of a member at any depth
 pub record Layout : Type 0 where
   pub align : ℕ
   pub info : Info
   pub mark : Bool
+  pub modifier : Bool
+
+-- both marks
+abbrev pub Marks : Type 0
+Marks = Bool × Bool
+
+abbrev pub marks : Layout → Marks
+marks l = (l .mark, l .modifier)
 
 -- a fixed layout has one count, 0; every number is a count of a trailing one, though its size there may pass M
 abbrev pub IsCount : Info → ℕ → Type 0

@@ -27,4 +27,7 @@ fn main() {
     list(b"too_long");
     list(b"sum");
     list(b"padding");
+    list(b"modifier");
+    list(b"modifier_run");
+    list(b"kind_8");
 }

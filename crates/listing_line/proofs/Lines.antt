@@ -10,7 +10,7 @@ use lib.Dec.{ltb}
 use lib.ListN.{length, set, drop, length-append}
 use lib.Seq.{sets, sets-eq, length-sets, length-take-le}
 use Rattle.io.specs.Counts.{Counts}
-use Rattle.compose.specs.Compose.{Composed, refusedAt, structFor}
+use Rattle.compose_defs.specs.Compose.{Composed, refusedAt, ported, structFor}
 use Rattle.words.proofs.LittleEndian.{sets-sets}
 use Rattle.listing_line.specs.Line.{digitsOf, decimal, atText, lineOf, listFor, lineLength, lineInto}
 
@@ -85,7 +85,7 @@ pub list-long : (w : ℕ) (s : List ℕ) → 65520 < length s → listFor w s �
 unfolding listFor
 list-long w s h = rw (lt-ltb 65520 (length s) h)
 
-pub list-taken : (w : ℕ) (s : List ℕ) → length s ≤ 65520 → listFor w s ≡ structFor w 0 0 s
+pub list-taken : (w : ℕ) (s : List ℕ) → length s ≤ 65520 → listFor w s ≡ structFor w ported 0 0 s
 unfolding listFor
 list-taken w s h = rw (le-ltb 65520 (length s) h)
 

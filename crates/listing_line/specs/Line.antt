@@ -5,7 +5,7 @@ use Prim.Native.Nat.{ℕ, zero, suc, _+_, _/_, _%_}
 use lib.Dec.{ltb}
 use lib.ListN.{length, drop}
 use Rattle.record_defs.specs.Record.{Words, wordsOf}
-use Rattle.compose.specs.Compose.{Composed, composed, refusedAt, structFor}
+use Rattle.compose_defs.specs.Compose.{Composed, composed, refusedAt, ported, structFor}
 
 -- a number in decimal, in at most k digits, in ASCII
 abbrev pub digitsOf : ℕ → ℕ → List ℕ
@@ -53,7 +53,7 @@ greatestList = 65520
 
 -- the composition of the list without alignment or packing
 unfoldable pub listFor : ℕ → List ℕ → Composed
-listFor w s = cond (ltb greatestList (length s)) (refusedAt 20 0) (structFor w 0 0 s)
+listFor w s = cond (ltb greatestList (length s)) (refusedAt 20 0) (structFor w ported 0 0 s)
 
 -- `line`: a line has at most 126 bytes, six numbers of 64 bits with a byte behind each. Into as many lent bytes the line is
 -- written, from the first on, and its length is the answer; fewer are left as they were, and the answer is 0.

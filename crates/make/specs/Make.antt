@@ -1,7 +1,7 @@
 -- Layouts made of numbers (document 01, module 4; the Reference's rules layout.properties.align and layout.properties.size).
 -- Assumes nothing.
 use mathlib.Core.Path.{_≡_}
-use mathlib.Core.Bool.{Bool, true, cond, not}
+use mathlib.Core.Bool.{Bool, true, false, cond, not}
 use mathlib.Core.List.{List, [], _∷_}
 use Prim.Native.Nat.{ℕ, _%_}
 use lib.Dec.{eqb}
@@ -13,9 +13,9 @@ use Rattle.layout_defs.specs.Layout.{Layout, fixed, trailing}
 abbrev pub asked : ℕ → ℕ
 asked a = cond (eqb a 0) 1 a
 
--- the empty layout
+-- the empty layout; that an alignment was asked for is an alignment modifier, 1 too
 abbrev pub emptyLayout : ℕ → Layout
-emptyLayout a = record { align = asked a; info = fixed 0; mark = true }
+emptyLayout a = record { align = asked a; info = fixed 0; mark = true; modifier = not (eqb a 0) }
 
 -- `new_zst`
 unfoldable pub newZstFor : ℕ → ℕ → Outcome Layout
@@ -30,14 +30,15 @@ typeCauses w size a = badAlign w a ∷ sizeNotMultiple size a ∷ []
 
 -- `for_type` and `for_unpadded_type`
 abbrev pub typeLayout : Bool → ℕ → ℕ → Layout
-typeLayout mark size a = record { align = a; info = fixed size; mark = mark }
+typeLayout mark size a = record { align = a; info = fixed size; mark = mark; modifier = false }
 
 unfoldable pub typeFor : ℕ → Bool → ℕ → ℕ → Outcome Layout
 typeFor w mark size a = unless (typeCauses w size a) (typeLayout mark size a)
 
 -- `for_slice`: o = b = 0, e the size, phase 0
 abbrev pub sliceLayout : ℕ → ℕ → Layout
-sliceLayout size a = record { align = a; info = trailing (record { offset = 0; elem = size; base = 0; word = a }); mark = true }
+sliceLayout size a =
+    record { align = a; info = trailing (record { offset = 0; elem = size; base = 0; word = a }); mark = true; modifier = false }
 
 unfoldable pub sliceFor : ℕ → ℕ → ℕ → Outcome Layout
 sliceFor w size a = unless (typeCauses w size a) (sliceLayout size a)

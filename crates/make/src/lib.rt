@@ -35,6 +35,7 @@ fn for_marked_type(size: u64, align: u64, unpadded: bool) -> LayoutAnswer
                 align,
                 size_info: SizeInfo::Sized { size },
                 statically_shallow_unpadded: unpadded,
+                align_modifier: false,
             })
         } else {
             LayoutAnswer::Refused(refusal::SIZE_NOT_MULTIPLE_OF_ALIGN)
@@ -55,6 +56,7 @@ pub fn new_zst(repr_align: u64) -> LayoutAnswer
             align,
             size_info: SizeInfo::Sized { size: 0 },
             statically_shallow_unpadded: true,
+            align_modifier: repr_align != 0,
         })
     } else {
         LayoutAnswer::Refused(refusal::ALIGN_NOT_POWER_OF_TWO)
@@ -94,6 +96,7 @@ pub fn for_slice(size: u64, align: u64) -> LayoutAnswer
                     size_rounding_align_and_phase: RoundingAlignAndPhase(align),
                 }),
                 statically_shallow_unpadded: true,
+                align_modifier: false,
             })
         } else {
             LayoutAnswer::Refused(refusal::SIZE_NOT_MULTIPLE_OF_ALIGN)

@@ -19,6 +19,7 @@ fn fixed(align: u64) -> DstLayout {
         align,
         size_info: SizeInfo::Sized { size: 8 },
         statically_shallow_unpadded: true,
+        align_modifier: false,
     }
 }
 
@@ -32,6 +33,7 @@ fn trailing(word: u64) -> DstLayout {
             size_rounding_align_and_phase: RoundingAlignAndPhase(word),
         }),
         statically_shallow_unpadded: true,
+        align_modifier: false,
     }
 }
 

@@ -125,12 +125,14 @@ fn pad_checked(layout: DstLayout) -> LayoutAnswer
     let align = layout.align;
     let size_info = layout.size_info;
     let unpadded = pad_mark(size_info, align, layout.statically_shallow_unpadded);
+    let align_modifier = layout.align_modifier;
     match size_info {
         SizeInfo::Sized { size } => match layout::round_up(size, align) {
             Answer::Number(padded) => LayoutAnswer::Layout(DstLayout {
                 align,
                 size_info: SizeInfo::Sized { size: padded },
                 statically_shallow_unpadded: unpadded,
+                align_modifier,
             }),
             Answer::Refused(number) => LayoutAnswer::Refused(number),
         },
@@ -139,6 +141,7 @@ fn pad_checked(layout: DstLayout) -> LayoutAnswer
                 align,
                 size_info: padded_info,
                 statically_shallow_unpadded: unpadded,
+                align_modifier,
             }),
             SizeInfoAnswer::Refused(number) => LayoutAnswer::Refused(number),
         },

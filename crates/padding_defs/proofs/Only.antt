@@ -31,7 +31,7 @@ one-info w a (trailing t) (trailing u) (fixed r) x y = absurd y
 one-info w a (trailing t) (fixed r) k x y = absurd x
 
 pub one-padded : {w : ℕ} {l : Layout} (r s : Layout) → Padded w l r → Padded w l s → r ≡ s
-one-padded {w} {l} r s x y = λ i. record { align = (x .align ∙ sym (y .align)) i; info = same i; mark = agree (x .mark) marks i }
+one-padded {w} {l} r s x y = λ i. record { align = (x .align ∙ sym (y .align)) i; info = same i; mark = agree (x .mark) marks i; modifier = (x .modifier ∙ sym (y .modifier)) i }
   where
     same : r .info ≡ s .info
     same = one-info w (l .align) (l .info) (r .info) (s .info) (x .info) (y .info)

@@ -139,6 +139,7 @@ padded-is w l h z =
       align = refl;
       info = info-padded w (l .info) q;
       mark = mark-told w (l .align) (l .info) (l .mark);
+      modifier = refl;
       sizes = λ n _. info-sizes w (l .info) n q h (z .1 .0);
     }
 

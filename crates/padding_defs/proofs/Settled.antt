@@ -70,7 +70,7 @@ padded-again w l h n =
     let q : PowerOfTwo (l .align) = power w (l .align) h (n .0) in
     let x = info-settled w (l .info) q h (n .1 .0) (omega (arith, n .1 .1 .0)) in
     clear (padCauses w (padded w l)) (pad-decided w (padded w l) h) (n .0, (x .word, ((λ y. omega (arith, x .within)), tt)))
-    ∙ (λ i. answered (record { align = l .align; info = x .same i; mark = mark-settled w (l .info) (l .mark) (positive q) i }))
+    ∙ (λ i. answered (record { align = l .align; info = x .same i; mark = mark-settled w (l .info) (l .mark) (positive q) i; modifier = l .modifier }))
 
 pub pad-again : (w : ℕ) (l : Layout) {r : Layout} → l .align < 2 ^ w → padFor w l ≡ answered r → padFor w r ≡ answered r
 unfolding padFor

@@ -43,6 +43,7 @@ padded w l = record {
   align = l .align;
   info = paddedInfo w (l .align) (l .info);
   mark = paddedMark (l .align) (l .info) (l .mark);
+  modifier = l .modifier;
 }
 
 -- the number that rounding up must not take past M
@@ -83,6 +84,7 @@ pub record Padded (w : ℕ) (l r : Layout) : Type 0 where
   pub align : r .align ≡ l .align
   pub info : PaddedInfo w (l .align) (l .info) (r .info)
   pub mark : Tells ((l .mark ≡ true) × KeepsMark (l .info) (r .info)) (r .mark)
+  pub modifier : r .modifier ≡ l .modifier
   pub sizes : (n : ℕ) → IsCount (l .info) n → sizeIn w (r .info) n ≡ up (sizeIn w (l .info) n) (l .align)
 
 -- `requires_static_padding`: the mark is unset

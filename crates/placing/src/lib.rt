@@ -1,7 +1,7 @@
 // The last part of the member step, after zerocopy's method extend of DstLayout: a member put at its place. It stands in a crate
 // of its own, since an edit of it then proves none of the step's other functions again.
 ghost use mathlib.Core.Path.{_≡_};
-ghost use mathlib.Core.Bool.{_&&_};
+ghost use mathlib.Core.Bool.{_&&_, _||_};
 ghost use mathlib.Core.List.{[], _∷_};
 ghost use Prim.Native.Nat.{max};
 ghost use lib.Dec.{eqb};
@@ -80,6 +80,13 @@ fn step_mark(unpadded: bool, field_unpadded: bool, preceding_size: u64, place: u
     }
 }
 
+// Whether one of two was asked for an alignment.
+fn either(a: bool, b: bool) -> bool
+    ensures { λ r. ⌜ r ≡ (a || b) ⌝ }
+{
+    if a { true } else { b }
+}
+
 // The layout with a member more whose alignment, field_align, and place are known.
 pub fn extend_at(own: SizedLayout, field: DstLayout, field_align: u64, place: u64) -> LayoutAnswer
     ensures { λ r. ⌜
@@ -88,6 +95,7 @@ pub fn extend_at(own: SizedLayout, field: DstLayout, field_align: u64, place: u6
           align = max (own .align) «field_align»;
           info = placedAt place (infoOf (field .«size_info»));
           mark = own .«statically_shallow_unpadded» && (field .«statically_shallow_unpadded» && eqb place (own .size));
+          modifier = own .«align_modifier» || field .«align_modifier»;
         })
         ⌝ }
 {
@@ -103,6 +111,7 @@ pub fn extend_at(own: SizedLayout, field: DstLayout, field_align: u64, place: u6
             align: larger(own.align, field_align),
             size_info,
             statically_shallow_unpadded: unpadded,
+            align_modifier: either(own.align_modifier, field.align_modifier),
         }),
         SizeInfoAnswer::Refused(number) => LayoutAnswer::Refused(number),
     }

@@ -39,16 +39,12 @@ pub enum EncodeAnswer {
 // The bytes of a record.
 pub const RECORD_BYTES: usize = 48;
 
-// The kinds of a record.
+// The kind of a record: one of these two, 1 more with the mark, and 4 more with an alignment modifier.
 pub const KIND_FIXED: u64 = 0;
-
-pub const KIND_FIXED_MARKED: u64 = 1;
 
 pub const KIND_TRAILING: u64 = 2;
 
-pub const KIND_TRAILING_MARKED: u64 = 3;
-
-pub const GREATEST_KIND: u64 = KIND_TRAILING_MARKED;
+pub const GREATEST_KIND: u64 = 7;
 
 // A fixed record has nothing after its size.
 fn later_words_zero(offset: u64, elem_size: u64, word: u64) -> bool
@@ -75,12 +71,14 @@ pub fn layout_from_words(words: Words) -> LayoutAnswer
     }
     if util::is_power_of_two(align) {
         let unpadded = kind % 2 == 1;
-        if kind < KIND_TRAILING {
+        let align_modifier = kind / 4 % 2 == 1;
+        if kind / 2 % 2 == 0 {
             if later_words_zero(words.offset, words.elem_size, word) {
                 return LayoutAnswer::Layout(DstLayout {
                     align,
                     size_info: SizeInfo::Sized { size: words.size },
                     statically_shallow_unpadded: unpadded,
+                    align_modifier,
                 });
             }
             return LayoutAnswer::Refused(refusal::FIXED_RECORD);
@@ -97,16 +95,23 @@ pub fn layout_from_words(words: Words) -> LayoutAnswer
                 size_rounding_align_and_phase: RoundingAlignAndPhase(word),
             }),
             statically_shallow_unpadded: unpadded,
+            align_modifier,
         });
     }
     LayoutAnswer::Refused(refusal::ALIGN_NOT_POWER_OF_TWO)
 }
 
-fn marked_kind(kind: u64, unpadded: bool) -> u64
+fn marked_kind(kind: u64, unpadded: bool, align_modifier: bool) -> u64
     requires { ⌜ kind < 3 ⌝ }
-    ensures { λ r. ⌜ r ≡ cond unpadded (kind + 1) kind ⌝ }
+    ensures { λ r. ⌜ r ≡ kind + cond unpadded 1 0 + cond «align_modifier» 4 0 ⌝ }
 {
-    if unpadded { kind + 1 } else { kind }
+    if unpadded {
+        if align_modifier { kind + 5 } else { kind + 1 }
+    } else if align_modifier {
+        kind + 4
+    } else {
+        kind
+    }
 }
 
 // The six words of a layout's record.
@@ -117,7 +122,7 @@ pub fn words_from_layout(l: DstLayout) -> Words
     match size_info {
         SizeInfo::Sized { size } => Words {
             align: l.align,
-            kind: marked_kind(KIND_FIXED, l.statically_shallow_unpadded),
+            kind: marked_kind(KIND_FIXED, l.statically_shallow_unpadded, l.align_modifier),
             size,
             offset: 0,
             elem_size: 0,
@@ -127,7 +132,11 @@ pub fn words_from_layout(l: DstLayout) -> Words
             let word = tail.size_rounding_align_and_phase;
             Words {
                 align: l.align,
-                kind: marked_kind(KIND_TRAILING, l.statically_shallow_unpadded),
+                kind: marked_kind(
+                    KIND_TRAILING,
+                    l.statically_shallow_unpadded,
+                    l.align_modifier,
+                ),
                 size: tail.size_base,
                 offset: tail.offset,
                 elem_size: tail.elem_size,

@@ -2,7 +2,7 @@
 use mathlib.Core.Path.{_≡_, refl, sym, ap, _∙_}
 use mathlib.Core.Bool.{Bool, true, false, cond, _&&_}
 use mathlib.Core.List.{List, _++_}
-use Prim.Native.Nat.{ℕ, zero, suc, _+_, _^_, _≤_, _<_}
+use Prim.Native.Nat.{ℕ, zero, suc, _+_, _/_, _%_, _^_, _≤_, _<_}
 use native.Mathlib.Omega.{arith}
 use borrow.Author.Tests.{eq-eqb, ne-eqb}
 use lib.Dec.{eqb}
@@ -15,7 +15,7 @@ use Rattle.trailing_defs.specs.Size.{Trailing}
 use Rattle.layout_defs.specs.Layout.{fixed, trailing, Layout, checkFor}
 use Rattle.words.specs.Bytes.{bytesOf, wordAt, wordBytes, putInto}
 use Rattle.words.proofs.LittleEndian.{sets-whole, word-length, put-within, put-next, more}
-use Rattle.record_defs.specs.Record.{Words, wordsAt, recordBytes, wordsOf, wordsLayout, laterWord, trailingWordZero, wordsCauses, recordCauses, wordsFor, decodeFor, Decodes, infoWords, writeFor, after, writtenInto, encodeFor}
+use Rattle.record_defs.specs.Record.{Words, IsFixedKind, wordsAt, recordBytes, wordsOf, wordsLayout, laterWord, trailingWordZero, wordsCauses, recordCauses, wordsFor, decodeFor, Decodes, infoWords, writeFor, after, writtenInto, encodeFor}
 
 -- the bytes of a record
 pub record-length : (r : Words) → length (recordBytes r) ≡ 48
@@ -41,25 +41,29 @@ zeros : (o e v : ℕ) → Tells ((o ≡ 0) × ((e ≡ 0) × (v ≡ 0))) (eqb o 0
 zeros o e v = tells-and (tells-eq o 0) (tells-and (tells-eq e 0) (tells-eq v 0))
 
 pub later-decided : (r : Words) → Tells (laterWord r .means) (laterWord r .test)
-later-decided r = tells-and (tells-lt (r .kind) 2) (tells-not (zeros (r .offset) (r .elem) (r .word)))
+later-decided r = tells-and (tells-eq (r .kind / 2 % 2) 0) (tells-not (zeros (r .offset) (r .elem) (r .word)))
 
 zero-decided : (r : Words) → Tells (trailingWordZero r .means) (trailingWordZero r .test)
-zero-decided r = tells-and (tells-le 2 (r .kind)) (tells-eq (r .word) 0)
+zero-decided r = tells-and (tells-not (tells-eq (r .kind / 2 % 2) 0)) (tells-eq (r .word) 0)
 
 pub words-decided : (w : ℕ) (r : Words) → r .align < 2 ^ w → Decided (wordsCauses w r)
-words-decided w r h = (tells-lt 3 (r .kind), λ _. (align-decided w (r .align) h, λ _. (later-decided r, λ _. (zero-decided r, λ _. tt))))
+words-decided w r h = (tells-lt 7 (r .kind), λ _. (align-decided w (r .align) h, λ _. (later-decided r, λ _. (zero-decided r, λ _. tt))))
 
 pub record-decided : (w : ℕ) (s : List ℕ) → wordAt s 0 < 2 ^ w → Decided (recordCauses w s)
 record-decided w s h = (tells-not (tells-eq (length s) 48), λ _. words-decided w (wordsAt s 0) h)
 
 -- words that are not refused are those of their layout
-pub decoded : (a k b o e v : ℕ) → (3 < k → ⊥) → ((k < 2) × ((o ≡ 0) × ((e ≡ 0) × (v ≡ 0)) → ⊥) → ⊥)
+pub decoded : (a k b o e v : ℕ) → (7 < k → ⊥) → (IsFixedKind k × ((o ≡ 0) × ((e ≡ 0) × (v ≡ 0)) → ⊥) → ⊥)
     → let r : Words = record { align = a; kind = k; size = b; offset = o; elem = e; word = v } in wordsOf (wordsLayout r) ≡ r
-decoded a zero b o e v g f = let z = known (zeros o e v) (λ n. f (omega arith, n)) in rw (z .0, z .1 .0, z .1 .1)
-decoded a (suc zero) b o e v g f = let z = known (zeros o e v) (λ n. f (omega arith, n)) in rw (z .0, z .1 .0, z .1 .1)
+decoded a zero b o e v g f = let z = known (zeros o e v) (λ n. f (refl, n)) in rw (z .0, z .1 .0, z .1 .1)
+decoded a (suc zero) b o e v g f = let z = known (zeros o e v) (λ n. f (refl, n)) in rw (z .0, z .1 .0, z .1 .1)
 decoded a (suc (suc zero)) b o e v g f = refl
 decoded a (suc (suc (suc zero))) b o e v g f = refl
-decoded a (suc (suc (suc (suc k)))) b o e v g f = absurd (g (omega arith))
+decoded a (suc (suc (suc (suc zero)))) b o e v g f = let z = known (zeros o e v) (λ n. f (refl, n)) in rw (z .0, z .1 .0, z .1 .1)
+decoded a (suc (suc (suc (suc (suc zero))))) b o e v g f = let z = known (zeros o e v) (λ n. f (refl, n)) in rw (z .0, z .1 .0, z .1 .1)
+decoded a (suc (suc (suc (suc (suc (suc zero)))))) b o e v g f = refl
+decoded a (suc (suc (suc (suc (suc (suc (suc zero))))))) b o e v g f = refl
+decoded a (suc (suc (suc (suc (suc (suc (suc (suc k)))))))) b o e v g f = absurd (g (omega arith))
 
 pub words-decode : (w : ℕ) (r : Words) → None (wordsCauses w r) → Decodes r (wordsLayout r)
 words-decode w r n = decoded (r .align) (r .kind) (r .size) (r .offset) (r .elem) (r .word) (n .0) (n .1 .1 .0)
@@ -77,14 +81,12 @@ pub decode-words : (w : ℕ) (s : List ℕ) → length s ≡ 48 → decodeFor w 
 unfolding decodeFor wordsFor unless
 decode-words w s h = simp (eq-eqb (length s) 48 h)
 
--- the words of a layout, of which the kind is one more where it has the mark
-pub fixed-words : (a k s : ℕ) (m : Bool) → k ≡ cond m (0 + 1) 0 → infoWords a k (fixed s) ≡ wordsOf (record { align = a; info = fixed s; mark = m })
-fixed-words a k s true e = rw e
-fixed-words a k s false e = rw e
+-- the words of a layout by its kind
+pub fixed-words : (a k s : ℕ) (m u : Bool) → k ≡ 0 + cond m 1 0 + cond u 4 0 → infoWords a k (fixed s) ≡ wordsOf (record { align = a; info = fixed s; mark = m; modifier = u })
+fixed-words a k s m u e = rw e
 
-pub trailing-words : (a k : ℕ) (t : Trailing) (m : Bool) → k ≡ cond m (2 + 1) 2 → infoWords a k (trailing t) ≡ wordsOf (record { align = a; info = trailing t; mark = m })
-trailing-words a k t true e = rw e
-trailing-words a k t false e = rw e
+pub trailing-words : (a k : ℕ) (t : Trailing) (m u : Bool) → k ≡ 2 + cond m 1 0 + cond u 4 0 → infoWords a k (trailing t) ≡ wordsOf (record { align = a; info = trailing t; mark = m; modifier = u })
+trailing-words a k t m u e = rw e
 
 -- what encoding gives and leaves: the record where the layout is accepted, and the bytes as they were where it is not
 pub encode-checked : (w : ℕ) (l : Layout) (n : ℕ) → n ≡ 48 → encodeFor w l n ≡ checkFor w l

@@ -24,24 +24,32 @@ past true n o e = absurd (apart e)
 past false n o e = (refl, e)
 
 -- the words of a layout are read as the layout, where it is accepted
-pub words-checked : (w a : ℕ) (i : Info) (m : Bool)
-    → let l : Layout = record { align = a; info = i; mark = m } in wordsFor w (wordsOf l) ≡ unless (layoutCauses w l) l
+pub words-checked : (w a : ℕ) (i : Info) (m u : Bool)
+    → let l : Layout = record { align = a; info = i; mark = m; modifier = u } in wordsFor w (wordsOf l) ≡ unless (layoutCauses w l) l
 unfolding wordsFor unless
-words-checked w a (fixed s) true = refl
-words-checked w a (fixed s) false = refl
-words-checked w a (trailing t) true = refl
-words-checked w a (trailing t) false = refl
+words-checked w a (fixed s) true true = refl
+words-checked w a (fixed s) true false = refl
+words-checked w a (fixed s) false true = refl
+words-checked w a (fixed s) false false = refl
+words-checked w a (trailing t) true true = refl
+words-checked w a (trailing t) true false = refl
+words-checked w a (trailing t) false true = refl
+words-checked w a (trailing t) false false = refl
 
 -- so the words of a layout are written where the layout is
 pub words-encoded : (w : ℕ) (l : Layout) (n : ℕ) → encodeWordsFor w (wordsOf l) n ≡ encodeFor w l n
 unfolding encodeWordsFor encodeFor unless
-words-encoded w l n = go (l .info) (l .mark)
+words-encoded w l n = go (l .info) (l .mark) (l .modifier)
   where
-    go : (i : Info) (m : Bool) → let l : Layout = record { align = l .align; info = i; mark = m } in writeFor (wordsCauses w (wordsOf l)) n ≡ writeFor (layoutCauses w l) n
-    go (fixed s) true = refl
-    go (fixed s) false = refl
-    go (trailing t) true = refl
-    go (trailing t) false = refl
+    go : (i : Info) (m u : Bool) → let l : Layout = record { align = l .align; info = i; mark = m; modifier = u } in writeFor (wordsCauses w (wordsOf l)) n ≡ writeFor (layoutCauses w l) n
+    go (fixed s) true true = refl
+    go (fixed s) true false = refl
+    go (fixed s) false true = refl
+    go (fixed s) false false = refl
+    go (trailing t) true true = refl
+    go (trailing t) true false = refl
+    go (trailing t) false true = refl
+    go (trailing t) false false = refl
 
 -- each word is held in its eight bytes
 pub record Fits (r : Words) : Type 0 where
@@ -74,7 +82,7 @@ unfolding checkFor
 layout-back w l f e =
     decode-words w (recordBytes (wordsOf l)) (record-length (wordsOf l))
     ∙ ap (wordsFor w) (words-back (wordsOf l) f)
-    ∙ words-checked w (l .align) (l .info) (l .mark)
+    ∙ words-checked w (l .align) (l .info) (l .mark) (l .modifier)
     ∙ accepted-as (layoutCauses w l) tt l e
 
 encode-accepts : (w : ℕ) (l : Layout) (n : ℕ) → encodeFor w l n ≡ answered tt → checkFor w l ≡ answered tt
@@ -100,10 +108,10 @@ decoded-length w s e = known (tells-eq (length s) 48) (no (tells-not (tells-eq (
 pub words-kept : (w : ℕ) (r : Words) {l : Layout} → wordsFor w r ≡ answered l → wordsOf l ≡ r
 unfolding wordsFor unless
 words-kept w r {l} e =
-    let q1 = past (ltb 3 (r .kind)) 21 _ e in
+    let q1 = past (ltb 7 (r .kind)) 21 _ e in
     let q2 = past (badAlign w (r .align) .test) 1 _ (q1 .1) in
     let q3 = past (laterWord r .test) 22 _ (q2 .1) in
-    ap wordsOf (answer-is (wordsCauses w r) (wordsLayout r) e) ∙ decoded (r .align) (r .kind) (r .size) (r .offset) (r .elem) (r .word) (no (tells-lt 3 (r .kind)) (q1 .0)) (no (later-decided r) (q3 .0))
+    ap wordsOf (answer-is (wordsCauses w r) (wordsLayout r) e) ∙ decoded (r .align) (r .kind) (r .size) (r .offset) (r .elem) (r .word) (no (tells-lt 7 (r .kind)) (q1 .0)) (no (later-decided r) (q3 .0))
 
 decoded-words : (w : ℕ) (s : List ℕ) {l : Layout} → decodeFor w s ≡ answered l → wordsFor w (wordsAt s 0) ≡ answered l
 decoded-words w s e = sym (decode-words w s (decoded-length w s e)) ∙ e
@@ -117,7 +125,7 @@ decoded-accepted : (w : ℕ) (s : List ℕ) {l : Layout} → decodeFor w s ≡ a
 unfolding checkFor
 decoded-accepted w s {l} e =
     let k = words-kept w (wordsAt s 0) (decoded-words w s e) in
-    accepted-as (layoutCauses w l) l tt (sym (words-checked w (l .align) (l .info) (l .mark)) ∙ ap (wordsFor w) k ∙ decoded-words w s e)
+    accepted-as (layoutCauses w l) l tt (sym (words-checked w (l .align) (l .info) (l .mark) (l .modifier)) ∙ ap (wordsFor w) k ∙ decoded-words w s e)
 
 pub encode-decoded : (w : ℕ) (s out : List ℕ) {l : Layout} → AllBytes s → length out ≡ 48 → decodeFor w s ≡ answered l → encodedInto w l out ≡ s
 encode-decoded w s out {l} h n e =

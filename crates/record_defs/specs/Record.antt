@@ -2,8 +2,8 @@
 use mathlib.Core.Path.{_≡_}
 use mathlib.Core.Bool.{Bool, true, false, cond, not, _&&_}
 use mathlib.Core.List.{List, [], _∷_, _++_}
-use Prim.Native.Nat.{ℕ, _+_, _*_, _%_, _≤_, _<_}
-use lib.Dec.{eqb, leb, ltb}
+use Prim.Native.Nat.{ℕ, _+_, _*_, _/_, _%_, _<_}
+use lib.Dec.{eqb, ltb}
 use lib.ListN.{length}
 use Rattle.util_defs.specs.Refusal.{Outcome, answered, refused, Cause, unless}
 use Rattle.util_defs.specs.Helpers.{badAlign}
@@ -39,21 +39,25 @@ recordBytes r =
     wordBytes (r .align) ++ wordBytes (r .kind) ++ wordBytes (r .size)
     ++ wordBytes (r .offset) ++ wordBytes (r .elem) ++ wordBytes (r .word)
 
--- the kind: 0 fixed, 1 fixed with the mark, 2 trailing, 3 trailing with the mark
+-- the kind: 0 fixed or 2 trailing, 1 more with the mark, 4 more with an alignment modifier
 abbrev pub greatestKind : ℕ
-greatestKind = 3
+greatestKind = 7
+
+abbrev pub IsFixedKind : ℕ → Type 0
+IsFixedKind k = k / 2 % 2 ≡ 0
 
 abbrev pub isFixedKind : ℕ → Bool
-isFixedKind k = ltb k 2
+isFixedKind k = eqb (k / 2 % 2) 0
 
 abbrev pub isMarkedKind : ℕ → Bool
 isMarkedKind k = eqb (k % 2) 1
 
-abbrev pub kindOf : Info → Bool → ℕ
-kindOf (fixed s) false = 0
-kindOf (fixed s) true = 1
-kindOf (trailing t) false = 2
-kindOf (trailing t) true = 3
+abbrev pub isModifiedKind : ℕ → Bool
+isModifiedKind k = eqb (k / 4 % 2) 1
+
+abbrev pub kindOf : Info → Bool → Bool → ℕ
+kindOf (fixed s) mark over = 0 + cond mark 1 0 + cond over 4 0
+kindOf (trailing t) mark over = 2 + cond mark 1 0 + cond over 4 0
 
 -- the words of a layout; the last three are 0 when it is fixed
 abbrev pub infoWords : ℕ → ℕ → Info → Words
@@ -61,7 +65,7 @@ infoWords a k (fixed s) = record { align = a; kind = k; size = s; offset = 0; el
 infoWords a k (trailing t) = record { align = a; kind = k; size = t .base; offset = t .offset; elem = t .elem; word = t .word }
 
 abbrev pub wordsOf : Layout → Words
-wordsOf l = infoWords (l .align) (kindOf (l .info) (l .mark)) (l .info)
+wordsOf l = infoWords (l .align) (kindOf (l .info) (l .mark) (l .modifier)) (l .info)
 
 -- the layout of words that are not refused
 abbrev pub wordsInfo : Words → Info
@@ -70,7 +74,8 @@ wordsInfo r =
     (trailing (record { offset = r .offset; elem = r .elem; base = r .size; word = r .word }))
 
 abbrev pub wordsLayout : Words → Layout
-wordsLayout r = record { align = r .align; info = wordsInfo r; mark = isMarkedKind (r .kind) }
+wordsLayout r =
+    record { align = r .align; info = wordsInfo r; mark = isMarkedKind (r .kind); modifier = isModifiedKind (r .kind) }
 
 -- 20: a record is not 48 bytes long
 abbrev pub badLength : ℕ → Cause
@@ -85,15 +90,15 @@ abbrev pub laterWord : Words → Cause
 laterWord r = record {
   number = 22;
   test = isFixedKind (r .kind) && not (eqb (r .offset) 0 && (eqb (r .elem) 0 && eqb (r .word) 0));
-  means = (r .kind < 2) × ((r .offset ≡ 0) × ((r .elem ≡ 0) × (r .word ≡ 0)) → ⊥);
+  means = IsFixedKind (r .kind) × ((r .offset ≡ 0) × ((r .elem ≡ 0) × (r .word ≡ 0)) → ⊥);
 }
 
 -- 2: a trailing record's rounding word is 0
 abbrev pub trailingWordZero : Words → Cause
 trailingWordZero r = record {
   number = 2;
-  test = leb 2 (r .kind) && eqb (r .word) 0;
-  means = (2 ≤ r .kind) × (r .word ≡ 0);
+  test = not (isFixedKind (r .kind)) && eqb (r .word) 0;
+  means = (IsFixedKind (r .kind) → ⊥) × (r .word ≡ 0);
 }
 
 -- what refuses six words; what refuses a record, whose length is tested before

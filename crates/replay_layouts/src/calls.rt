@@ -149,23 +149,21 @@ fn encode(line: &[u64; WIDTH]) -> Told {
     tell_layout(7, answer)
 }
 
-fn compose(line: &[u64; WIDTH]) -> Told {
-    let length = line[3] as usize;
-    if length > BYTES {
-        return tell_none();
+fn composition(number: u64, repr_align: u64, repr_packed: u64, members: &[u8]) -> ComposedOut {
+    match number {
+        26 => exports_layouts::lukaripe_compose(repr_align, repr_packed, members),
+        27 => exports_layouts::lukaripe_for_repr_c_struct(repr_align, repr_packed, members),
+        _ => exports_strict::lukaripe_for_repr_c_struct_strict(repr_align, repr_packed, members),
     }
-    let bytes = bytes_from(line, 4);
-    let answer = exports_layouts::lukaripe_compose(line[1], line[2], &bytes[..length]);
-    tell_composed(3 + (length + 7) / 8, answer)
 }
 
-fn for_repr_c_struct(line: &[u64; WIDTH]) -> Told {
+fn composed(line: &[u64; WIDTH]) -> Told {
     let length = line[3] as usize;
     if length > BYTES {
         return tell_none();
     }
     let bytes = bytes_from(line, 4);
-    let answer = exports_layouts::lukaripe_for_repr_c_struct(line[1], line[2], &bytes[..length]);
+    let answer = composition(line[0], line[1], line[2], &bytes[..length]);
     tell_composed(3 + (length + 7) / 8, answer)
 }
 
@@ -187,8 +185,7 @@ fn listed(line: &[u64; WIDTH]) -> Told {
     match line[0] {
         23 => decode(line),
         24 => encode(line),
-        26 => compose(line),
-        27 => for_repr_c_struct(line),
+        26 | 27 | 34 => composed(line),
         _ => made(line),
     }
 }

@@ -36,5 +36,6 @@ pub fn scalar(code: u64) -> LayoutAnswer
         align: size,
         size_info: SizeInfo::Sized { size },
         statically_shallow_unpadded: true,
+        align_modifier: false,
     })
 }

@@ -13,7 +13,7 @@ use Rattle.util_defs.proofs.Refusals.{told-true, tells-eq, tells-le, tells-and,
 use Rattle.util_defs.proofs.Tables.{decided-both, none-both}
 use Rattle.util_defs.proofs.Rounding.{multiple, same-multiple}
 use Rattle.trailing_defs.specs.Size.{Trailing, sizeAt, HasSize, sizeOffset}
-use Rattle.layout_defs.specs.Layout.{Info, fixed, trailing, Layout, layoutCauses}
+use Rattle.layout_defs.specs.Layout.{Marks, marks, Info, fixed, trailing, Layout, layoutCauses}
 use Rattle.layout_defs.proofs.Layouts.{layout-decided}
 use Rattle.cast_defs.specs.Exact.{ExactCount, exactFor}
 use Rattle.cast_defs.proofs.Exact.{exact-sound, exact-complete}
@@ -63,28 +63,28 @@ matching-complete : (w : ℕ) (same : Comparison) (s t : Trailing) (sh : Shift) 
 matching-complete w same s t sh d e m = ap (matchedShift w same s t) e ∙ simp (told-true (tells-matches w same s t d) m)
 
 -- a trailing target
-abbrev pub slice : ℕ → Bool → Trailing → Layout
-slice a k t = record { align = a; info = trailing t; mark = k }
+abbrev pub slice : ℕ → Marks → Trailing → Layout
+slice a k t = record { align = a; info = trailing t; mark = k .0; modifier = k .1 }
 
 -- the second way: the target's exact count of the source's size at 0
 answered-sound : {d : ℕ} (o : Outcome ℕ) → answeredBy o ≡ by d → o ≡ answered d
 answered-sound (answered c) e = ap answered (by-is e)
 answered-sound (refused c) e = absurd (by-not e)
 
-size-sound : (w a : ℕ) (k : Bool) (s t : Trailing) (d : ℕ) → a < 2 ^ w → 0 < w → bySize w s (slice a k t) ≡ by d → HasSize w s 0 × ExactCount w t (sizeAt w s 0) d
+size-sound : (w a : ℕ) (k : Marks) (s t : Trailing) (d : ℕ) → a < 2 ^ w → 0 < w → bySize w s (slice a k t) ≡ by d → HasSize w s 0 × ExactCount w t (sizeAt w s 0) d
 size-sound w a k s t d h pos e = go (tells-le (sizeAt w s 0) (M w)) e
   where
     go : {b : Bool} → Tells (HasSize w s 0) b → cond b (answeredBy (exactFor w (slice a k t) (sizeAt w s 0))) missing ≡ by d → HasSize w s 0 × ExactCount w t (sizeAt w s 0) d
     go (holds l) e = (l, exact-sound w (slice a k t) (sizeAt w s 0) d h pos (answered-sound (exactFor w (slice a k t) (sizeAt w s 0)) e))
     go (fails n) e = absurd (by-not e)
 
-size-complete : (w a : ℕ) (k : Bool) (s t : Trailing) (d : ℕ) → a < 2 ^ w → 0 < w → None (layoutCauses w (slice a k t)) → HasSize w s 0 → ExactCount w t (sizeAt w s 0) d
+size-complete : (w a : ℕ) (k : Marks) (s t : Trailing) (d : ℕ) → a < 2 ^ w → 0 < w → None (layoutCauses w (slice a k t)) → HasSize w s 0 → ExactCount w t (sizeAt w s 0) d
     → bySize w s (slice a k t) ≡ by d
 size-complete w a k s t d h pos ok l x =
     simp (le-leb (sizeAt w s 0) (M w) l) (ap answeredBy (exact-complete w (slice a k t) (sizeAt w s 0) d h pos ok x))
 
 -- the shift, by the first way or by the second
-pub shift-sound : (w a : ℕ) (k : Bool) (same : Comparison) (s t : Trailing) (d : ℕ) → a < 2 ^ w → 0 < w → 0 < t .elem
+pub shift-sound : (w a : ℕ) (k : Marks) (same : Comparison) (s t : Trailing) (d : ℕ) → a < 2 ^ w → 0 < w → 0 < t .elem
     → shiftOf w same s (slice a k t) t ≡ by d → IsShift w same s t d
 unfolding shiftOf
 shift-sound w a k same s t d h pos pe e = go (matchedShift w same s t (byOffset w s t)) refl e
@@ -103,7 +103,7 @@ shift-sound w a k same s t d h pos pe e = go (matchedShift w same s t (byOffset 
           match = m .1;
         })
 
-pub shift-complete : (w a : ℕ) (k : Bool) (same : Comparison) (s t : Trailing) (d : ℕ) → a < 2 ^ w → 0 < w → None (layoutCauses w (slice a k t)) → 0 < t .elem
+pub shift-complete : (w a : ℕ) (k : Marks) (same : Comparison) (s t : Trailing) (d : ℕ) → a < 2 ^ w → 0 < w → None (layoutCauses w (slice a k t)) → 0 < t .elem
     → IsShift w same s t d → shiftOf w same s (slice a k t) t ≡ by d
 unfolding shiftOf
 shift-complete w a k same s t d h pos ok pe (inl f) =
@@ -124,8 +124,8 @@ one-shift {d = d} h (inr f) (inl g) = absurd (f .notFirst d g)
 one-shift {c = c} {d = d} h (inr f) (inr g) = omega (arith, f .exact .greatest d (g .exact .size), g .exact .greatest c (f .exact .size))
 
 -- between layouts of which the second is accepted, what is computed is the shift, and where that is missing there is none
-shift-means : (w a : ℕ) (k : Bool) (same : Comparison) (i j : Info) → a < 2 ^ w → 0 < w
-    → let l : Layout = record { align = a; info = j; mark = k } in None (layoutCauses w l) → ShiftMeans w same i j (shiftBetween w same i l j)
+shift-means : (w a : ℕ) (k : Marks) (same : Comparison) (i j : Info) → a < 2 ^ w → 0 < w
+    → let l : Layout = record { align = a; info = j; mark = k .0; modifier = k .1 } in None (layoutCauses w l) → ShiftMeans w same i j (shiftBetween w same i l j)
 shift-means w a k same (fixed z) j h pos ok = λ d x. x
 shift-means w a k same (trailing s) (fixed b) h pos ok = λ d x. x
 shift-means w a k same (trailing s) (trailing t) h pos ok = go (tells-eq (t .elem) 0)
@@ -147,4 +147,4 @@ pub shift-meets : (w : ℕ) (same : Comparison) (s t : Layout) → s .align < 2 
 unfolding shiftFor
 shift-meets w same s t hs ht pos =
     meets (shiftCauses w s t) (shiftBetween w same (s .info) t (t .info)) (shift-decided w s t hs ht)
-    (λ n. shift-means w (t .align) (t .mark) same (s .info) (t .info) ht pos (none-both (layoutCauses w s) (layoutCauses w t) n .1))
+    (λ n. shift-means w (t .align) (marks t) same (s .info) (t .info) ht pos (none-both (layoutCauses w s) (layoutCauses w t) n .1))

@@ -1,7 +1,7 @@
 -- The starred cases of document 01, "Pages from the proof table", with the numbers that document 02 gives them: one table of
 -- calls with their inputs and the numbers they give, and one claim of each row. Assumes nothing.
 use mathlib.Core.Path.{_≡_}
-use mathlib.Core.Bool.{Bool, true, cond}
+use mathlib.Core.Bool.{Bool, true, false, cond}
 use mathlib.Core.List.{List, [], _∷_}
 use Prim.Native.Nat.{ℕ, _-_, _^_}
 use Rattle.util_defs.specs.Width.{M}
@@ -88,10 +88,10 @@ abbrev pub tail : (base word elem offset : ℕ) → Trailing
 tail b n e o = record { offset = o; elem = e; base = b; word = n }
 
 abbrev pub sliceOf : ℕ → Trailing → Layout
-sliceOf a t = record { align = a; info = trailing t; mark = true }
+sliceOf a t = record { align = a; info = trailing t; mark = true; modifier = false }
 
 abbrev pub fixedOf : ℕ → ℕ → Layout
-fixedOf a s = record { align = a; info = fixed s; mark = true }
+fixedOf a s = record { align = a; info = fixed s; mark = true; modifier = false }
 
 -- R is base 8, A 4, p 1, o 9, e 1, alignment 4
 abbrev pub R : Trailing

@@ -62,3 +62,7 @@ pub const ELEM_NO_MULTIPLE: u64 = 31;
 pub const NO_SHIFT: u64 = 32;
 // Not even count 0 has a size.
 pub const NO_SIZE_AT_ZERO: u64 = 39;
+// An alignment and a packing are both asked for.
+pub const ALIGN_AND_PACKED: u64 = 49;
+// A packed composition takes a member with an alignment modifier.
+pub const ALIGN_MODIFIER_IN_PACKED: u64 = 50;

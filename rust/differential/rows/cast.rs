@@ -6,7 +6,7 @@ use crate::exports::*;
 use crate::kinds::{flag, layout, number};
 use crate::layouts::size_at;
 use crate::random::Random;
-use crate::table::{self, first};
+use crate::table::{self, first, is_fixed};
 
 pub const ROWS: &[Row] = &[
     Row {
@@ -28,6 +28,7 @@ pub const ROWS: &[Row] = &[
             apart(21),
             apart(22),
         ],
+        modifier: None,
         label: granted,
         pages: &[
             &[4, 3, 8, 9, 1, 5, 0, 11, 0],
@@ -63,6 +64,7 @@ pub const ROWS: &[Row] = &[
             apart(21),
             apart(22),
         ],
+        modifier: None,
         label: why_no_exact_count,
         pages: &[
             &[4, 3, 8, 9, 1, 5, 11],
@@ -80,19 +82,19 @@ pub const ROWS: &[Row] = &[
 ];
 
 fn granted(inputs: &[u64], answer: &Answer) -> &'static str {
-    match (answer.refusal, inputs[8], inputs[1]) {
-        (0, 0, 0 | 1) => "prefix, fixed",
+    match (answer.refusal, inputs[8], is_fixed(inputs[1])) {
+        (0, 0, true) => "prefix, fixed",
         (0, 0, _) => "prefix, trailing",
-        (0, _, 0 | 1) => "suffix, fixed",
+        (0, _, true) => "suffix, fixed",
         (0, _, _) => "suffix, trailing",
         _ => "",
     }
 }
 
 fn why_no_exact_count(inputs: &[u64], answer: &Answer) -> &'static str {
-    match (answer.refusal, inputs[1], inputs[4]) {
+    match (answer.refusal, is_fixed(inputs[1]), inputs[4]) {
         (0, _, _) => "",
-        (_, 0 | 1, _) => "fixed",
+        (_, true, _) => "fixed",
         (_, _, 0) => "e 0",
         _ => "no such count",
     }

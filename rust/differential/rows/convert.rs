@@ -5,9 +5,9 @@ use crate::answer::{told, Answer};
 use crate::exports::*;
 use crate::guarantee;
 use crate::kinds::{layout, number, variant};
-use crate::layouts::{parts, size_at, source_for};
+use crate::layouts::{parts, size_at, source_for, FIXED_KINDS, TRAILING_KINDS};
 use crate::random::Random;
-use crate::table::{first, two_layouts};
+use crate::table::{first, is_fixed, two_layouts};
 
 pub const ROWS: &[Row] = &[
     Row {
@@ -16,6 +16,7 @@ pub const ROWS: &[Row] = &[
         inputs: &[TRAILING, TRAILING, &[number("dst_base")]],
         values: 1,
         cells: &[answered("no"), answered(MULTIPLE), answered(EQUAL_WORDS), apart(2)],
+        modifier: None,
         label: |i, answer| match yes_or_no(i, answer) {
             "yes" => which_match(trailing_of(i), trailing_of(&i[4..])),
             no => no,
@@ -50,6 +51,7 @@ pub const ROWS: &[Row] = &[
             apart(21),
             apart(22),
         ],
+        modifier: None,
         label: which_conversion,
         pages: &[
             &[4, 2, 8, 0, 4, 4, 2, 2, 4, 0, 2, 2],
@@ -76,6 +78,7 @@ pub const ROWS: &[Row] = &[
         ]],
         values: 1,
         cells: &[answered("kind 0"), answered("kind 1"), answered("kind 2"), answered("kind above 2"), apart(19)],
+        modifier: None,
         label: |i, _| ["kind 0", "kind 1", "kind 2", "kind above 2"][i[0].min(3) as usize],
         pages: &[&[2, 2, 2, 0, 3], &[2, 1, 1, 0, 3], &[1, 0, 0, 1, 3], &[0, 0, 0, 0, 3]],
         aim: at_the_last_count,
@@ -128,6 +131,7 @@ pub const ROWS: &[Row] = &[
             apart(21),
             apart(22),
         ],
+        modifier: None,
         label: which_chain,
         pages: &[
             // Three elements of the first become eight of the second, in 20 bytes.
@@ -278,16 +282,16 @@ fn at_a_match(random: &mut Random, inputs: &mut [u64]) {
 /// A source that converts to the target, or comes close.
 fn at_a_conversion(random: &mut Random, inputs: &mut [u64]) {
     let dst = layout_of(&inputs[6..]);
-    if dst[1] < 2 {
-        inputs[1] = random.below(2);
+    if is_fixed(dst[1]) {
+        inputs[1] = random.one_of(&FIXED_KINDS);
         inputs[2..6].copy_from_slice(&[dst[2], 0, 0, 0]);
     } else if random.one_in(4) {
         let count = random.below(16);
-        inputs[1] = random.below(2);
+        inputs[1] = random.one_of(&FIXED_KINDS);
         inputs[2..6].copy_from_slice(&[size_at(dst, count), 0, 0, 0]);
     } else {
         let (src, _) = source_for(random, trailing_of(&dst[2..]));
-        inputs[1] = 2 + random.below(2);
+        inputs[1] = random.one_of(&TRAILING_KINDS);
         inputs[2..6].copy_from_slice(&src);
     }
     inputs[0] = inputs[0].max(dst[0]);

@@ -1,11 +1,11 @@
 //! Whole layouts.
 
-use super::{answered, apart, layout_of, no_label, nowhere, refused, yes_or_no, Row, ANSWER};
+use super::{answered, apart, layout_kind, layout_of, no_label, no_modifier, nowhere, refused, yes_or_no, Row, ANSWER};
 use crate::answer::Answer;
 use crate::exports::*;
 use crate::kinds::{align, layout, modifier, number, preceding};
 use crate::random::Random;
-use crate::table::{self, first, sized, two_layouts};
+use crate::table::{self, first, has_modifier, is_fixed, sized, two_layouts};
 
 pub const ROWS: &[Row] = &[
     Row {
@@ -14,6 +14,7 @@ pub const ROWS: &[Row] = &[
         inputs: &[&[modifier("repr_align")]],
         values: 6,
         cells: &[ANSWER, refused(1)],
+        modifier: Some(|i| i[0] != 0),
         label: no_label,
         pages: &[&[0]],
         aim: nowhere,
@@ -27,6 +28,7 @@ pub const ROWS: &[Row] = &[
         inputs: &[&[number("size"), align("align")]],
         values: 6,
         cells: &[ANSWER, apart(1), apart(4)],
+        modifier: Some(no_modifier),
         label: no_label,
         pages: &[],
         aim: at_a_type,
@@ -40,6 +42,7 @@ pub const ROWS: &[Row] = &[
         inputs: &[&[number("size"), align("align")]],
         values: 6,
         cells: &[ANSWER, apart(1), apart(4)],
+        modifier: Some(no_modifier),
         label: no_label,
         pages: &[],
         aim: at_a_type,
@@ -53,6 +56,7 @@ pub const ROWS: &[Row] = &[
         inputs: &[&[number("size"), align("align")]],
         values: 6,
         cells: &[ANSWER, apart(1), apart(4)],
+        modifier: Some(no_modifier),
         label: no_label,
         pages: &[],
         aim: at_a_type,
@@ -68,6 +72,8 @@ pub const ROWS: &[Row] = &[
         cells: &[
             answered("fixed"),
             answered("trailing"),
+            answered("fixed, modifier"),
+            answered("trailing, modifier"),
             refused(5),
             refused(6),
             refused(7),
@@ -78,7 +84,8 @@ pub const ROWS: &[Row] = &[
             apart(21),
             apart(22),
         ],
-        label: fixed_or_trailing,
+        modifier: Some(|i| has_modifier(i[1]) || has_modifier(i[7])),
+        label: which_layout,
         pages: &[
             // The steps of the listing's example, and its refusal.
             &[1, 1, 0, 0, 0, 0, 4, 1, 8, 0, 0, 0, 0],
@@ -89,6 +96,12 @@ pub const ROWS: &[Row] = &[
             &[1, 1, 0, 0, 0, 0, 1 << 30, 1, 0, 0, 0, 0, 1],
             &[1, 1, 0, 0, 0, 0, 1, 1, 0, 0, 0, 0, 1 << 30],
             &[1, 1, 0, 0, 0, 0, 1, 1, 0, 0, 0, 0, 3 << 29],
+            // The alignment modifier of either, in each kind; it is no refusal here, under a packing either.
+            &[4, 5, 8, 0, 0, 0, 1, 1, 1, 0, 0, 0, 0],
+            &[4, 1, 9, 0, 0, 0, 4, 4, 8, 0, 0, 0, 1],
+            &[4, 1, 9, 0, 0, 0, 1, 7, 0, 0, 1, 1, 0],
+            &[4, 4, 9, 0, 0, 0, 1, 3, 0, 0, 1, 1, 0],
+            &[4, 5, 8, 0, 0, 0, 4, 6, 8, 9, 1, 5, 2],
         ],
         aim: at_the_last_place,
         ours: |i| lukaripe_extend(Words(layout_of(i)), Words(layout_of(&i[6..])), i[12]).into(),
@@ -100,11 +113,27 @@ pub const ROWS: &[Row] = &[
         name: "pad_to_align",
         inputs: &[&[layout("layout")]],
         values: 6,
-        cells: &[answered("fixed"), answered("trailing"), refused(8), apart(1), apart(2), apart(21), apart(22)],
-        label: fixed_or_trailing,
+        cells: &[
+            answered("fixed"),
+            answered("trailing"),
+            answered("fixed, modifier"),
+            answered("trailing, modifier"),
+            refused(8),
+            apart(1),
+            apart(2),
+            apart(21),
+            apart(22),
+        ],
+        modifier: Some(|i| has_modifier(i[1])),
+        label: which_layout,
         pages: &[
             &[4, 3, 9, 9, 1, 1],
             &[4, 0, 9, 0, 0, 0],
+            // Each kind with the alignment modifier.
+            &[4, 4, 9, 0, 0, 0],
+            &[4, 5, 8, 0, 0, 0],
+            &[4, 6, 9, 9, 1, 1],
+            &[4, 7, 8, 8, 4, 4],
             // 8 is about the base, not about the size at 0.
             &[8, 2, u64::MAX - 1, 0, 1, 1],
         ],
@@ -119,6 +148,7 @@ pub const ROWS: &[Row] = &[
         inputs: &[&[layout("layout")]],
         values: 1,
         cells: &[answered("no"), answered("yes"), apart(1), apart(2), apart(21), apart(22)],
+        modifier: None,
         label: yes_or_no,
         pages: &[],
         aim: nowhere,
@@ -132,6 +162,7 @@ pub const ROWS: &[Row] = &[
         inputs: &[&[layout("layout")]],
         values: 1,
         cells: &[answered("no"), answered("yes"), apart(1), apart(2), apart(21), apart(22)],
+        modifier: None,
         label: yes_or_no,
         pages: &[&[4, 3, 8, 9, 1, 5], &[8, 2, u64::MAX - 7, 0, 8, 9]],
         aim: at_the_last_base,
@@ -141,11 +172,9 @@ pub const ROWS: &[Row] = &[
     },
 ];
 
-/// Which kind of layout an answer is.
-fn fixed_or_trailing(_: &[u64], answer: &Answer) -> &'static str {
-    match (answer.refusal, answer.values[1]) {
-        (0, 0 | 1) => "fixed",
-        (0, _) => "trailing",
+fn which_layout(_: &[u64], answer: &Answer) -> &'static str {
+    match answer.refusal {
+        0 => layout_kind(answer.values[1]),
         _ => "",
     }
 }
@@ -167,7 +196,7 @@ fn at_the_last_place(random: &mut Random, inputs: &mut [u64]) {
         1 => inputs[2] = random.near(u64::MAX - inputs[8].max(inputs[9])),
         _ => {
             let at = 8 + random.below(2) as usize;
-            if at == 8 || inputs[7] > 1 {
+            if at == 8 || !is_fixed(inputs[7]) {
                 inputs[at] = random.near(u64::MAX - inputs[2]).wrapping_sub(room);
             }
         }

@@ -1,11 +1,12 @@
 //! Records, scalars and member lists.
 
-use super::{answered, apart, layout_of, no_label, nowhere, refused, refused_for, Cell, Row, ANSWER};
+use super::{answered, apart, layout_kind, layout_of, no_label, no_modifier, nowhere, refused, refused_for};
+use super::{Cell, Row, ANSWER};
 use crate::answer::Answer;
 use crate::exports::*;
 use crate::kinds::{layout, length, list, modifier, number, record};
 use crate::lent::{bytes, reads, records, writes, RECORD};
-use crate::table::{self, first};
+use crate::table::{self, bad_align, first, has_modifier};
 
 pub const ROWS: &[Row] = &[
     Row {
@@ -14,8 +15,23 @@ pub const ROWS: &[Row] = &[
         inputs: &[&[record("record")]],
         values: 6,
         cells: &[apart(0), apart(1), apart(2), apart(20), apart(21), apart(22)],
+        modifier: None,
         label: no_label,
-        pages: &[&[48, 4, 3, 8, 9, 1, 5], &[0]],
+        pages: &[
+            &[48, 4, 3, 8, 9, 1, 5],
+            &[0],
+            // Each kind, and the next.
+            &[48, 4, 0, 9, 0, 0, 0],
+            &[48, 4, 1, 8, 0, 0, 0],
+            &[48, 4, 2, 8, 9, 1, 5],
+            &[48, 4, 4, 9, 0, 0, 0],
+            &[48, 4, 5, 8, 0, 0, 0],
+            &[48, 4, 6, 8, 9, 1, 5],
+            &[48, 4, 7, 8, 9, 1, 5],
+            &[48, 4, 8, 8, 0, 0, 0],
+            &[48, 4, 4, 9, 0, 0, 1],
+            &[48, 4, 6, 8, 9, 1, 0],
+        ],
         aim: nowhere,
         ours: |i| reads(&bytes(i), |record, len| unsafe { lukaripe_decode(record, len) }.into()),
         apart: |i| match records(i).as_deref() {
@@ -30,8 +46,18 @@ pub const ROWS: &[Row] = &[
         inputs: &[&[layout("layout"), length("len")]],
         values: 6,
         cells: &[apart(0), apart(1), apart(2), apart(20), apart(21), apart(22)],
+        modifier: None,
         label: no_label,
-        pages: &[&[4, 3, 8, 9, 1, 5, 48]],
+        pages: &[
+            &[4, 3, 8, 9, 1, 5, 48],
+            &[4, 0, 9, 0, 0, 0, 48],
+            &[4, 1, 8, 0, 0, 0, 48],
+            &[4, 2, 8, 9, 1, 5, 48],
+            &[4, 4, 9, 0, 0, 0, 48],
+            &[4, 5, 8, 0, 0, 0, 48],
+            &[4, 6, 8, 9, 1, 5, 48],
+            &[4, 7, 8, 9, 1, 5, 48],
+        ],
         aim: nowhere,
         ours: |i| writes(i[6] as usize, |out, len| unsafe { lukaripe_encode(Words(layout_of(i)), out, len) }),
         apart: |i| {
@@ -47,6 +73,7 @@ pub const ROWS: &[Row] = &[
         inputs: &[&[number("code")]],
         values: 6,
         cells: &[ANSWER, apart(23)],
+        modifier: Some(no_modifier),
         label: no_label,
         pages: &[],
         aim: nowhere,
@@ -63,6 +90,8 @@ pub const ROWS: &[Row] = &[
             answered("no members"),
             answered("fixed"),
             answered("trailing"),
+            answered("fixed, modifier"),
+            answered("trailing, modifier"),
             OWN_ALIGN,
             PACKING,
             ALIGN_ABOVE_MAX,
@@ -75,6 +104,7 @@ pub const ROWS: &[Row] = &[
             apart(22).at(0, 7),
             apart(2).at(0, 7),
         ],
+        modifier: Some(some_modifier),
         label: composed,
         pages: LISTS,
         aim: nowhere,
@@ -91,6 +121,8 @@ pub const ROWS: &[Row] = &[
             answered("no members"),
             answered("fixed"),
             answered("trailing"),
+            answered("fixed, modifier"),
+            answered("trailing, modifier"),
             OWN_ALIGN,
             PACKING,
             ALIGN_ABOVE_MAX,
@@ -104,11 +136,50 @@ pub const ROWS: &[Row] = &[
             apart(22).at(0, 7),
             apart(2).at(0, 7),
         ],
+        modifier: Some(some_modifier),
         label: composed,
         pages: LISTS,
         aim: nowhere,
         ours: |i| reads(&bytes(&i[2..]), |at, len| unsafe { lukaripe_for_repr_c_struct(i[0], i[1], at, len) }.into()),
         apart: bad_record,
+        rust: |i| oracle::for_repr_c_struct(i[0], i[1], &good_records(i)).into(),
+    },
+    Row {
+        number: 34,
+        name: "for_repr_c_struct_strict",
+        inputs: &[&[modifier("repr_align"), modifier("repr_packed"), list("members")]],
+        values: 7,
+        cells: &[
+            answered("no members"),
+            answered("fixed"),
+            answered("trailing"),
+            answered("fixed, modifier"),
+            answered("trailing, modifier"),
+            OWN_ALIGN,
+            PACKING,
+            ALIGN_ABOVE_MAX,
+            AFTER_TRAILING,
+            PLACE,
+            MEMBER,
+            refused_for(8, FINAL_PADDING).at(1, 8),
+            apart(20).at(0, 0),
+            apart(49).at(0, 0),
+            apart(21).at(0, 7),
+            apart(1).at(0, 7),
+            apart(22).at(0, 7),
+            apart(2).at(0, 7),
+            apart(50).at(0, 7),
+        ],
+        modifier: Some(some_modifier),
+        label: composed,
+        pages: STRICT_LISTS,
+        aim: nowhere,
+        ours: |i| {
+            let strict = |at, len| unsafe { lukaripe_for_repr_c_struct_strict(i[0], i[1], at, len) };
+            reads(&bytes(&i[2..]), |at, len| strict(at, len).into())
+        },
+        apart: forbidden,
+        // Where neither 49 nor 50 applies it answers as the Rust's.
         rust: |i| oracle::for_repr_c_struct(i[0], i[1], &good_records(i)).into(),
     },
 ];
@@ -131,20 +202,63 @@ const LISTS: &[&[u64]] = &[
     &[0, 3, 0],
     &[0, 3, 48, 1, 1, 1, 0, 0, 0],
     // Whatever else is wrong: the length, then the own alignment, then the first member's record, then its step.
-    &[3, 3, 49, 4, 4, 8, 0, 0, 0, 1],
-    &[3, 3, 48, 4, 4, 8, 0, 0, 0],
+    &[3, 3, 49, 4, 8, 8, 0, 0, 0, 1],
+    &[3, 3, 48, 4, 8, 8, 0, 0, 0],
+    &[0, 3, 48, 4, 8, 8, 0, 0, 0],
+    // Both an alignment and a packing, and members with the alignment modifier in a packed struct: answers.
+    &[8, 1, 48, 1, 1, 1, 0, 0, 0],
+    &[1, 0, 0],
+    &[0, 1, 96, 1, 1, 1, 0, 0, 0, 8, 4, 8, 0, 0, 0],
+    &[0, 0, 96, 4, 5, 8, 0, 0, 0, 4, 1, 4, 0, 0, 0],
+    &[0, 2, 96, 1, 1, 1, 0, 0, 0, 4, 6, 8, 9, 1, 5],
+    &[0, 0, 96, 4, 1, 8, 0, 0, 0, 1, 7, 0, 0, 1, 1],
+];
+
+const STRICT_LISTS: &[&[u64]] = &[
+    // Both are asked for, whatever they are and whatever the members; but the length and the own alignment come before.
+    &[8, 1, 0],
+    &[8, 3, 0],
+    &[1, 1 << 30, 0],
+    &[8, 1, 48, 4, 8, 8, 0, 0, 0],
+    &[8, 1, 49, 4, 8, 8, 0, 0, 0, 1],
+    &[3, 1, 48, 4, 4, 8, 0, 0, 0],
+    // A member with the alignment modifier: after its own record's tests, before its step's, whatever the packing is.
     &[0, 3, 48, 4, 4, 8, 0, 0, 0],
+    &[0, 3, 48, 4, 12, 8, 0, 0, 0],
+    &[0, 3, 48, 3, 4, 8, 0, 0, 0],
+    &[0, 3, 48, 4, 4, 8, 0, 0, 1],
+    &[0, 3, 48, 4, 6, 8, 9, 1, 0],
+    &[0, 16, 48, 4, 5, 8, 0, 0, 0],
+    &[0, 1, 48, 1 << 30, 4, 0, 0, 0, 0],
+    &[0, 1, 96, 1, 3, 0, 0, 1, 1, 4, 4, 8, 0, 0, 0],
+    &[0, 1, 96, 1, 1, u64::MAX, 0, 0, 0, 1, 4, 8, 0, 0, 0],
+    // An earlier member's refusal comes before, and of two with it the first is meant.
+    &[0, 3, 96, 1, 1, 1, 0, 0, 0, 4, 4, 8, 0, 0, 0],
+    &[0, 1, 96, 3, 1, 1, 0, 0, 0, 4, 4, 8, 0, 0, 0],
+    &[0, 1, 144, 1, 1, 1, 0, 0, 0, 4, 4, 8, 0, 0, 0, 4, 5, 8, 0, 0, 0],
+    // Without a packing it is inherited, in each kind, and an alignment gives it.
+    &[0, 0, 96, 4, 4, 8, 0, 0, 0, 1, 1, 1, 0, 0, 0],
+    &[0, 0, 96, 4, 5, 8, 0, 0, 0, 4, 1, 4, 0, 0, 0],
+    &[0, 0, 96, 1, 0, 1, 0, 0, 0, 4, 6, 8, 9, 1, 5],
+    &[0, 0, 96, 4, 1, 8, 0, 0, 0, 4, 7, 8, 8, 4, 4],
+    &[1, 0, 48, 1, 1, 1, 0, 0, 0],
+    &[0, 1, 48, 1, 1, 1, 0, 0, 0],
+    &[0, 3, 0],
 ];
 
 fn composed(inputs: &[u64], answer: &Answer) -> &'static str {
     let members = inputs[2] / RECORD as u64;
-    match (answer.refusal, answer.values[2]) {
-        (0, _) if members == 0 => "no members",
-        (0, 0 | 1) => "fixed",
-        (0, _) => "trailing",
-        (8, _) if answer.values[0] == members => FINAL_PADDING,
+    match answer.refusal {
+        0 if members == 0 => "no members",
+        0 => layout_kind(answer.values[2]),
+        8 if answer.values[0] == members => FINAL_PADDING,
         _ => "",
     }
+}
+
+/// An alignment is asked for, or some member has the alignment modifier. The Rust composed all of them.
+fn some_modifier(inputs: &[u64]) -> bool {
+    inputs[0] != 0 || good_records(inputs).iter().any(|member| has_modifier(member[1]))
 }
 
 /// The members before the first whose record is refused: those that the Rust can be handed.
@@ -162,4 +276,24 @@ fn bad_record(inputs: &[u64]) -> Option<Answer> {
     let bad = members.get(good.len())?;
     oracle::compose(inputs[0], inputs[1], &good).ok()?;
     first(&table::layout(*bad)).map(|answer| Answer::refused_at(answer.refusal, good.len()))
+}
+
+/// What the Rust is not asked for of the strict composition, in the order tested: the length, which like a bad own
+/// alignment comes before both modifiers on one type, then the first bad record, or the first member with an alignment
+/// modifier in a packed struct.
+fn forbidden(inputs: &[u64]) -> Option<Answer> {
+    let &[repr_align, repr_packed, len, ..] = inputs else { unreachable!() };
+    if len % RECORD as u64 != 0 || repr_align != 0 && bad_align(repr_align) {
+        return bad_record(inputs);
+    }
+    if repr_align != 0 && repr_packed != 0 {
+        return Some(Answer::refused_at(49, 0));
+    }
+    let good = good_records(inputs);
+    let at = good.iter().position(|member| repr_packed != 0 && has_modifier(member[1]));
+    // It is come to where the members before it compose.
+    match at {
+        Some(at) if oracle::compose(0, repr_packed, &good[..at]).is_ok() => Some(Answer::refused_at(50, at)),
+        _ => bad_record(inputs),
+    }
 }

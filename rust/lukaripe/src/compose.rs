@@ -9,6 +9,8 @@ use core::num::NonZeroU64;
 /// The layout of a `repr(C)` struct: its members one after the other, and the final padding.
 ///
 /// `repr_align` is the number of `repr(align(..))` and `repr_packed` that of `repr(packed(..))`, if it is asked for.
+/// Both may be, and members may have alignment modifiers: [`for_repr_c_struct_strict`] refuses what the Reference
+/// forbids.
 ///
 /// ```
 /// use lukaripe::{for_repr_c_struct, Layout, Refusal, Refused};
@@ -70,6 +72,85 @@ pub fn for_repr_c_struct_records(
     let (align, packed) = (or_zero(repr_align), or_zero(repr_packed));
     // SAFETY: the bytes are lent for the call.
     composed(unsafe { exports::lukaripe_for_repr_c_struct(align, packed, members.as_ptr(), members.len()) })
+}
+
+/// [`for_repr_c_struct`] of what the Rust Reference allows: it forbids an alignment and a packing on one type, and a
+/// type with an alignment modifier inside a packed one, at any depth.
+///
+/// What is refused by neither is answered, or refused, as [`for_repr_c_struct`] does.
+///
+/// ```
+/// use lukaripe::{for_repr_c_struct, for_repr_c_struct_strict, Layout, Refusal, Refused};
+/// use std::num::NonZeroU64;
+///
+/// let [one, four] = [NonZeroU64::new(1), NonZeroU64::new(4)];
+/// let id = Layout::of::<u32>();
+///
+/// // #[repr(C, align(4))] struct Head { id: u32 }
+/// let head = for_repr_c_struct_strict(four, None, &[id])?;
+/// // #[repr(C)] struct Message { id: u32, head: Head }
+/// let message = for_repr_c_struct_strict(None, None, &[id, head])?;
+/// assert_eq!(message, for_repr_c_struct(None, None, &[id, head])?);
+///
+/// // #[repr(C, align(4), packed(1))] struct Both { id: u32 }, which rustc refuses by E0587
+/// let refused = Refused { refusal: Refusal::AlignAndPacked, place: 0 };
+/// assert_eq!(for_repr_c_struct_strict(four, one, &[id]), Err(refused));
+/// assert_eq!(refused.refusal.number(), 49);
+///
+/// // #[repr(C, packed(1))] struct Outer { id: u32, message: Message }, which rustc refuses by E0588
+/// let refused = Refused { refusal: Refusal::AlignModifierInPacked, place: 1 };
+/// assert_eq!(for_repr_c_struct_strict(None, one, &[id, message]), Err(refused));
+/// assert_eq!(refused.refusal.number(), 50);
+/// assert!(for_repr_c_struct(None, one, &[id, message]).is_ok());
+/// # Ok::<(), Refused>(())
+/// ```
+///
+/// # Errors
+///
+/// - At 0: [`Refusal::AlignNotPowerOfTwo`] for `repr_align`.
+/// - Then at 0: [`Refusal::AlignAndPacked`] where both are asked for, whatever their numbers are.
+/// - Then for each member in turn, at its index: [`Refusal::AlignNotPowerOfTwo`] or [`Refusal::RoundingWordZero`] for
+///   the member itself, then [`Refusal::AlignModifierInPacked`] where a packing is asked for, whatever its number is,
+///   then [`Refusal::PackingNotPowerOfTwo`], [`Refusal::AlignAboveMax`], [`Refusal::MemberAfterTrailing`],
+///   [`Refusal::RoundingPassesMax`], [`Refusal::MemberPassesMax`].
+/// - Then at the number of members: [`Refusal::RoundingPassesMax`] for the final padding.
+pub fn for_repr_c_struct_strict(
+    repr_align: Option<NonZeroU64>,
+    repr_packed: Option<NonZeroU64>,
+    members: &[Layout],
+) -> Result<Layout, Refused> {
+    for_repr_c_struct_strict_records(repr_align, repr_packed, records(members).as_flattened().as_flattened())
+}
+
+/// [`for_repr_c_struct_strict`] of members that stand as records, end to end.
+///
+/// ```
+/// use lukaripe::{for_repr_c_struct_strict_records, Layout, Refusal, Refused, RECORD_LENGTH};
+/// use std::num::NonZeroU64;
+///
+/// let one = NonZeroU64::new(1);
+/// let mut file = Layout::of::<u8>().to_bytes()?.to_vec();
+/// file.extend(Layout::new_zst(one)?.to_bytes()?);
+///
+/// // The second has an alignment modifier.
+/// let refused = Refused { refusal: Refusal::AlignModifierInPacked, place: 1 };
+/// assert_eq!(for_repr_c_struct_strict_records(None, one, &file), Err(refused));
+/// assert_eq!(for_repr_c_struct_strict_records(None, one, &file[..RECORD_LENGTH])?.size(), Some(1));
+/// # Ok::<(), Refused>(())
+/// ```
+///
+/// # Errors
+///
+/// [`Refusal::RecordLength`] at 0, then those of [`for_repr_c_struct_strict`], where a member is tested as a record:
+/// [`Refusal::Kind`], [`Refusal::AlignNotPowerOfTwo`], then [`Refusal::FixedRecord`] or [`Refusal::RoundingWordZero`].
+pub fn for_repr_c_struct_strict_records(
+    repr_align: Option<NonZeroU64>,
+    repr_packed: Option<NonZeroU64>,
+    members: &[u8],
+) -> Result<Layout, Refused> {
+    let (align, packed) = (or_zero(repr_align), or_zero(repr_packed));
+    // SAFETY: the bytes are lent for the call.
+    composed(unsafe { exports::lukaripe_for_repr_c_struct_strict(align, packed, members.as_ptr(), members.len()) })
 }
 
 /// [`for_repr_c_struct`] without the final padding.

@@ -82,6 +82,12 @@ unsafe extern "C" {
         members: *const u8,
         len: usize,
     ) -> Told<7>;
+    pub unsafe fn lukaripe_for_repr_c_struct_strict(
+        repr_align: u64,
+        repr_packed: u64,
+        members: *const u8,
+        len: usize,
+    ) -> Told<7>;
 
     // ---- casts ----
 

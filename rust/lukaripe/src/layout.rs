@@ -32,11 +32,26 @@ pub struct Layout {
     pub size_info: SizeInfo,
     /// The mark: no padding is known between the members.
     pub statically_shallow_unpadded: bool,
+    /// The alignment modifier, as the Rust Reference calls it: `align` was asked for, of the type or of one in it, at
+    /// any depth. The functions that are handed an alignment to ask for set it, those that are handed members inherit
+    /// it, and what is made of two numbers lacks it, so that the modifier of an element is handed on by hand:
+    ///
+    /// ```
+    /// use lukaripe::{Layout, Refusal};
+    ///
+    /// fn slice_of(element: Layout, size: u64) -> Result<Layout, Refusal> {
+    ///     Ok(Layout { align_modifier: element.align_modifier, ..Layout::for_slice(size, element.align)? })
+    /// }
+    /// # assert!(slice_of(Layout { align_modifier: true, ..Layout::of::<u8>() }, 1)?.align_modifier);
+    /// # Ok::<(), Refusal>(())
+    /// ```
+    pub align_modifier: bool,
 }
 
 // The kind of a record is the sum of these.
 const MARKED: u64 = 1;
 const TRAILING: u64 = 2;
+const ALIGN_MODIFIER: u64 = 4;
 
 impl Layout {
     /// The six words of the record, whether or not the layout is refused.
@@ -46,7 +61,8 @@ impl Layout {
             SizeInfo::SliceDst(trailing) => (TRAILING, trailing.words().0),
         };
         let mark = if self.statically_shallow_unpadded { MARKED } else { 0 };
-        Words([self.align, sort + mark, size, offset, elem_size, word])
+        let modifier = if self.align_modifier { ALIGN_MODIFIER } else { 0 };
+        Words([self.align, sort + mark + modifier, size, offset, elem_size, word])
     }
 
     pub(crate) fn from_words([align, kind, size, rest @ ..]: [u64; 6]) -> Layout {
@@ -56,7 +72,12 @@ impl Layout {
         } else {
             SizeInfo::SliceDst(Trailing::from_words([size, offset, elem_size, word]))
         };
-        Layout { align, size_info, statically_shallow_unpadded: kind & MARKED != 0 }
+        Layout {
+            align,
+            size_info,
+            statically_shallow_unpadded: kind & MARKED != 0,
+            align_modifier: kind & ALIGN_MODIFIER != 0,
+        }
     }
 
     /// The size of a fixed layout; none of one that ends in a run of elements.
@@ -91,7 +112,28 @@ impl Layout {
         }
     }
 
-    /// The empty layout, with size 0, the given alignment or 1, and the mark.
+    /// Whether the type, or one in it at any depth, has an alignment modifier: `align` was asked for, whatever its
+    /// number.
+    ///
+    /// ```
+    /// use lukaripe::{for_repr_c_struct, Layout};
+    /// use std::num::NonZeroU64;
+    ///
+    /// // #[repr(C, align(1))] struct Inner { id: u8 }
+    /// let inner = for_repr_c_struct(NonZeroU64::new(1), None, &[Layout::of::<u8>()])?;
+    /// // #[repr(C)] struct Outer { inner: Inner, length: u32 }
+    /// let outer = for_repr_c_struct(None, None, &[inner, Layout::of::<u32>()])?;
+    /// assert!(inner.has_align_modifier() && outer.has_align_modifier());
+    ///
+    /// assert!(!Layout::of::<u32>().has_align_modifier());
+    /// # Ok::<(), lukaripe::Refused>(())
+    /// ```
+    pub const fn has_align_modifier(self) -> bool {
+        self.align_modifier
+    }
+
+    /// The empty layout, with size 0, the given alignment or 1, and the mark; with a given alignment also with the
+    /// alignment modifier.
     ///
     /// ```
     /// use lukaripe::Layout;
@@ -100,7 +142,11 @@ impl Layout {
     /// let empty = Layout::new_zst(NonZeroU64::new(4))?;
     /// assert_eq!(empty.align, 4);
     /// assert_eq!(empty.size(), Some(0));
-    /// assert_eq!(Layout::new_zst(None)?.align, 1);
+    /// assert!(empty.has_align_modifier());
+    ///
+    /// let plain = Layout::new_zst(None)?;
+    /// assert_eq!(plain.align, 1);
+    /// assert!(!plain.has_align_modifier());
     /// # Ok::<(), lukaripe::Refusal>(())
     /// ```
     ///
@@ -163,7 +209,8 @@ impl Layout {
         exports::lukaripe_for_slice(size, align).answer().map(Layout::from_words)
     }
 
-    /// The layout with one member more, whose alignment is lowered to the packing where one is asked for.
+    /// The layout with one member more, whose alignment is lowered to the packing where one is asked for. It has the
+    /// alignment modifier where one of the two has it.
     ///
     /// ```
     /// use lukaripe::{Layout, Refusal};

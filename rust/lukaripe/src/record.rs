@@ -35,8 +35,8 @@ impl Layout {
     /// let mut record = Layout::scalar(Scalar::U32).to_bytes()?;
     /// assert_eq!(Layout::from_bytes(&record)?.size(), Some(4));
     ///
-    /// // The kind is the second word.
-    /// record[8] = 4;
+    /// // The kind is the second word, and none is above 7.
+    /// record[8] = 8;
     /// assert_eq!(Layout::from_bytes(&record), Err(Refusal::Kind));
     /// # Ok::<(), Refusal>(())
     /// ```

@@ -64,7 +64,7 @@ refusals! {
     AdvancePassesMax = 17, "the advance overflows";
     ConvertedCountPassesMax = 19, "the converted count overflows";
     RecordLength = 20, "a record is not 48 bytes long, or a list no multiple of that";
-    Kind = 21, "the kind of a record is above 3";
+    Kind = 21, "the kind of a record is above 7";
     FixedRecord = 22, "a record of a fixed size has a later word that is not 0";
     ScalarCode = 23, "the code of a scalar is above 8";
     SourceAlignLower = 25, "the source's alignment is lower than the target's";
@@ -76,6 +76,8 @@ refusals! {
     ElemNoMultiple = 31, "the size of the source's elements is no whole multiple of the target's";
     NoShift = 32, "no shift lines the sizes of source and target up";
     NoSizeAtZero = 39, "the size without elements overflows";
+    AlignAndPacked = 49, "an alignment and a packing are both asked for";
+    AlignModifierInPacked = 50, "a member of a packed struct has an alignment modifier";
 }
 
 impl Refusal {

@@ -12,7 +12,8 @@ impl Layout {
     /// The layout of a type: [`Layout::for_type`] of its size and alignment.
     ///
     /// It has not the mark, as whether the type has padding is not known. Where it has none,
-    /// [`Layout::for_unpadded_type`] of the two numbers, or [`Layout::scalar`], says so.
+    /// [`Layout::for_unpadded_type`] of the two numbers, or [`Layout::scalar`], says so. Nor has it the alignment
+    /// modifier, which two numbers do not tell: set [`Layout::align_modifier`] where the type has one.
     ///
     /// ```
     /// use lukaripe::{for_repr_c_struct, Layout};
@@ -48,8 +49,8 @@ impl Layout {
 /// Why no type is refused.
 const WHOLE: &str = "the alignment of a type is a power of two, and its size a multiple of it";
 
-/// The same size and alignment, without the mark. The size need not be a multiple of the alignment, so this is not
-/// [`Layout::for_type`].
+/// The same size and alignment, without the mark and the alignment modifier. The size need not be a multiple of the
+/// alignment, so this is not [`Layout::for_type`].
 ///
 /// ```
 /// use lukaripe::Layout;
@@ -64,11 +65,11 @@ const WHOLE: &str = "the alignment of a type is a power of two, and its size a m
 impl From<core::alloc::Layout> for Layout {
     fn from(block: core::alloc::Layout) -> Layout {
         let size_info = SizeInfo::Sized { size: block.size() as u64 };
-        Layout { align: block.align() as u64, size_info, statically_shallow_unpadded: false }
+        Layout { align: block.align() as u64, size_info, statically_shallow_unpadded: false, align_modifier: false }
     }
 }
 
-/// The same size and alignment; `core::alloc` has no mark. A layout that ends in a run of elements has a size at each
+/// The same size and alignment; `core::alloc` has no marks. A layout that ends in a run of elements has a size at each
 /// count only, as [`Trailing::size_for_elems`](crate::Trailing::size_for_elems) gives it.
 ///
 /// ```

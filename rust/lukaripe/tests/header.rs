@@ -56,6 +56,7 @@ fn constants() -> Vec<String> {
         of_constant("KIND_FIXED_MARKED", 1),
         of_constant("KIND_TRAILING", 2),
         of_constant("KIND_TRAILING_MARKED", 3),
+        of_constant("KIND_ALIGN_MODIFIER", 4),
         of_constant("FIXED_TO_FIXED", 0),
         of_constant("FIXED_TO_TRAILING", 1),
         of_constant("TRAILING_TO_TRAILING", 2),

@@ -1,22 +1,22 @@
 -- `compose::add_members` meets its contract. Assumes nothing.
 use mathlib.Core.Path.{_≡_, refl, sym, _∙_}
-use Prim.Native.Nat.{_-_, _*_, _/_, _≤_}
+use Prim.Native.Nat.{_-_, _*_, _/_}
 use native.Mathlib.Omega.{arith}
 use lib.ListN.{length, drop}
 use Rattle.util_defs.proofs.Tables.{told-by}
 use Rattle.layout.specs.View.{layoutOf, layoutSays}
-use Rattle.compose.specs.Compose.{addMembers, membersOf}
-use Rattle.compose.proofs.Compositions.{turn-on, turn-off, ended}
+use Rattle.compose_defs.specs.Compose.{memberStep, addMembers, membersOf}
+use Rattle.compose_defs.proofs.Compositions.{turn-on, turn-off, ended}
 use borrow.Author.Needs.{needs}
 use Rattle.compose.proofs.add_members.Statement.{statement}
 use Rattle.compose.proofs.add_members.Tie as tie
 
 abbrev Inv-loop : tie.InvT-loop
-Inv-loop repr-packed members from count l₀ place₀ l place =
-    addMembers 64 repr-packed place (layoutOf l) (membersOf 64 (count - place) (drop (place * 48) members)) ≡ addMembers 64 repr-packed place₀ (layoutOf l₀) (membersOf 64 (count - place₀) (drop (place₀ * 48) members))
+Inv-loop heed repr-packed members from count l₀ place₀ l place =
+    addMembers (memberStep 64 heed repr-packed) place (layoutOf l) (membersOf 64 (count - place) (drop (place * 48) members)) ≡ addMembers (memberStep 64 heed repr-packed) place₀ (layoutOf l₀) (membersOf 64 (count - place₀) (drop (place₀ * 48) members))
 
 abbrev μ-loop : tie.MeasureT-loop
-μ-loop repr-packed members from count l₀ place₀ l place = count - place
+μ-loop heed repr-packed members from count l₀ place₀ l place = count - place
 
 loop-holds : tie.Need-loop-holds Inv-loop μ-loop
 loop-holds c = refl
@@ -49,7 +49,7 @@ returns : tie.Need-returns Inv-loop μ-loop
 returns c =
     let x = c .before .before .before .before .before .before .before .before .args in
     let s = x .members .now in
-    sym (turn-off 64 (x .repr-packed) (length s / 48) (c .before .before .before .before .before .before .loop .place) s (layoutOf (c .before .before .before .before .before .before .loop .l)) (c .before .before .before .before .before .loop-test .taken) (told-by layoutSays (c .before .before .before .member-step .ensures) (c .before .number .given .1))) ∙ c .before .before .before .before .before .before .loop .inv
+    sym (turn-off 64 (memberStep 64 (x .heed) (x .repr-packed)) (length s / 48) (c .before .before .before .before .before .before .loop .place) s (layoutOf (c .before .before .before .before .before .before .loop .l)) (c .before .before .before .before .before .loop-test .taken) (told-by layoutSays (c .before .before .before .member-step .ensures) (c .before .number .given .1))) ∙ c .before .before .before .before .before .before .loop .inv
 
 add-place : tie.Need-add-place Inv-loop μ-loop
 add-place c = search needs
@@ -61,14 +61,14 @@ loop-again : tie.Need-loop-again Inv-loop μ-loop
 loop-again c =
     let x = c .before .before .before .before .before .before .before .before .args in
     let s = x .members .now in
-    sym (turn-on 64 (x .repr-packed) (length s / 48) (c .before .before .before .before .before .before .loop .place) s (layoutOf (c .before .before .before .before .before .before .loop .l)) (c .before .before .before .before .before .loop-test .taken) (told-by layoutSays (c .before .before .before .member-step .ensures) (c .before .next .given .1))) ∙ c .before .before .before .before .before .before .loop .inv
+    sym (turn-on 64 (memberStep 64 (x .heed) (x .repr-packed)) (length s / 48) (c .before .before .before .before .before .before .loop .place) s (layoutOf (c .before .before .before .before .before .before .loop .l)) (c .before .before .before .before .before .loop-test .taken) (told-by layoutSays (c .before .before .before .member-step .ensures) (c .before .next .given .1))) ∙ c .before .before .before .before .before .before .loop .inv
 
 returns-2 : tie.Need-returns-2 Inv-loop μ-loop
 returns-2 c =
     let x = c .before .before .before .args in
     let s = x .members .now in
     let i = c .before .loop .place in
-    sym (ended 64 (x .repr-packed) (length s / 48) i (drop (i * 48) s) (layoutOf (c .before .loop .l)) (omega arith)) ∙ c .before .loop .inv
+    sym (ended 64 (memberStep 64 (x .heed) (x .repr-packed)) (length s / 48) i (drop (i * 48) s) (layoutOf (c .before .loop .l)) (omega arith)) ∙ c .before .loop .inv
 
 pub add-members-spec : {M : Type 1} → statement M
 add-members-spec =

@@ -4,7 +4,7 @@ use Rattle.util_defs.specs.Refusal.{Outcome}
 use Rattle.util_defs.proofs.Tables.{told-by}
 use Rattle.layout_defs.specs.Layout.{Layout}
 use Rattle.layout.specs.View.{layoutSays}
-use Rattle.compose.specs.Compose.{composed, andThen}
+use Rattle.compose_defs.specs.Compose.{composed, andThen}
 use borrow.Author.Needs.{needs}
 use Rattle.compose.proofs.pad_composed.Statement.{statement}
 use Rattle.compose.proofs.pad_composed.Tie as tie

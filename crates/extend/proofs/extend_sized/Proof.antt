@@ -37,7 +37,7 @@ returns c = let x = c .before .before .before .before .before .before .args in
     let l = sizedOf own in
     let m = layoutOf (x .field) in
     told (extend-meets 64 l m (x .repr-packed) (omega arith) (omega arith) (c .before .before .before .before .before .before .fits .repr-packed .fits))
-    (c .extend-checked .ensures ∙ extend-step 64 l m (x .repr-packed) (fixed-accepted 64 (own .align) (own .size) (own .«statically_shallow_unpadded») (sym (c .before .before .before .before .before .is-power-of-two .ensures .0) ∙ c .before .before .before .before .if1 .taken)) (told-by checkSays (c .before .before .before .check .ensures .0) (c .before .enum-told .given .1)))
+    (c .extend-checked .ensures ∙ extend-step 64 l m (x .repr-packed) (fixed-accepted 64 (own .align) (own .size) (own .«statically_shallow_unpadded») (own .«align_modifier») (sym (c .before .before .before .before .before .is-power-of-two .ensures .0) ∙ c .before .before .before .before .if1 .taken)) (told-by checkSays (c .before .before .before .check .ensures .0) (c .before .enum-told .given .1)))
 
 returns-2 : tie.Need-returns-2
 returns-2 c = let x = c .before .before .before .before .before .before .args in
@@ -45,7 +45,7 @@ returns-2 c = let x = c .before .before .before .before .before .before .args in
     let l = sizedOf own in
     let m = layoutOf (x .field) in
     told (extend-meets 64 l m (x .repr-packed) (omega arith) (omega arith) (c .before .before .before .before .before .before .fits .repr-packed .fits))
-    (extend-member 64 l m (x .repr-packed) (fixed-accepted 64 (own .align) (own .size) (own .«statically_shallow_unpadded») (sym (c .before .before .before .before .before .is-power-of-two .ensures .0) ∙ c .before .before .before .before .if1 .taken)) (told-by checkSays (c .before .before .before .check .ensures .0) (c .before .number .given .1)))
+    (extend-member 64 l m (x .repr-packed) (fixed-accepted 64 (own .align) (own .size) (own .«statically_shallow_unpadded») (own .«align_modifier») (sym (c .before .before .before .before .before .is-power-of-two .ensures .0) ∙ c .before .before .before .before .if1 .taken)) (told-by checkSays (c .before .before .before .check .ensures .0) (c .before .number .given .1)))
 
 returns-3 : tie.Need-returns-3
 returns-3 c = let x = c .before .before .args in
@@ -53,7 +53,7 @@ returns-3 c = let x = c .before .before .args in
     let l = sizedOf own in
     let m = layoutOf (x .field) in
     told (extend-meets 64 l m (x .repr-packed) (omega arith) (omega arith) (c .before .before .fits .repr-packed .fits))
-    (extend-own 64 l m (x .repr-packed) (fixed-refused 64 (own .align) (own .size) (own .«statically_shallow_unpadded») (sym (c .before .is-power-of-two .ensures .0) ∙ c .if1 .left)))
+    (extend-own 64 l m (x .repr-packed) (fixed-refused 64 (own .align) (own .size) (own .«statically_shallow_unpadded») (own .«align_modifier») (sym (c .before .is-power-of-two .ensures .0) ∙ c .if1 .left)))
 
 pub extend-sized-spec : {M : Type 1} → statement M
 extend-sized-spec =

@@ -27,7 +27,7 @@ aligned k = power 64 (k .args .layout .align) (omega arith) (k .pre .0)
 
 -- the padded layout, and what padding says of it, of a size
 abbrev made : tie.Start → Info → Layout
-made k i = record { align = k .args .layout .align; info = paddedInfo 64 (k .args .layout .align) i; mark = paddedMark (k .args .layout .align) i (k .args .layout .«statically_shallow_unpadded») }
+made k i = record { align = k .args .layout .align; info = paddedInfo 64 (k .args .layout .align) i; mark = paddedMark (k .args .layout .align) i (k .args .layout .«statically_shallow_unpadded»); modifier = k .args .layout .«align_modifier» }
 
 abbrev says : tie.Start → SizeInfo → Outcome Layout
 says k i = unless (roundingPasses 64 (paddingNeeds 64 (k .args .layout .align) (infoOf i)) ∷ []) (made k (infoOf i))
@@ -71,7 +71,7 @@ returns c =
     let s = c .before .before .before .before .before .size-info .given .0 .0 in
     let cs = roundingPasses 64 (up s a) ∷ [] in
     let e = told-by numberSays (c .before .before .before .round-up .ensures .0 ∙ round-power 64 s (aligned k) (omega arith)) (c .before .padded .given .1) in
-    ap₂ (λ (n : ℕ) (m : Bool). answered (record { align = a; info = fixed n; mark = m })) (answer-is cs (up s a) e) (c .before .before .before .before .before .before .before .pad-mark .ensures ∙ ap (λ (i : SizeInfo). paddedMark a (infoOf i) (k .args .layout .«statically_shallow_unpadded»)) g)
+    ap₂ (λ (n : ℕ) (m : Bool). answered (record { align = a; info = fixed n; mark = m; modifier = k .args .layout .«align_modifier» })) (answer-is cs (up s a) e) (c .before .before .before .before .before .before .before .pad-mark .ensures ∙ ap (λ (i : SizeInfo). paddedMark a (infoOf i) (k .args .layout .«statically_shallow_unpadded»)) g)
     ∙ sym (accepted-as cs (up s a) (made k (fixed s)) e)
     ∙ ap (says k) (sym g)
 
@@ -95,7 +95,7 @@ returns-3 c =
     let t = trailingOf (c .before .before .before .before .before .size-info2 .given .0 .0) in
     let cs = roundingPasses 64 (paddingNeeds 64 a (trailing t)) ∷ [] in
     let e = told-by infoSays (c .before .before .before .pad-trailing .ensures) (c .before .padded-info .given .1) in
-    ap₂ (λ (i : Info) (m : Bool). answered (record { align = a; info = i; mark = m })) (answer-is cs (trailing (paddedTail 64 a t)) e) (c .before .before .before .before .before .before .before .pad-mark .ensures ∙ ap (λ (i : SizeInfo). paddedMark a (infoOf i) (k .args .layout .«statically_shallow_unpadded»)) g)
+    ap₂ (λ (i : Info) (m : Bool). answered (record { align = a; info = i; mark = m; modifier = k .args .layout .«align_modifier» })) (answer-is cs (trailing (paddedTail 64 a t)) e) (c .before .before .before .before .before .before .before .pad-mark .ensures ∙ ap (λ (i : SizeInfo). paddedMark a (infoOf i) (k .args .layout .«statically_shallow_unpadded»)) g)
     ∙ sym (accepted-as cs (trailing (paddedTail 64 a t)) (made k (trailing t)) e)
     ∙ ap (says k) (sym g)
 

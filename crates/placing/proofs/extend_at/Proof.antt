@@ -21,17 +21,20 @@ enum-known-size-info c = search needs
 larger-requires : tie.Need-larger-requires
 larger-requires c κs = search needs
 
+either-requires : tie.Need-either-requires
+either-requires c κs = search needs
+
 enum-known-number : tie.Need-enum-known-number
 enum-known-number c = search needs
 
 returns : tie.Need-returns
 returns c =
-    let k = c .before .before .before .before .before .before in
+    let k = c .before .before .before .before .before .before .before in
     let m = layoutOf (k .args .field) in
     let cs = memberPasses 64 (k .args .place) (m .info) ∷ [] in
     let y = placedAt (k .args .place) (m .info) in
-    let e = told-by infoSays (c .before .before .before .before .place-member .ensures) (c .before .before .size-info .given .1) in
-    (λ i. answered (record { align = c .larger .ensures i; info = answer-is cs y e i; mark = c .before .before .before .before .before .step-mark .ensures i })) ∙ sym (accepted-as cs y _ e)
+    let e = told-by infoSays (c .before .before .before .before .before .place-member .ensures) (c .before .before .before .size-info .given .1) in
+    (λ i. answered (record { align = c .before .larger .ensures i; info = answer-is cs y e i; mark = c .before .before .before .before .before .before .step-mark .ensures i; modifier = c .either .ensures i })) ∙ sym (accepted-as cs y _ e)
 
 returns-2 : tie.Need-returns-2
 returns-2 c =
@@ -49,6 +52,7 @@ extend-at-spec =
     place-member-requires
     enum-known-size-info
     larger-requires
+    either-requires
     enum-known-number
     returns
     returns-2)

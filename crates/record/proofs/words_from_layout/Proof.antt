@@ -24,14 +24,14 @@ marked-kind-requires-2 c κs = search needs
 returns : tie.Need-returns
 returns c =
     let x = c .before .before .before .before .args .l in
-    fixed-words (x .align) (c .marked-kind .result) (c .before .before .size-info .given .0 .0) (x .«statically_shallow_unpadded») (c .marked-kind .ensures)
-    ∙ ap (λ (i : SizeInfo). wordsOf (record { align = x .align; info = infoOf i; mark = x .«statically_shallow_unpadded» })) (sym (c .before .before .size-info .given .1))
+    fixed-words (x .align) (c .marked-kind .result) (c .before .before .size-info .given .0 .0) (x .«statically_shallow_unpadded») (x .«align_modifier») (c .marked-kind .ensures)
+    ∙ ap (λ (i : SizeInfo). wordsOf (record { align = x .align; info = infoOf i; mark = x .«statically_shallow_unpadded»; modifier = x .«align_modifier» })) (sym (c .before .before .size-info .given .1))
 
 returns-2 : tie.Need-returns-2
 returns-2 c =
     let x = c .before .before .before .before .before .args .l in
-    trailing-words (x .align) (c .marked-kind2 .result) (trailingOf (c .before .before .before .size-info2 .given .0 .0)) (x .«statically_shallow_unpadded») (c .marked-kind2 .ensures)
-    ∙ ap (λ (i : SizeInfo). wordsOf (record { align = x .align; info = infoOf i; mark = x .«statically_shallow_unpadded» })) (sym (c .before .before .before .size-info2 .given .1))
+    trailing-words (x .align) (c .marked-kind2 .result) (trailingOf (c .before .before .before .size-info2 .given .0 .0)) (x .«statically_shallow_unpadded») (x .«align_modifier») (c .marked-kind2 .ensures)
+    ∙ ap (λ (i : SizeInfo). wordsOf (record { align = x .align; info = infoOf i; mark = x .«statically_shallow_unpadded»; modifier = x .«align_modifier» })) (sym (c .before .before .before .size-info2 .given .1))
 
 pub words-from-layout-spec : {M : Type 1} → statement M
 words-from-layout-spec =

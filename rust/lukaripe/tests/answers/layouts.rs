@@ -8,20 +8,22 @@ use std::num::NonZeroU64;
 fn layout_of([align, kind, size_base, offset, elem_size, word]: [u64; 6]) -> Option<Layout> {
     let size_rounding_align_and_phase = RoundingAlignAndPhase(word);
     let size_info = match (kind, offset, elem_size, word) {
-        (0 | 1, 0, 0, 0) => SizeInfo::Sized { size: size_base },
-        (2 | 3, ..) => SizeInfo::SliceDst(Trailing { size_base, offset, elem_size, size_rounding_align_and_phase }),
+        (0 | 1 | 4 | 5, 0, 0, 0) => SizeInfo::Sized { size: size_base },
+        (2 | 3 | 6 | 7, ..) => {
+            SizeInfo::SliceDst(Trailing { size_base, offset, elem_size, size_rounding_align_and_phase })
+        }
         _ => return None,
     };
-    Some(Layout { align, size_info, statically_shallow_unpadded: kind % 2 == 1 })
+    Some(Layout { align, size_info, statically_shallow_unpadded: kind % 2 == 1, align_modifier: kind > 3 })
 }
 
 fn words_of(layout: Layout) -> [u64; 6] {
-    let mark = u64::from(layout.statically_shallow_unpadded);
+    let marks = u64::from(layout.statically_shallow_unpadded) + 4 * u64::from(layout.has_align_modifier());
     match layout.size_info {
-        SizeInfo::Sized { size } => [layout.align, mark, size, 0, 0, 0],
+        SizeInfo::Sized { size } => [layout.align, marks, size, 0, 0, 0],
         SizeInfo::SliceDst(t) => {
             let word = t.size_rounding_align_and_phase.0;
-            [layout.align, 2 + mark, t.size_base, t.offset, t.elem_size, word]
+            [layout.align, 2 + marks, t.size_base, t.offset, t.elem_size, word]
         }
     }
 }
@@ -161,6 +163,7 @@ pub fn call(function: u64, i: &mut Inputs) -> Option<Vec<u64>> {
             let (src, dst) = (i.layout()?, i.layout()?);
             carried(convert_and_cast(src, dst, i.number(), i.number(), i.number(), i.number()))
         }
+        34 => composed(i, for_repr_c_struct_strict, for_repr_c_struct_strict_records),
         _ => panic!("no function {function}"),
     })
 }

@@ -1,9 +1,9 @@
--- `replay_layouts::calls::compose` meets its contract. Assumes nothing.
+-- `replay_layouts::calls::composed` meets its contract. Assumes nothing.
 use mathlib.Core.Path.{sym}
 use lib.Seq.{length-take-le}
 use borrow.Author.Needs.{needs}
-use Rattle.replay_layouts.proofs.calls.compose.Statement.{statement}
-use Rattle.replay_layouts.proofs.calls.compose.Tie as tie
+use Rattle.replay_layouts.proofs.calls.composed.Statement.{statement}
+use Rattle.replay_layouts.proofs.calls.composed.Tie as tie
 
 element-copy-out-length : tie.Need-element-copy-out-length
 element-copy-out-length c = search needs
@@ -17,20 +17,24 @@ returns c = search needs
 bytes-from-requires : tie.Need-bytes-from-requires
 bytes-from-requires c κs = search needs
 
-element-copy-out-lukaripe-compose : tie.Need-element-copy-out-lukaripe-compose
-element-copy-out-lukaripe-compose c = search needs
+element-copy-out-composition : tie.Need-element-copy-out-composition
+element-copy-out-composition c = search needs
 
-element-copy-out-lukaripe-compose-2 : tie.Need-element-copy-out-lukaripe-compose-2
-element-copy-out-lukaripe-compose-2 c = search needs
+element-copy-out-composition-2 :
+    tie.Need-element-copy-out-composition-2
+element-copy-out-composition-2 c = search needs
+
+element-copy-out-composition-3 : tie.Need-element-copy-out-composition-3
+element-copy-out-composition-3 c = search needs
 
 array-share-prefix-bytes : tie.Need-array-share-prefix-bytes
 array-share-prefix-bytes c = search needs
 
-slice-aggregate-lukaripe-compose : tie.Need-slice-aggregate-lukaripe-compose
-slice-aggregate-lukaripe-compose c = sym (length-take-le _ _ (array-share-prefix-bytes (c .before)))
+slice-aggregate-composition : tie.Need-slice-aggregate-composition
+slice-aggregate-composition c = sym (length-take-le _ _ (array-share-prefix-bytes (c .before)))
 
-lukaripe-compose-requires : tie.Need-lukaripe-compose-requires
-lukaripe-compose-requires c κs = search needs
+composition-requires : tie.Need-composition-requires
+composition-requires c κs = search needs
 
 add-tell-composed : tie.Need-add-tell-composed
 add-tell-composed c = search needs
@@ -44,19 +48,20 @@ tell-composed-requires c κs = search needs
 returns-2 : tie.Need-returns-2
 returns-2 c = search needs
 
-pub compose-spec : {M : Type 1} → statement M
-compose-spec =
+pub composed-spec : {M : Type 1} → statement M
+composed-spec =
     tie.close
     (tie.spec
     element-copy-out-length
     tell-none-requires
     returns
     bytes-from-requires
-    element-copy-out-lukaripe-compose
-    element-copy-out-lukaripe-compose-2
+    element-copy-out-composition
+    element-copy-out-composition-2
+    element-copy-out-composition-3
     array-share-prefix-bytes
-    slice-aggregate-lukaripe-compose
-    lukaripe-compose-requires
+    slice-aggregate-composition
+    composition-requires
     add-tell-composed
     add-tell-composed-2
     tell-composed-requires

@@ -1,0 +1,1 @@
+// No code: the definitions of compositions and their laws, at any width.
