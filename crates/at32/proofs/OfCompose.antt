@@ -5,6 +5,7 @@ use mathlib.Core.List.{List}
 use Prim.Native.Nat.{ℕ, _-_, _*_, _/_, _%_, _≤_}
 use lib.Dec.{eqb}
 use lib.ListN.{length, drop}
+use Rattle.util_defs.specs.Power.{powerOfTwo}
 use Rattle.util_defs.specs.Refusal.{answered, refused}
 use Rattle.layout_defs.specs.Layout.{fixed, Layout}
 use Rattle.layout_defs.specs.Extend.{extendFor}
@@ -39,6 +40,12 @@ begin-on heed a p {l} = Compositions.begin-on 32 heed a p {l = l}
 
 pub begin-off : (heed : Bool) (a p : ℕ) {l : Layout} → newZstFor 32 a ≡ answered l → (heed && (not (eqb a 0) && not (eqb p 0))) ≡ true → beginFor 32 heed a p ≡ refused 49
 begin-off heed a p {l} = Compositions.begin-off 32 heed a p {l = l}
+
+pub begin-power : (heed : Bool) (a p : ℕ) {l : Layout} → beginFor 32 heed a p ≡ answered l → powerOfTwo 32 (l .align) ≡ true
+begin-power heed a p {l} = Compositions.begin-power 32 heed a p {l = l}
+
+pub step-power : (heed : Bool) (p : ℕ) (l : Layout) (m : Member) {r : Layout} → powerOfTwo 32 (l .align) ≡ true → memberStep 32 heed p l m ≡ answered r → powerOfTwo 32 (r .align) ≡ true
+step-power heed p l m {r} = Compositions.step-power 32 heed p l m {r = r}
 
 pub empty-sized : (heed : Bool) (a p : ℕ) {l : Layout} → beginFor 32 heed a p ≡ answered l → beginFor 32 heed a p ≡ answered (record { align = l .align; info = fixed 0; mark = true; modifier = l .modifier })
 empty-sized heed a p {l} = Compositions.empty-sized 32 heed a p {l = l}

@@ -7,7 +7,7 @@ use Rattle.util_defs.specs.Refusal.{answered, refused, unless, Meets, Decided, 
 use Rattle.util.specs.View.{numberSays}
 use Rattle.util.specs.declared.Answer.{Answer}
 use Rattle.util.specs.declared.Answer.the-variants as Answer
-use Rattle.layout_defs.specs.Extend.{roundingPasses, LeastPlace, roundUpCauses, roundUpFor, memberAlign, extended, badPacking, greatestAlign, memberPasses, placeCauses, stepCauses, extendCauses, extendFor, Extended}
+use Rattle.layout_defs.specs.Extend.{roundingPasses, LeastPlace, roundUpCauses, roundUpFor, memberAlign, extended, badPacking, greatestAlign, memberPasses, placeCauses, stepCauses, extendCauses, ontoFor, extendFor, Extended}
 use Rattle.layout.specs.declared.Check.{Check}
 use Rattle.layout.specs.declared.Check.the-variants as Check
 use Rattle.layout.specs.View.{checkSays}
@@ -20,6 +20,7 @@ use Rattle.util_defs.specs.Round.{up}
 use Rattle.layout_defs.proofs.Passes as Passes
 use Rattle.layout_defs.proofs.Layouts as Layouts
 use Rattle.layout_defs.proofs.Steps as Steps
+use Rattle.layout_defs.proofs.Onto as Onto
 use Rattle.layout.proofs.Told as Told
 
 pub within : {T : Type 0} (v : ℕ) (x : T) → v ≤ M 32 → answered x ≡ unless (roundingPasses 32 v ∷ []) x
@@ -93,3 +94,15 @@ step-past = Steps.step-past 32
 
 pub step-placed : (k s : ℕ) (mark over : Bool) (m : Layout) (packing : ℕ) → up s (memberAlign (m .align) packing) ≤ M 32 → unless (memberPasses 32 (up s (memberAlign (m .align) packing)) (m .info) ∷ []) (extended (record { align = k; info = fixed s; mark = mark; modifier = over }) m packing) ≡ unless (placeCauses 32 (record { align = k; info = fixed s; mark = mark; modifier = over }) m packing) (extended (record { align = k; info = fixed s; mark = mark; modifier = over }) m packing)
 step-placed = Steps.step-placed 32
+
+pub onto-extend : (l m : Layout) (packing : ℕ) → checkFor 32 l ≡ answered tt → ontoFor 32 l m packing ≡ extendFor 32 l m packing
+onto-extend = Onto.onto-extend 32
+
+pub onto-member : {k : ℕ} (l m : Layout) (packing : ℕ) → checkFor 32 m ≡ refused k → refused k ≡ ontoFor 32 l m packing
+onto-member {k} = Onto.onto-member {k = k} 32
+
+pub onto-step : (l m : Layout) (packing : ℕ) → checkFor 32 m ≡ answered tt → unless (stepCauses 32 l m packing) (extended l m packing) ≡ ontoFor 32 l m packing
+onto-step = Onto.onto-step 32
+
+pub align-kept : (l m : Layout) (packing : ℕ) {r : Layout} → powerOfTwo 32 (l .align) ≡ true → extendFor 32 l m packing ≡ answered r → powerOfTwo 32 (r .align) ≡ true
+align-kept l m packing {r} = Onto.align-kept 32 l m packing {r = r}

@@ -1,5 +1,6 @@
 -- The laws of `util` at 32 bits: each holds at any width. Assumes nothing.
 use mathlib.Core.Path.{_≡_}
+use mathlib.Core.Bool.{true}
 use Prim.Native.Nat.{ℕ, _+_, _-_, _%_, _^_, _≤_, _<_, max, min}
 use lib.Bits.{bitAnd}
 use lib.Dec.{eqb}
@@ -27,6 +28,12 @@ double {a} = Powers.double {a = a} 32
 
 pub divides : {a : ℕ} → PowerOfTwo a → a < 2 ^ 32 → 2 ^ 32 % a ≡ 0
 divides {a} = Powers.divides {a = a} 32
+
+pub test-sound : (a : ℕ) → powerOfTwo 32 a ≡ true → PowerOfTwo a
+test-sound = Powers.test-sound 32
+
+pub test-below : (a : ℕ) → powerOfTwo 32 a ≡ true → a < 2 ^ 32
+test-below = Powers.test-below 32
 
 pub tells-power : (a : ℕ) → a < 2 ^ 32 → Tells (PowerOfTwo a) (powerOfTwo 32 a)
 tells-power = Powers.tells-power 32

@@ -1,9 +1,11 @@
 // The composition of a list of member records, after zerocopy's for_repr_c_struct, and a strict one beside it. Both are one: the
 // strict one heeds alignment modifiers. What the ported one is called with, false, the compiler carries into its loop.
 ghost use mathlib.Core.Path.{_≡_};
-ghost use mathlib.Core.Bool.{_&&_};
+ghost use mathlib.Core.Bool.{true, _&&_};
 ghost use Prim.Native.Nat.{_/_};
 ghost use lib.ListN.{length};
+ghost use Rattle.util_defs.specs.Power.{powerOfTwo};
+ghost use Rattle.util_defs.specs.Refusal.{answered};
 ghost use Rattle.layout.specs.View.{layoutOf, sizedOf, layoutSays};
 ghost use Rattle.padding_defs.specs.Pad.{padFor};
 ghost use Rattle.record_defs.specs.Record.{decodeFor};
@@ -67,16 +69,46 @@ fn member_step(l: DstLayout, heed: bool, repr_packed: u64, member: &[u8]) -> Lay
     }
 }
 
-// The same of a layout with a size.
+// The step of a member with a size onto a layout with a size, whose alignment is not tested again.
+fn step_of_sized(own: SizedLayout, heed: bool, repr_packed: u64, field: DstLayout) -> LayoutAnswer
+    requires { ⌜ powerOfTwo 64 (own .align) ≡ true ⌝ }
+    ensures { λ r. ⌜ layoutSays r ≡ memberStep 64 heed «repr_packed» (sizedOf own) (answered (layoutOf field)) ⌝ }
+{
+    if at_odds(heed, repr_packed != 0, field.align_modifier) {
+        LayoutAnswer::Refused(refusal::ALIGN_MODIFIER_IN_PACKED)
+    } else {
+        extend::extend_onto(own, field, repr_packed)
+    }
+}
+
+// That of a trailing member.
+fn step_of_trailing(
+    own: SizedLayout,
+    heed: bool,
+    repr_packed: u64,
+    field: DstLayout,
+) -> LayoutAnswer
+    ensures { λ r. ⌜ layoutSays r ≡ memberStep 64 heed «repr_packed» (sizedOf own) (answered (layoutOf field)) ⌝ }
+{
+    if at_odds(heed, repr_packed != 0, field.align_modifier) {
+        LayoutAnswer::Refused(refusal::ALIGN_MODIFIER_IN_PACKED)
+    } else {
+        extend::extend_sized(own, field, repr_packed)
+    }
+}
+
+// The layout with one member more of a layout with a size. The two kinds go apart, so that the loop below keeps in registers what a
+// member with a size needs and no more.
 fn sized_step(own: SizedLayout, heed: bool, repr_packed: u64, member: &[u8]) -> LayoutAnswer
+    requires { ⌜ powerOfTwo 64 (own .align) ≡ true ⌝ }
     ensures { λ r. ⌜ layoutSays r ≡ memberStep 64 heed «repr_packed» (sizedOf own) (decodeFor 64 (now (member .entry))) ⌝ }
 {
     match record::decode(member) {
         LayoutAnswer::Layout(field) => {
-            if at_odds(heed, repr_packed != 0, field.align_modifier) {
-                LayoutAnswer::Refused(refusal::ALIGN_MODIFIER_IN_PACKED)
-            } else {
-                extend::extend_sized(own, field, repr_packed)
+            let size_info = field.size_info;
+            match size_info {
+                SizeInfo::Sized { size: _ } => step_of_sized(own, heed, repr_packed, field),
+                SizeInfo::SliceDst(_) => step_of_trailing(own, heed, repr_packed, field),
             }
         }
         LayoutAnswer::Refused(number) => LayoutAnswer::Refused(number),
@@ -121,6 +153,7 @@ fn add_members(
 // Each member in turn at the end of a layout with a size. A trailing member leaves this loop, which so carries four words and
 // no whole layout.
 fn add_to_sized(start: SizedLayout, heed: bool, repr_packed: u64, members: &[u8]) -> ComposeAnswer
+    requires { ⌜ powerOfTwo 64 (start .align) ≡ true ⌝ }
     ensures { λ r. ⌜
         composeSays r ≡ addMembers (memberStep 64 heed «repr_packed») 0 (sizedOf start)
         (membersOf 64 (length (now (members .entry)) / 48) (now (members .entry)))

@@ -4,20 +4,22 @@ use mathlib.Core.Bool.{Bool, true, false, cond, not, _&&_}
 use mathlib.Core.List.{List, [], _∷_}
 use Prim.Native.Nat.{ℕ, zero, suc, _+_, _-_, _*_, _/_, _%_, _≤_, _<_}
 use native.Mathlib.Omega.{arith}
-use borrow.Author.Tests.{eq-eqb, ne-eqb}
+use borrow.Author.Tests.{eq-eqb, ne-eqb, not-false}
 use lib.Dec.{eqb}
 use lib.ListN.{length, take, drop}
 use lib.Seq.{drop-drop}
+use Rattle.util_defs.specs.Power.{powerOfTwo}
 use Rattle.util_defs.specs.Refusal.{answered, refused, unless}
 use Rattle.util_defs.specs.Helpers.{alignCauses}
-use Rattle.util_defs.proofs.Tables.{answer-is, refused-first, accepted-first}
+use Rattle.util_defs.proofs.Tables.{apart, answer-is, refused-first, accepted-first, passed, passed-both}
 use Rattle.layout_defs.specs.Layout.{fixed, Layout}
 use Rattle.layout_defs.specs.Extend.{extendFor}
+use Rattle.layout_defs.proofs.Onto.{align-kept}
 use Rattle.make.specs.Make.{asked, emptyLayout, newZstFor}
 use Rattle.padding_defs.specs.Pad.{padFor}
 use Rattle.record_defs.specs.Record.{decodeFor}
 use Rattle.compose_defs.specs.Compose.{Composed, composed, refusedAt, andThen, bind, heeded, bothAsked, beginCauses, beginFor}
-use Rattle.compose_defs.specs.Compose.{Step, memberStep, addMembers, composeMembers, composeStruct, membersOf, composeFor, structFor}
+use Rattle.compose_defs.specs.Compose.{Member, Step, memberStep, addMembers, composeMembers, composeStruct, membersOf, composeFor, structFor}
 
 pub members-length : (w n : ℕ) (s : List ℕ) → length (membersOf w n s) ≡ n
 unfolding membersOf
@@ -83,6 +85,21 @@ pub begin-off : (w : ℕ) (heed : Bool) (a p : ℕ) {l : Layout} → newZstFor w
 unfolding newZstFor beginFor unless
 begin-off w true a p e h = accepted-first (alignCauses w (asked a)) (bothAsked a p ∷ []) (emptyLayout a) (emptyLayout a) e ∙ rw h
 begin-off w false a p e h = cc
+
+-- alignments are powers of two from the beginning on
+pub begin-power : (w : ℕ) (heed : Bool) (a p : ℕ) {l : Layout} → beginFor w heed a p ≡ answered l → powerOfTwo w (l .align) ≡ true
+unfolding beginFor
+begin-power w heed a p e =
+    let x = passed-both (alignCauses w (asked a)) (heeded heed (bothAsked a p)) (passed (beginCauses w heed a p) (emptyLayout a) e) in
+    ap (λ (z : Layout). powerOfTwo w (z .align)) (answer-is (beginCauses w heed a p) (emptyLayout a) e) ∙ not-false (powerOfTwo w (asked a)) (x .0 .0)
+
+pub step-power : (w : ℕ) (heed : Bool) (p : ℕ) (l : Layout) (m : Member) {r : Layout} → powerOfTwo w (l .align) ≡ true → memberStep w heed p l m ≡ answered r → powerOfTwo w (r .align) ≡ true
+step-power w heed p l (answered m) {r} h e = go (heed && (not (eqb p 0) && m .modifier)) refl
+  where
+    go : (b : Bool) → (heed && (not (eqb p 0) && m .modifier)) ≡ b → powerOfTwo w (r .align) ≡ true
+    go true t = absurd (apart (sym (step-off w heed p l m t) ∙ e))
+    go false t = align-kept w l m p h (sym (step-on w heed p l m t) ∙ e)
+step-power w heed p l (refused k) h e = absurd (apart e)
 
 -- the layout that a composition begins with has size 0 and the first mark
 pub empty-sized : (w : ℕ) (heed : Bool) (a p : ℕ) {l : Layout} → beginFor w heed a p ≡ answered l → beginFor w heed a p ≡ answered (record { align = l .align; info = fixed 0; mark = true; modifier = l .modifier })

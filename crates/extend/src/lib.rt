@@ -9,7 +9,7 @@ ghost use Rattle.util.specs.View.{numberSays};
 ghost use Rattle.trailing.specs.View.{trailingOf};
 ghost use Rattle.layout_defs.specs.Layout.{trailing};
 ghost use Rattle.layout_defs.specs.Extend.{memberAlign, extended, badPacking, aboveGreatest, roundUpFor};
-ghost use Rattle.layout_defs.specs.Extend.{placeCauses, stepCauses, extendCauses, extendFor, Extended, IsTrailing};
+ghost use Rattle.layout_defs.specs.Extend.{placeCauses, stepCauses, extendCauses, ontoFor, extendFor, Extended, IsTrailing};
 ghost use Rattle.layout.specs.View.{infoOf, layoutOf, sizedOf, layoutSays};
 use layout::Check;
 use layout::DstLayout;
@@ -83,7 +83,7 @@ fn round_up_to_power(len: u64, align: u64) -> Answer
 
 // The step where the member's alignment is field_align, which is its own lowered by the packing.
 fn extend_aligned(own: SizedLayout, field: DstLayout, field_align: u64) -> LayoutAnswer
-    requires { ⌜ PowerOfTwo (own .align) × PowerOfTwo «field_align» ⌝ }
+    requires { ⌜ PowerOfTwo «field_align» ⌝ }
     ensures { λ r. ⌜
         ((packing : ℕ) → «field_align» ≡ memberAlign (field .align) packing → layoutSays r ≡ unless
         (placeCauses 64 (sizedOf own) (layoutOf field) packing) (extended (sizedOf own) (layoutOf field) packing))
@@ -95,9 +95,9 @@ fn extend_aligned(own: SizedLayout, field: DstLayout, field_align: u64) -> Layou
     }
 }
 
-// The step of two layouts that are accepted.
+// The step of a member that is accepted.
 fn extend_checked(own: SizedLayout, field: DstLayout, repr_packed: u64) -> LayoutAnswer
-    requires { ⌜ PowerOfTwo (own .align) × PowerOfTwo (field .align) ⌝ }
+    requires { ⌜ PowerOfTwo (field .align) ⌝ }
     ensures { λ r. ⌜
         layoutSays r ≡ unless (stepCauses 64 (sizedOf own) (layoutOf field) «repr_packed»)
         (extended (sizedOf own) (layoutOf field) «repr_packed»)
@@ -115,7 +115,17 @@ fn extend_checked(own: SizedLayout, field: DstLayout, repr_packed: u64) -> Layou
     }
 }
 
-// `extend` of a layout with a size: a composition keeps its three words at hand, where a whole layout would go by memory.
+// `extend` of a layout with a size that is accepted: nothing is asked of its alignment, which a composition tests once.
+pub fn extend_onto(own: SizedLayout, field: DstLayout, repr_packed: u64) -> LayoutAnswer
+    ensures { λ r. ⌜ layoutSays r ≡ ontoFor 64 (sizedOf own) (layoutOf field) «repr_packed» ⌝ }
+{
+    match field.check() {
+        Check::Accepted => extend_checked(own, field, repr_packed),
+        Check::Refused(number) => LayoutAnswer::Refused(number),
+    }
+}
+
+// `extend` of a layout with a size.
 pub fn extend_sized(own: SizedLayout, field: DstLayout, repr_packed: u64) -> LayoutAnswer
     ensures answer { λ r. ⌜ layoutSays r ≡ extendFor 64 (sizedOf own) (layoutOf field) «repr_packed» ⌝ }
     ensures meaning { λ r. ⌜
@@ -124,10 +134,7 @@ pub fn extend_sized(own: SizedLayout, field: DstLayout, repr_packed: u64) -> Lay
         ⌝ }
 {
     if util::is_power_of_two(own.align) {
-        match field.check() {
-            Check::Accepted => extend_checked(own, field, repr_packed),
-            Check::Refused(number) => LayoutAnswer::Refused(number),
-        }
+        extend_onto(own, field, repr_packed)
     } else {
         LayoutAnswer::Refused(refusal::ALIGN_NOT_POWER_OF_TWO)
     }

@@ -3,3 +3,4 @@ pub mod Passes
 pub mod Layouts
 pub mod Steps
 pub mod Only
+pub mod Onto

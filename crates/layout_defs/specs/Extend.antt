@@ -111,8 +111,8 @@ isMemberPastM w q (trailing t) = ltb (M w) (q + t .offset) || ltb (M w) (q + t .
 abbrev pub memberPasses : ℕ → ℕ → Info → Cause
 memberPasses w q i = record { number = 9; test = isMemberPastM w q i; means = MemberPastM w q i }
 
--- what refuses to place the member; what refuses the step once both layouts are accepted; all that refuses it, the layout's
--- own causes first
+-- what refuses to place the member; what refuses the step once both layouts are accepted, and once the layout is, the member's own
+-- causes first; all that refuses it
 abbrev pub placeCauses : ℕ → Layout → Layout → ℕ → List Cause
 placeCauses w l m packing =
     afterTrailing (l .info)
@@ -123,10 +123,16 @@ placeCauses w l m packing =
 abbrev pub stepCauses : ℕ → Layout → Layout → ℕ → List Cause
 stepCauses w l m packing = badPacking w packing ∷ aboveGreatest (l .align) (m .align) packing ∷ placeCauses w l m packing
 
-abbrev pub extendCauses : ℕ → Layout → Layout → ℕ → List Cause
-extendCauses w l m packing = layoutCauses w l ++ (layoutCauses w m ++ stepCauses w l m packing)
+abbrev pub ontoCauses : ℕ → Layout → Layout → ℕ → List Cause
+ontoCauses w l m packing = layoutCauses w m ++ stepCauses w l m packing
 
--- `extend`
+abbrev pub extendCauses : ℕ → Layout → Layout → ℕ → List Cause
+extendCauses w l m packing = layoutCauses w l ++ ontoCauses w l m packing
+
+-- `extend_onto`, of a layout that is accepted, and `extend`
+unfoldable pub ontoFor : ℕ → Layout → Layout → ℕ → Outcome Layout
+ontoFor w l m packing = unless (ontoCauses w l m packing) (extended l m packing)
+
 unfoldable pub extendFor : ℕ → Layout → Layout → ℕ → Outcome Layout
 extendFor w l m packing = unless (extendCauses w l m packing) (extended l m packing)
 

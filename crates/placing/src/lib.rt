@@ -55,10 +55,12 @@ fn place_member(size_info: SizeInfo, place: u64) -> SizeInfoAnswer
 {
     match size_info {
         SizeInfo::Sized { size } => {
-            if u64::MAX - place < size {
+            // The compiler makes one addition of this, and a test of its carry.
+            let end = std::num::wrapping_add_u64(place, size);
+            if end < place {
                 SizeInfoAnswer::Refused(refusal::MEMBER_PASSES_MAX)
             } else {
-                SizeInfoAnswer::Info(SizeInfo::Sized { size: place + size })
+                SizeInfoAnswer::Info(SizeInfo::Sized { size: end })
             }
         }
         SizeInfo::SliceDst(tail) => place_trailing(tail, place),

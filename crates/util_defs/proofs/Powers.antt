@@ -3,7 +3,7 @@ use mathlib.Core.Path.{_≡_, refl, sym, ap, ap₂, _∙_, subst}
 use Prim.Native.Nat.{ℕ, zero, suc, _+_, _-_, _*_, _/_, _%_, _^_, _≤_, _<_, max}
 use mathlib.Core.Logic.{_⊎_, inl, inr}
 use mathlib.Core.Bool.{Bool, true, false, _||_}
-use native.Mathlib.Nat.{eq-or-lt-of-le, not-le-of-lt, lt-of-not-le, mod-self, mul-mod-left, mod-mod-of-dvd, dvd-of-mod-eq-zero, zero-mod, max-eq-left, max-eq-right, le-of-lt}
+use native.Mathlib.Nat.{eq-or-lt-of-le, not-le-of-lt, lt-of-not-le, mod-self, mul-mod-left, mod-mod-of-dvd, dvd-of-mod-eq-zero, zero-mod, max-eq-left, max-eq-right, le-of-lt, two-pow-succ}
 use native.Mathlib.Omega.{arith}
 use lib.Pow.{pow-pos, pow-mono, pow-add}
 use lib.Bits.{bitAnd, and-mask, and-block}
@@ -62,7 +62,7 @@ max-power {a} {b} x y = go (leb a b) refl
     go false e = subst PowerOfTwo (sym (max-eq-left (le-of-lt (leb-false a b e)))) x
 
 -- a number that passes the test of w bits is a power
-test-sound : (w a : ℕ) → powerOfTwo w a ≡ true → PowerOfTwo a
+pub test-sound : (w a : ℕ) → powerOfTwo w a ≡ true → PowerOfTwo a
 unfolding powerOfTwo
 test-sound zero a e = let z : _≡_ {A = ℕ} 0 1 = cc in absurd (omega arith)
 test-sound (suc k) a e = go (eqb a (2 ^ k)) refl e (test-sound k a)
@@ -70,6 +70,15 @@ test-sound (suc k) a e = go (eqb a (2 ^ k)) refl e (test-sound k a)
     go : (t : Bool) → eqb a (2 ^ k) ≡ t → (t || powerOfTwo k a) ≡ true → (powerOfTwo k a ≡ true → PowerOfTwo a) → PowerOfTwo a
     go true q e f = record { exponent = k; power = eqb-true a (2 ^ k) q }
     go false q e f = f e
+
+pub test-below : (w a : ℕ) → powerOfTwo w a ≡ true → a < 2 ^ w
+unfolding powerOfTwo
+test-below zero a e = let z : _≡_ {A = ℕ} 0 1 = cc in absurd (omega arith)
+test-below (suc k) a e = go (eqb a (2 ^ k)) refl e (test-below k a)
+  where
+    go : (t : Bool) → eqb a (2 ^ k) ≡ t → (t || powerOfTwo k a) ≡ true → (powerOfTwo k a ≡ true → a < 2 ^ k) → a < 2 ^ suc k
+    go true q e f = omega (arith, eqb-true a (2 ^ k) q, two-pow-succ k, pow-pos k)
+    go false q e f = omega (arith, f e, two-pow-succ k)
 
 -- and each power that w bits hold passes it
 test-complete : (w k : ℕ) → k < w → powerOfTwo w (2 ^ k) ≡ true

@@ -98,3 +98,21 @@ Numbers P (c ∷ cs) = P (c .number) × Numbers P cs
 pub number-among : (P : ℕ → Type 0) (cs : List Cause) (k : ℕ) → Numbers P cs → First cs k → P k
 number-among P (c ∷ cs) k n (inl (x, e)) = subst P (sym e) (n .0)
 number-among P (c ∷ cs) k n (inr (x, f)) = number-among P cs k (n .1) f
+
+-- where nothing is refused no test applies, whether or not it decides
+abbrev pub Passed : List Cause → Type 0
+Passed [] = Unit {0}
+Passed (c ∷ cs) = (c .test ≡ false) × Passed cs
+
+pub passed : {T : Type 0} (cs : List Cause) (y : T) {z : T} → unless cs y ≡ answered z → Passed cs
+unfolding unless
+passed [] y e = tt
+passed {T} (c ∷ cs) y {z} e = go (c .test) refl e (passed cs y)
+  where
+    go : (b : Bool) → c .test ≡ b → cond b (refused (c .number)) (unless cs y) ≡ answered z → (unless cs y ≡ answered z → Passed cs) → Passed (c ∷ cs)
+    go true t e f = absurd (apart e)
+    go false t e f = (t, f e)
+
+pub passed-both : (cs ds : List Cause) → Passed (cs ++ ds) → Passed cs × Passed ds
+passed-both [] ds x = (tt, x)
+passed-both (c ∷ cs) ds x = let y = passed-both cs ds (x .1) in ((x .0, y .0), y .1)

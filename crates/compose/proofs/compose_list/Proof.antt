@@ -2,7 +2,7 @@
 use mathlib.Core.Path.{sym, _∙_}
 use Rattle.util_defs.proofs.Tables.{told-by}
 use Rattle.layout.specs.View.{layoutSays}
-use Rattle.compose_defs.proofs.Compositions.{empty-sized, compose-on, compose-off, compose-length}
+use Rattle.compose_defs.proofs.Compositions.{begin-power, empty-sized, compose-on, compose-off, compose-length}
 use borrow.Author.Needs.{needs}
 use Rattle.compose.proofs.compose_list.Statement.{statement}
 use Rattle.compose.proofs.compose_list.Tie as tie
@@ -14,7 +14,9 @@ enum-known-empty : tie.Need-enum-known-empty
 enum-known-empty c = search needs
 
 add-to-sized-requires : tie.Need-add-to-sized-requires
-add-to-sized-requires c κs = search needs
+add-to-sized-requires c κs =
+    let x = c .before .before .before .before .before .before .args in
+    begin-power 64 (x .heed) (x .repr-align) (x .repr-packed) (told-by layoutSays (c .before .before .before .begin .ensures) (c .before .empty .given .1))
 
 enum-known-number : tie.Need-enum-known-number
 enum-known-number c = search needs

@@ -28,14 +28,14 @@ unfolding extended
 returns c = λ packing e.
     let k = c .before .before .before .before .before in
     let own = k .args .own in
-    let n = up-told 64 (up (own .size) (k .args .field-align)) (c .before .before .before .before .round-up-to-power .result) (c .before .before .before .before .round-up-to-power .ensures ∙ round-power 64 (own .size) (k .pre .1) (k .fits .field-align .fits)) (c .before .before .place .given .1) in
+    let n = up-told 64 (up (own .size) (k .args .field-align)) (c .before .before .before .before .round-up-to-power .result) (c .before .before .before .before .round-up-to-power .ensures ∙ round-power 64 (own .size) (k .pre) (k .fits .field-align .fits)) (c .before .before .place .given .1) in
     c .extend-at .ensures ∙ simp (n .0, e) (step-placed 64 (own .align) (own .size) (own .«statically_shallow_unpadded») (own .«align_modifier») (layoutOf (k .args .field)) packing (omega (arith, n .1, ap (up (own .size)) e)))
 
 returns-2 : tie.Need-returns-2
 returns-2 c = λ packing e.
     let k = c .before .before .before .before in
     let own = k .args .own in
-    let n = up-refused 64 (up (own .size) (k .args .field-align)) (c .before .before .before .round-up-to-power .result) (c .before .before .before .round-up-to-power .ensures ∙ round-power 64 (own .size) (k .pre .1) (k .fits .field-align .fits)) (c .before .number .given .1) in
+    let n = up-refused 64 (up (own .size) (k .args .field-align)) (c .before .before .before .round-up-to-power .result) (c .before .before .before .round-up-to-power .ensures ∙ round-power 64 (own .size) (k .pre) (k .fits .field-align .fits)) (c .before .number .given .1) in
     ap refused (n .0) ∙ step-past 64 (own .align) (own .size) (own .«statically_shallow_unpadded») (own .«align_modifier») (layoutOf (k .args .field)) packing (omega (arith, n .1, ap (up (own .size)) e))
 
 pub extend-aligned-spec : {M : Type 1} → statement M

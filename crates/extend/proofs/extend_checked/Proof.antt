@@ -24,14 +24,14 @@ unfolding unless
 returns-2 c = simp (sym (c .before .before .before .bad-packing .ensures) ∙ c .before .before .if1 .left, sym (c .before .above-max .ensures) ∙ c .if2 .taken)
 
 packed-align-requires : tie.Need-packed-align-requires
-packed-align-requires c κs = (c .before .before .before .before .pre .1, no (tells-not (tells-packing 64 (c .before .before .before .before .args .repr-packed) (c .before .before .before .before .fits .repr-packed .fits))) (sym (c .before .before .before .bad-packing .ensures) ∙ c .before .before .if1 .left))
+packed-align-requires c κs = (c .before .before .before .before .pre, no (tells-not (tells-packing 64 (c .before .before .before .before .args .repr-packed) (c .before .before .before .before .fits .repr-packed .fits))) (sym (c .before .before .before .bad-packing .ensures) ∙ c .before .before .if1 .left))
 
 enum-known-field-align : tie.Need-enum-known-field-align
 enum-known-field-align c = search needs
 
 extend-aligned-requires : tie.Need-extend-aligned-requires
 extend-aligned-requires c κs =
-    (c .before .before .before .before .before .before .before .before .pre .0, subst PowerOfTwo (sym (number-told (c .before .before .before .packed-align .result) (c .before .before .before .packed-align .ensures) refl (c .before .field-align .given .1))) (member-power 64 (c .before .before .before .before .before .before .before .before .args .repr-packed) (c .before .before .before .before .before .before .before .before .pre .1) (c .before .before .before .before .before .before .before .before .fits .repr-packed .fits) (no (tells-not (tells-packing 64 (c .before .before .before .before .before .before .before .before .args .repr-packed) (c .before .before .before .before .before .before .before .before .fits .repr-packed .fits))) (sym (c .before .before .before .before .before .before .before .bad-packing .ensures) ∙ c .before .before .before .before .before .before .if1 .left))))
+    subst PowerOfTwo (sym (number-told (c .before .before .before .packed-align .result) (c .before .before .before .packed-align .ensures) refl (c .before .field-align .given .1))) (member-power 64 (c .before .before .before .before .before .before .before .before .args .repr-packed) (c .before .before .before .before .before .before .before .before .pre) (c .before .before .before .before .before .before .before .before .fits .repr-packed .fits) (no (tells-not (tells-packing 64 (c .before .before .before .before .before .before .before .before .args .repr-packed) (c .before .before .before .before .before .before .before .before .fits .repr-packed .fits))) (sym (c .before .before .before .before .before .before .before .bad-packing .ensures) ∙ c .before .before .before .before .before .before .if1 .left)))
 
 enum-known-number : tie.Need-enum-known-number
 enum-known-number c = search needs
