@@ -97,8 +97,8 @@ fn step_of_trailing(
     }
 }
 
-// The layout with one member more of a layout with a size. The two kinds go apart, so that the loop below keeps in registers what a
-// member with a size needs and no more.
+// The layout with one member more of a layout with a size. The two kinds go apart, so that the loop below keeps in registers
+// what a member with a size needs and no more.
 fn sized_step(own: SizedLayout, heed: bool, repr_packed: u64, member: &[u8]) -> LayoutAnswer
     requires { ⌜ powerOfTwo 64 (own .align) ≡ true ⌝ }
     ensures { λ r. ⌜ layoutSays r ≡ memberStep 64 heed «repr_packed» (sizedOf own) (decodeFor 64 (now (member .entry))) ⌝ }

@@ -111,8 +111,8 @@ isMemberPastM w q (trailing t) = ltb (M w) (q + t .offset) || ltb (M w) (q + t .
 abbrev pub memberPasses : ℕ → ℕ → Info → Cause
 memberPasses w q i = record { number = 9; test = isMemberPastM w q i; means = MemberPastM w q i }
 
--- what refuses to place the member; what refuses the step once both layouts are accepted, and once the layout is, the member's own
--- causes first; all that refuses it
+-- what refuses to place the member; what refuses the step once both layouts are accepted, and once the layout is, the member's
+-- own causes first; all that refuses it
 abbrev pub placeCauses : ℕ → Layout → Layout → ℕ → List Cause
 placeCauses w l m packing =
     afterTrailing (l .info)
