@@ -23,8 +23,9 @@
  * A layout that is handed over is tested as a record is, before anything else: 21, 1, then 22 (fixed) or 2 (trailing). Where
  * there are two, the first one is tested first. "Layout refusals" below stands for these four.
  *
- * The library has no state and allocates nothing: every function may be called from any thread at any time. Bytes that are
- * lent are only read, but for `out` of lukaripe_encode, and not kept. A pointer may be NULL where its length is 0.
+ * The library has no state and allocates nothing: every function may be called from any thread at any time. What is lent is
+ * only read, but for `out` of lukaripe_encode and for `places` and `gaps` of lukaripe_for_repr_c_struct_places, which overlap
+ * nothing else that is lent, and it is not kept. A pointer may be NULL where its length is 0.
  */
 #ifndef LUKARIPE_H
 #define LUKARIPE_H
@@ -74,6 +75,7 @@ enum {
     LUKARIPE_REFUSED_KIND = 21,
     LUKARIPE_REFUSED_FIXED_RECORD = 22,
     LUKARIPE_REFUSED_SCALAR_CODE = 23,
+    LUKARIPE_REFUSED_SLICE_LENGTH = 24,
     LUKARIPE_REFUSED_SOURCE_ALIGN_LOWER = 25,
     LUKARIPE_REFUSED_FIXED_SIZES_DIFFER = 26,
     LUKARIPE_REFUSED_TRAILING_TO_FIXED = 27,
@@ -136,6 +138,8 @@ static inline const char *lukaripe_refusal_text(uint64_t refusal) {
         return "a record of a fixed size has a later word that is not 0";
     case LUKARIPE_REFUSED_SCALAR_CODE:
         return "the code of a scalar is above 8";
+    case LUKARIPE_REFUSED_SLICE_LENGTH:
+        return "a lent slice has another length than there are members";
     case LUKARIPE_REFUSED_SOURCE_ALIGN_LOWER:
         return "the source's alignment is lower than the target's";
     case LUKARIPE_REFUSED_FIXED_SIZES_DIFFER:
@@ -323,7 +327,7 @@ LUKARIPE_USE_RESULT uint64_t lukaripe_encode(lukaripe_layout layout, uint8_t *ou
 LUKARIPE_USE_RESULT lukaripe_layout_answer lukaripe_scalar(uint64_t code);
 
 /* A composed layout. place, of a refusal: the index of the member at fault; the member count where closing padding is at
- * fault; 0 for the length of the list, for repr_align, and for repr_align and repr_packed together. */
+ * fault; 0 for the length of the list or of a lent slice, for repr_align, and for repr_align and repr_packed together. */
 typedef struct {
     uint64_t refusal;
     uint64_t place;
@@ -345,6 +349,17 @@ LUKARIPE_USE_RESULT lukaripe_composed lukaripe_for_repr_c_struct(uint64_t repr_a
  * member has the modifier, 5, 6, 7, 8, 9; then 8. What is not refused by 49 or 50 is answered or refused as above. */
 LUKARIPE_USE_RESULT lukaripe_composed lukaripe_for_repr_c_struct_strict(uint64_t repr_align, uint64_t repr_packed,
                                                                         const uint8_t *members, size_t len);
+
+/* lukaripe_for_repr_c_struct, which also writes where each member starts and the gap before it: each slice has a number for
+ * each member. The gaps, the sizes of the members and the closing padding, which stands in neither slice, add up to the size
+ * of a fixed struct; the place of a trailing member is where it starts, not where its elements do. On a refusal, one for the
+ * closing padding too, no number of either slice has changed. Refusals: 20 where len is no multiple of 48; 24 where
+ * places_len or gaps_len is not the member count, longer or shorter; 1 of repr_align; of each member in turn: layout
+ * refusals, 5, 6, 7, 8, 9; then 8. */
+LUKARIPE_USE_RESULT lukaripe_composed lukaripe_for_repr_c_struct_places(uint64_t repr_align, uint64_t repr_packed,
+                                                                        const uint8_t *members, size_t len,
+                                                                        uint64_t *places, size_t places_len,
+                                                                        uint64_t *gaps, size_t gaps_len);
 
 /* ---- casts ---- */
 

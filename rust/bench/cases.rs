@@ -5,6 +5,7 @@
 use super::exports::Words;
 use super::random::Random;
 use crate::{layout, nonzero, trailing, CastParams, CastParamsInner, CastType, DstLayout, TrailingSliceLayout};
+use core::cell::Cell;
 use core::num::NonZeroUsize;
 
 #[derive(Clone, Copy, PartialEq)]
@@ -85,11 +86,23 @@ pub struct Case {
     pub list_n: Vec<DstLayout>,
     pub record: Vec<u8>,
     pub room: usize,
+    /// Numbers to lend, as many as there are members. They stand here, since to make them anew for each call would take
+    /// longer than some calls.
+    pub places: Vec<Cell<u64>>,
+    pub gaps: Vec<Cell<u64>>,
 }
 
 impl Case {
     pub fn params(&self) -> CastParams {
         CastParams { inner: self.params_n }
+    }
+
+    /// What a call gives, and the lent numbers after it, which no call before it wrote.
+    pub fn with_numbers<T>(&self, call: impl FnOnce(&Case) -> T) -> (T, Vec<u64>) {
+        let lent = || self.places.iter().chain(&self.gaps);
+        lent().for_each(|number| number.set(u64::MAX));
+        let given = call(self);
+        (given, lent().map(Cell::get).collect())
     }
 }
 
@@ -258,5 +271,7 @@ fn draw(random: &mut Random, set: Set, members: usize) -> Option<Case> {
         own_align: 0,
         list: bytes(&list.concat()),
         list_n: list.into_iter().map(layout).collect(),
+        places: vec![Cell::new(0); members],
+        gaps: vec![Cell::new(0); members],
     })
 }

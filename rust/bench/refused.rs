@@ -191,6 +191,22 @@ pub const COMPOSE: &[Spoil] =
     &[UNEVEN, OWN_ALIGN, PACKING, LAST_21, LAST_1, LAST_22, LAST_2, LAST_6, LAST_7, LAST_8, LAST_9];
 pub const STRUCT: &[Spoil] =
     &[UNEVEN, OWN_ALIGN, PACKING, LAST_21, LAST_1, LAST_22, LAST_2, LAST_6, LAST_7, LAST_8, LAST_9, FINAL_8];
+pub const PLACES: &[Spoil] = &[
+    UNEVEN,
+    (24, |c| drop(c.places.pop())),
+    (24, |c| c.gaps.push(c.places[0].clone())),
+    OWN_ALIGN,
+    PACKING,
+    LAST_21,
+    LAST_1,
+    LAST_22,
+    LAST_2,
+    LAST_6,
+    LAST_7,
+    LAST_8,
+    LAST_9,
+    FINAL_8,
+];
 const BOTH: Spoil = (49, |c| (c.own_align, c.packing) = (c.align, c.align));
 const LAST_50: Spoil = (50, |c| {
     c.packing = c.align;

@@ -5,6 +5,7 @@ use super::exports::*;
 use super::refused::*;
 use super::{go_through, plain, tested};
 use crate::RoundingAlignAndPhase;
+use core::cell::Cell;
 
 /// Goes through the cases as often as said.
 pub type Side = Box<dyn Fn(&[Case], u64)>;
@@ -16,7 +17,7 @@ pub struct Row {
     pub spoils: &'static [Spoil],
     /// The export, the Rust as it is, and the Rust with the refusals tested; None where the Rust has nothing like it.
     pub sides: [Option<Side>; 3],
-    /// What the first and the last of them give, as the refusal or 0; None where they differ.
+    /// What the first and the last of them give, as the refusal or 0; None where they differ, or the lent numbers do.
     pub refusal: Box<dyn Fn(&Case) -> Option<u64>>,
 }
 
@@ -35,8 +36,8 @@ impl Row {
             spoils,
             sides: [side(export), None, side(tested)],
             refusal: Box::new(move |case| {
-                let given = call(export, case);
-                (given == call(tested, case)).then(|| given.refusal())
+                let given = case.with_numbers(|case| call(export, case));
+                (given == case.with_numbers(|case| call(tested, case))).then(|| given.0.refusal())
             }),
         }
     }
@@ -182,6 +183,10 @@ pub fn rows() -> Vec<Row> {
         row!("for_repr_c_struct_strict, 1365 members", |set| lists(set, 1365), STRICT, f, c =>
             [lukaripe_for_repr_c_struct_strict, tested::for_repr_c_struct_strict],
             unsafe { f(c.own_align, c.packing, c.list.as_ptr(), c.list.len()) };),
+        row!("for_repr_c_struct_places, 10 members", |set| lists(set, 10), PLACES, f, c =>
+            [lukaripe_for_repr_c_struct_places, tested::for_repr_c_struct_places], placed(c, f);),
+        row!("for_repr_c_struct_places, 1365 members", |set| lists(set, 1365), PLACES, f, c =>
+            [lukaripe_for_repr_c_struct_places, tested::for_repr_c_struct_places], placed(c, f);),
         row!("validate_cast_and_convert_metadata", cases, CAST, f, c =>
             [lukaripe_validate_cast_and_convert_metadata, tested::validate_cast_and_convert_metadata],
             f(c.whole, c.addr, c.len, c.suffix);
@@ -211,4 +216,16 @@ fn word(case: &Case) -> RoundingAlignAndPhase {
 fn written(case: &Case, write: impl FnOnce(&mut [u8]) -> u64) -> (u64, [u8; 48]) {
     let mut out = [0; 48];
     (write(&mut out[..case.room]), out)
+}
+
+type Places = unsafe extern "C" fn(u64, u64, *const u8, usize, *mut u64, usize, *mut u64, usize) -> Told<7>;
+
+/// The numbers are written to the case's own.
+#[inline(always)]
+fn placed(case: &Case, by: Places) -> Told<7> {
+    let numbers = |lent: &[Cell<u64>]| (lent.as_ptr() as *mut u64, lent.len());
+    let ((places, places_len), (gaps, gaps_len)) = (numbers(&case.places), numbers(&case.gaps));
+    let list = &case.list;
+    // SAFETY: bytes and numbers are as many as said, and cells may be written.
+    unsafe { by(case.own_align, case.packing, list.as_ptr(), list.len(), places, places_len, gaps, gaps_len) }
 }

@@ -385,3 +385,51 @@ pub unsafe extern "C" fn for_repr_c_struct_strict(
 ) -> Told<7> {
     of_struct(true, repr_align, repr_packed, unsafe { slice::from_raw_parts(members, len) })
 }
+
+/// The struct, and then where its members stand: of one that was accepted no sum overflows.
+fn of_struct_with_places(
+    repr_align: u64,
+    repr_packed: u64,
+    members: &[u8],
+    places: &mut [u64],
+    gaps: &mut [u64],
+) -> Told<7> {
+    if members.len() % 48 != 0 {
+        return told_at(Err((20, 0)));
+    }
+    let count = members.len() / 48;
+    if places.len() != count || gaps.len() != count {
+        return told_at(Err((24, 0)));
+    }
+    let whole = of_struct(false, repr_align, repr_packed, members);
+    if whole.refusal != 0 {
+        return whole;
+    }
+    let packing = asked(repr_packed);
+    let mut end = 0;
+    for ((record, place), gap) in members.chunks_exact(48).zip(places).zip(gaps) {
+        let record = record.try_into().unwrap();
+        // SAFETY: the record was accepted, so its alignment is not 0.
+        let own_align = unsafe { NonZeroUsize::new_unchecked(word_at(record, 0) as usize) };
+        let align = packing.map_or(own_align, |packing| util::min(own_align, packing));
+        *gap = util::padding_needed_for(end, align) as u64;
+        *place = end as u64 + *gap;
+        end = *place as usize + word_at(record, 16) as usize;
+    }
+    whole
+}
+
+pub unsafe extern "C" fn for_repr_c_struct_places(
+    repr_align: u64,
+    repr_packed: u64,
+    members: *const u8,
+    len: usize,
+    places: *mut u64,
+    places_len: usize,
+    gaps: *mut u64,
+    gaps_len: usize,
+) -> Told<7> {
+    let (places, gaps) =
+        unsafe { (slice::from_raw_parts_mut(places, places_len), slice::from_raw_parts_mut(gaps, gaps_len)) };
+    of_struct_with_places(repr_align, repr_packed, unsafe { slice::from_raw_parts(members, len) }, places, gaps)
+}

@@ -12,7 +12,8 @@ const MOST: usize = 12;
 pub struct Answer {
     pub refusal: u64,
     pub values: [u64; MOST],
-    /// What the call broke besides: bytes that it may not change, or the conversion guarantee.
+    /// What the call broke besides: bytes or numbers that it may not change, others that it wrote wrong, or the
+    /// conversion guarantee.
     pub broken: Option<&'static str>,
 }
 

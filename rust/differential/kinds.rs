@@ -185,6 +185,22 @@ const LIST: Kind = Kind {
     draw: |random, case| case.extend(lists::draw(random)),
 };
 
+/// The lengths of two lent slices, an index, and the bytes of a member list. They come together, since the lengths are
+/// mostly the member count.
+const LENT_LIST: Kind = Kind {
+    good: &[2, 2, 1, 96, 8, 1, 16, 0, 0, 0, 1, 3, 0, 0, 1, 1],
+    bad: &[
+        &[2, 2, 1, 95, 8, 1, 16, 0, 0, 0, 1, 3, 0, 0, 1, 1],
+        &[3, 2, 0, 96, 8, 1, 16, 0, 0, 0, 1, 3, 0, 0, 1, 1],
+        &[2, 1, 0, 96, 8, 1, 16, 0, 0, 0, 1, 3, 0, 0, 1, 1],
+        &[1, 1, 0, 48, 8, 8, 16, 0, 0, 0],
+    ],
+    small: lists::small_lent,
+    boundaries: Boundaries::Drawn(|random, case| case.extend(lists::lent_at_boundaries(random))),
+    draw: |random, case| case.extend(lists::draw_lent(random)),
+    ..LIST
+};
+
 pub const fn number(name: &'static str) -> Input {
     Input { name, kind: &NUMBER }
 }
@@ -227,6 +243,10 @@ pub const fn record(name: &'static str) -> Input {
 
 pub const fn list(name: &'static str) -> Input {
     Input { name, kind: &LIST }
+}
+
+pub const fn lent_list(name: &'static str) -> Input {
+    Input { name, kind: &LENT_LIST }
 }
 
 /// The numbers from 0 up.

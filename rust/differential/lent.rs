@@ -1,4 +1,4 @@
-//! Bytes that are lent to an export.
+//! Bytes and numbers that are lent to an export.
 //!
 //! A case holds them as numbers: the length in bytes, then the words of 8 bytes each, little-endian, and for a length
 //! that is no multiple of 8 the remaining bytes as one such number. They come last, since their number varies.
@@ -72,4 +72,40 @@ pub fn writes(len: usize, call: impl FnOnce(*mut u8, usize) -> u64) -> Answer {
         return Answer { broken: stray(strays), ..Answer::of(words) };
     }
     Answer { broken: stray(strays + changed(&after, &lent)), ..Answer::refused(refusal) }
+}
+
+/// Numbers that are lent to be written, and as many others before them and after them.
+pub struct Numbers {
+    all: Vec<u64>,
+    len: usize,
+}
+
+const NUMBERS_AROUND: usize = 4;
+const OTHER_NUMBER: u64 = 0xa5a5_a5a5_a5a5_a5a5;
+
+impl Numbers {
+    pub fn new(len: u64) -> Numbers {
+        let len = len as usize;
+        Numbers { all: vec![OTHER_NUMBER; NUMBERS_AROUND + len + NUMBERS_AROUND], len }
+    }
+
+    pub fn as_mut_ptr(&mut self) -> *mut u64 {
+        self.all[NUMBERS_AROUND..].as_mut_ptr()
+    }
+
+    pub fn len(&self) -> usize {
+        self.len
+    }
+
+    pub fn lent(&self) -> &[u64] {
+        &self.all[NUMBERS_AROUND..][..self.len]
+    }
+
+    /// What changed that may not: of a refused call any of them, else those around.
+    pub fn strays(&self, refusal: u64) -> Option<&'static str> {
+        let [before, after] = [&self.all[..NUMBERS_AROUND], &self.all[NUMBERS_AROUND + self.len..]];
+        let lent = if refusal == 0 { &[] } else { self.lent() };
+        let changed = [before, lent, after].concat().iter().any(|number| *number != OTHER_NUMBER);
+        changed.then_some("numbers changed that it may not change")
+    }
 }

@@ -6,8 +6,9 @@ use crate::lent::{held, RECORD};
 use crate::random::Random;
 use oracle::Layout;
 
-/// The most members of a list.
+/// The most members of a list; with lent slices, so that a recorded line is no longer than its readers have room for.
 const MOST: u64 = 8;
+const MOST_PLACED: u64 = 7;
 
 /// The members end to end.
 fn list(members: &[Layout]) -> Vec<u64> {
@@ -71,10 +72,14 @@ pub fn record(random: &mut Random, layout: Layout) -> Vec<u64> {
 /// A list as of a struct, mostly with something wrong at some place. Half of them are long, since a place that is late
 /// is seldom met.
 pub fn draw(random: &mut Random) -> Vec<u64> {
+    draw_up_to(random, MOST)
+}
+
+fn draw_up_to(random: &mut Random, most: u64) -> Vec<u64> {
     if random.one_in(16) {
         return list(&[]);
     }
-    let before_last = if random.one_in(2) { MOST - 1 } else { random.below(MOST) };
+    let before_last = if random.one_in(2) { most - 1 } else { random.below(most) };
     let mut members: Vec<Layout> = (0..before_last).map(|_| layouts::fixed(random)).collect();
     members.push(if random.one_in(2) { layouts::fixed(random) } else { layouts::trailing(random) });
     if random.one_in(2) {
@@ -130,4 +135,57 @@ fn spoil(random: &mut Random, members: &mut [Layout]) {
         5 => layouts::trailing(random),
         _ => [align, kind, any(random), offset, elem_size, word],
     };
+}
+
+// ---- with lent slices ----
+
+/// Before the list: the lengths of two slices of numbers, and the index of the member whose numbers are looked at.
+fn lent([places_len, gaps_len]: [u64; 2], at: u64, list: &[u64]) -> Vec<u64> {
+    [&[places_len, gaps_len, at], list].concat()
+}
+
+fn count(list: &[u64]) -> u64 {
+    list[0] / RECORD as u64
+}
+
+/// Every small list with the right lengths, each member looked at, and with one slice that is longer or shorter.
+pub fn small_lent(level: u64) -> Vec<Vec<u64>> {
+    let mut cases = Vec::new();
+    for list in small(level) {
+        let right = count(&list);
+        cases.extend((0..right.max(1)).map(|at| lent([right, right], at, &list)));
+        cases.push(lent([right + 1, right], 0, &list));
+        cases.extend(right.checked_sub(1).map(|less| lent([right, less], 0, &list)));
+    }
+    cases
+}
+
+pub fn lent_at_boundaries(random: &mut Random) -> Vec<u64> {
+    let list = at_boundaries(random);
+    with_lent(random, &list)
+}
+
+pub fn draw_lent(random: &mut Random) -> Vec<u64> {
+    let list = draw_up_to(random, MOST_PLACED);
+    with_lent(random, &list)
+}
+
+/// In one case of sixteen one of the slices, or each by itself, has another length, mostly the next.
+fn with_lent(random: &mut Random, list: &[u64]) -> Vec<u64> {
+    let right = count(list);
+    let wrong = |random: &mut Random| match random.below(8) {
+        0 => 0,
+        1 => random.below(MOST_PLACED + 3),
+        2..=4 => right.saturating_sub(1),
+        _ => right + 1,
+    };
+    let lens = match random.below(48) {
+        0 => [wrong(random), right],
+        1 => [right, wrong(random)],
+        2 => [wrong(random), wrong(random)],
+        _ => [right, right],
+    };
+    // Not always an index of the list: it is taken modulo the count.
+    let at = if random.one_in(16) { any(random) } else { random.below(right.max(1)) };
+    lent(lens, at, list)
 }

@@ -12,6 +12,7 @@ mod kinds;
 mod layouts;
 mod lent;
 mod lists;
+mod plain_places;
 mod random;
 mod recorded;
 mod rows;

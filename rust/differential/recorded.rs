@@ -10,9 +10,11 @@
 //! are read are the length in bytes and then the 8-byte words, little-endian, and for a length that is no multiple of 8
 //! the remaining bytes as one little-endian number. Bytes that are written are their length alone, and the answer is
 //! the six words of the record. The answer of a composition is the place and then the six words; the place stays on a
-//! refusal. That of a conversion with casts after it is the parameters, and then of the count and of either cast the
-//! refusal number and the numbers; those of the casts stay where the conversion is refused. So all lines of a function
-//! have the same length, where it reads no bytes.
+//! refusal. Of one that writes places and gaps the inputs are repr_align, repr_packed, the lengths of the two slices,
+//! an index and the members' bytes, and behind the six words come the place and the gap of the member at that index
+//! modulo the count, 0 where there are no members. That of a conversion with casts after it is the parameters, and then
+//! of the count and of either cast the refusal number and the numbers; those of the casts stay where the conversion is
+//! refused. So all lines of a function have the same length, where it reads no bytes.
 
 use crate::answer::Answer;
 use crate::inputs::{Phase, PHASES};
@@ -20,29 +22,34 @@ use crate::random::Random;
 use crate::rows::Row;
 use std::collections::BTreeSet;
 
-/// The lines kept of one function. As many are kept of each slot from each phase, every one seen as likely as another.
-/// The given cases are few and are all kept.
+/// The lines kept of one function. As many are kept of each slot from each phase, every one seen as likely as another;
+/// where the slots are so many that this would pass the number asked for, one of each slot from any phase. The given
+/// cases are few and are all kept.
 pub struct Recorded<'a> {
     row: &'a Row,
     random: Random,
-    /// How many lines are kept of a slot from a phase, the given cases aside.
+    /// How many lines are kept of a slot from a phase, the given cases aside, and whether the phases share that.
     room: usize,
+    shared: bool,
     /// A place for each slot and phase: how many were seen, and the lines kept.
     kept: Vec<(u64, Vec<Vec<u64>>)>,
 }
 
 impl Recorded<'_> {
     pub fn new(row: &Row, slots: usize, seed: u64, lines: u64) -> Recorded<'_> {
+        let places = slots * (PHASES.len() - 1);
         Recorded {
             row,
             random: Random::new(seed),
-            room: (lines as usize).div_ceil(slots * (PHASES.len() - 1)),
+            room: (lines as usize).div_ceil(places),
+            shared: places > lines as usize,
             kept: vec![(0, Vec::new()); slots * PHASES.len()],
         }
     }
 
     pub fn see(&mut self, phase: Phase, slot: usize, inputs: &[u64], answer: &Answer) {
-        let (seen, kept) = &mut self.kept[slot * PHASES.len() + phase as usize];
+        let kept_as = if self.shared && phase != Phase::Given { Phase::Random } else { phase };
+        let (seen, kept) = &mut self.kept[slot * PHASES.len() + kept_as as usize];
         *seen += 1;
         if kept.len() < self.room || phase == Phase::Given {
             kept.push(line(self.row, inputs, answer));

@@ -144,12 +144,12 @@ impl Row {
     }
 
     /// The answer as the Rust can give it, without the alignment modifier, and whether it had that. The six words of a
-    /// layout come last; beside a refusal they are all 0.
+    /// layout come first, of a composition behind the place; beside a refusal they are all 0.
     pub fn without_modifier(&self, mut answer: Answer) -> (Answer, bool) {
         if self.modifier.is_none() || answer.refusal != 0 {
             return (answer, false);
         }
-        let kind = &mut answer.values[self.values - 5];
+        let kind = &mut answer.values[if self.values > 6 { 2 } else { 1 }];
         let had = has_modifier(*kind);
         *kind &= !4;
         (answer, had)

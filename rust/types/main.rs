@@ -1,6 +1,6 @@
-//! Compares the exports with the compiler on repr(C) structs: alignments, sizes, the places of members, and where a
-//! struct ends in a slice its sizes at some counts; and what the strict composition refuses with what the compiler
-//! refuses. tools/rustc-types writes the structs, builds and runs.
+//! Compares the exports with the compiler on repr(C) structs: alignments, sizes, the places of members and the gaps
+//! before them, and where a struct ends in a slice its sizes at some counts; and what the strict composition refuses
+//! with what the compiler refuses. tools/rustc-types writes the structs, builds and runs.
 
 #[path = "../lukaripe/src/exports.rs"]
 mod exports;
@@ -53,10 +53,14 @@ type Compose = unsafe extern "C" fn(u64, u64, *const u8, usize) -> Told<7>;
 
 /// A composition by an export; refused, it is all zeros, which no layout is.
 fn composed(by: Compose, align: u64, packing: u64, members: &[[u64; 6]]) -> [u64; 6] {
-    let bytes: Vec<u8> = members.as_flattened().iter().flat_map(|word| word.to_le_bytes()).collect();
+    let bytes = records(members);
     // SAFETY: the bytes are as many as said.
     let told = unsafe { by(align, packing, bytes.as_ptr(), bytes.len()) };
     told.values[1..].try_into().unwrap()
+}
+
+fn records(members: &[[u64; 6]]) -> Vec<u8> {
+    members.as_flattened().iter().flat_map(|word| word.to_le_bytes()).collect()
 }
 
 fn equal(what: &str, ours: u64, compiler: usize) -> Result<(), String> {
@@ -66,16 +70,52 @@ fn equal(what: &str, ours: u64, compiler: usize) -> Result<(), String> {
     Err(format!("{what}: ours {ours}, the compiler's {compiler}"))
 }
 
-/// A member's place is where a composition that ends with it has its size, less the member's own; of a trailing part,
-/// its offset.
+/// What the composition with places writes, and that it gives the layout that the other one gives. A gap is what the
+/// compiler has between a member and the end of the one before it.
 fn check_places(align: u64, packing: u64, members: &[[u64; 6]], places: &[usize]) -> Result<(), String> {
+    // Numbers that no member here is placed at, nor stands behind.
+    let [mut ours, mut gaps] = [(); 2].map(|()| vec![u64::MAX; members.len()]);
+    let layout = composed_with_places(align, packing, members, &mut ours, &mut gaps);
+    let ported = composed(lukaripe_for_repr_c_struct, align, packing, members);
+    if layout != ported {
+        return Err(format!("ours {ported:?}, that of the composition with places {layout:?}"));
+    }
+    let mut end = 0;
     for (at, place) in places.iter().enumerate() {
-        let [_, kind, size, offset, ..] = composed(lukaripe_compose, align, packing, &members[..=at]);
-        let [_, _, own_size, own_offset, ..] = members[at];
-        let ours = if kind & 2 == 0 { size.wrapping_sub(own_size) } else { offset.wrapping_sub(own_offset) };
-        equal(&format!("place of f{at}"), ours, *place)?;
+        equal(&format!("place of f{at}"), ours[at], *place)?;
+        let Some(gap) = place.checked_sub(end) else {
+            return Err(format!("the compiler has f{at} at {place}, before the end of the member before it, {end}"));
+        };
+        equal(&format!("gap before f{at}"), gaps[at], gap)?;
+        // Only the last can end in a slice, and nothing stands behind it.
+        let [_, _, size, ..] = members[at];
+        end = place + size as usize;
     }
     Ok(())
+}
+
+fn composed_with_places(
+    align: u64,
+    packing: u64,
+    members: &[[u64; 6]],
+    places: &mut [u64],
+    gaps: &mut [u64],
+) -> [u64; 6] {
+    let bytes = records(members);
+    // SAFETY: bytes and numbers are as many as said.
+    let told = unsafe {
+        lukaripe_for_repr_c_struct_places(
+            align,
+            packing,
+            bytes.as_ptr(),
+            bytes.len(),
+            places.as_mut_ptr(),
+            places.len(),
+            gaps.as_mut_ptr(),
+            gaps.len(),
+        )
+    };
+    told.values[1..].try_into().unwrap()
 }
 
 /// None of the structs here is one that the strict composition refuses.
@@ -115,7 +155,7 @@ macro_rules! fixed {
                 let places: &[usize] = &[$(offset_of!($name, $field)),*];
                 check_places($align, $packing, &[$(<$type>::layout()),*], places)?;
                 check_strict($align, $packing, &[$(<$type>::layout()),*])?;
-                Ok(2 + places.len())
+                Ok(2 + 2 * places.len())
             }
         }
     };
@@ -144,7 +184,7 @@ macro_rules! ends_in_slice {
                     let told = lukaripe_size_for_elems(Words(tail), count as u64);
                     equal(&format!("size at {count}"), told.values[0], size_of_val($name::at(count)))?;
                 }
-                Ok(1 + places.len() + COUNTS.len())
+                Ok(1 + 2 * places.len() + COUNTS.len())
             }
         }
     };
@@ -163,7 +203,7 @@ fn main() -> ExitCode {
             }
         }
     }
-    println!("{} structs: {compared} alignments, sizes and places are the compiler's", CHECKS.len());
+    println!("{} structs: {compared} alignments, sizes, places and gaps are the compiler's", CHECKS.len());
     match strict::check_all() {
         Ok(found) => {
             println!("{found}");

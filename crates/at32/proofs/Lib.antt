@@ -11,3 +11,4 @@ mod OfCast
 mod OfShift
 mod OfConvert
 mod OfGuarantee
+mod OfPlaces

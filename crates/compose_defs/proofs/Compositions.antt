@@ -27,7 +27,7 @@ members-length w zero s = refl
 members-length w (suc n) s = ap suc (members-length w n (drop 48 s))
 
 -- the members from the one at i on: that one, and those after it
-next : (w n i : ℕ) (s : List ℕ) → i < n
+pub next : (w n i : ℕ) (s : List ℕ) → i < n
     → membersOf w (n - i) (drop (i * 48) s) ≡ decodeFor w (take 48 (drop (i * 48) s)) ∷ membersOf w (n - (i + 1)) (drop ((i + 1) * 48) s)
 unfolding membersOf
 next w n i s h =

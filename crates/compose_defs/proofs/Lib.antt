@@ -2,3 +2,7 @@
 pub mod Compositions
 pub mod Modifiers
 pub mod Strict
+pub mod Accepted
+pub mod Places
+pub mod Written
+pub mod Landing

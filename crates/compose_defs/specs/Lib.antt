@@ -1,2 +1,3 @@
 pub mod Compose
 pub mod Strict
+pub mod Places

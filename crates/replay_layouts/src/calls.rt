@@ -1,6 +1,7 @@
 // A function for each recorded function: it takes the inputs from the line and tells the answer as a line has it.
 // The number of a function and the order of its inputs are those of rust/differential/recorded.rs and its rows; so is the way
 // bytes stand in a line, their length and then words.
+ghost use Prim.Native.Nat.{_<_};
 use exports_layouts::ComposedOut;
 use exports_layouts::Layout;
 use exports_layouts::LayoutOut;
@@ -11,6 +12,9 @@ use recorded::WIDTH;
 
 // The greatest length of bytes, eight records; no line agrees with a greater one.
 const BYTES: usize = 384;
+
+// The greatest length of a lent slice, more than there are members.
+const SLICE: usize = 16;
 
 // No call: no line agrees with it.
 fn tell_none() -> Told {
@@ -167,6 +171,69 @@ fn composed(line: &[u64; WIDTH]) -> Told {
     tell_composed(3 + (length + 7) / 8, answer)
 }
 
+fn tell_placed(inputs: usize, a: ComposedOut, place: u64, gap: u64) -> Told {
+    let l = a.layout;
+    Told {
+        inputs,
+        length: 10,
+        numbers: [
+            a.refusal,
+            a.place,
+            l.align,
+            l.kind,
+            l.size_base,
+            l.offset,
+            l.elem_size,
+            l.word,
+            place,
+            gap,
+            0,
+            0,
+            0,
+        ],
+    }
+}
+
+// The index that a line asks for, among the members.
+fn chosen(at: u64, count: usize) -> usize
+    ensures { λ r. ⌜ r < 16 ⌝ }
+{
+    if count == 0 {
+        return 0;
+    }
+    let index = at as usize % count;
+    if index < SLICE { index } else { 0 }
+}
+
+// The place of one member and the gap before it, of members that are fewer than the slices can hold. On a refusal they are
+// still the zeros that were lent.
+fn placed(line: &[u64; WIDTH]) -> Told {
+    let places_length = line[3] as usize;
+    let gaps_length = line[4] as usize;
+    let length = line[6] as usize;
+    if length > BYTES {
+        return tell_none();
+    }
+    if places_length > SLICE {
+        return tell_none();
+    }
+    if gaps_length > SLICE {
+        return tell_none();
+    }
+    let bytes = bytes_from(line, 7);
+    let mut places = [0u64; SLICE];
+    let mut gaps = [0u64; SLICE];
+    let answer = exports_places::lukaripe_for_repr_c_struct_places(
+        line[1],
+        line[2],
+        &bytes[..length],
+        &mut places[..places_length],
+        &mut gaps[..gaps_length],
+    );
+    let at = chosen(line[5], length / 48);
+    tell_placed(6 + (length + 7) / 8, answer, places[at], gaps[at])
+}
+
 fn made(line: &[u64; WIDTH]) -> Told {
     match line[0] {
         15 => tell_layout(1, exports_layouts::lukaripe_new_zst(line[1])),
@@ -186,6 +253,7 @@ fn listed(line: &[u64; WIDTH]) -> Told {
         23 => decode(line),
         24 => encode(line),
         26 | 27 | 34 => composed(line),
+        35 => placed(line),
         _ => made(line),
     }
 }

@@ -44,6 +44,8 @@ pub const KIND: u64 = 21;
 pub const FIXED_RECORD: u64 = 22;
 // A scalar code is above the greatest.
 pub const SCALAR_CODE: u64 = 23;
+// A lent slice has another length than there are members.
+pub const SLICE_LENGTH: u64 = 24;
 // No conversion: the source alignment is lower.
 pub const SOURCE_ALIGN_LOWER: u64 = 25;
 // No conversion: two fixed sizes differ.

@@ -4,8 +4,9 @@ use super::{answered, apart, layout_kind, layout_of, no_label, no_modifier, nowh
 use super::{Cell, Row, ANSWER};
 use crate::answer::Answer;
 use crate::exports::*;
-use crate::kinds::{layout, length, list, modifier, number, record};
-use crate::lent::{bytes, reads, records, writes, RECORD};
+use crate::kinds::{layout, length, lent_list, list, modifier, number, record};
+use crate::lent::{bytes, reads, records, writes, Numbers, RECORD};
+use crate::plain_places;
 use crate::table::{self, bad_align, first, has_modifier};
 
 pub const ROWS: &[Row] = &[
@@ -182,6 +183,53 @@ pub const ROWS: &[Row] = &[
         // Where neither 49 nor 50 applies it answers as the Rust's.
         rust: |i| oracle::for_repr_c_struct(i[0], i[1], &good_records(i)).into(),
     },
+    Row {
+        number: 35,
+        name: "for_repr_c_struct_places",
+        inputs: &[&[modifier("repr_align"), modifier("repr_packed"), lent_list("places_len, gaps_len, at, members")]],
+        // Behind the words of the layout: the place and the gap of the member that is looked at.
+        values: 9,
+        cells: &[
+            answered("no members"),
+            answered("fixed"),
+            answered("trailing"),
+            answered("fixed, modifier"),
+            answered("trailing, modifier"),
+            OWN_ALIGN,
+            PACKING,
+            refused(6).at(0, 6),
+            refused(7).at(1, 6),
+            refused(8).at(1, 6),
+            refused(9).at(1, 6),
+            refused_for(8, FINAL_PADDING).at(1, 7),
+            apart(20).at(0, 0),
+            apart(24).at(0, 0),
+            apart(21).at(0, 6),
+            apart(1).at(0, 6),
+            apart(22).at(0, 6),
+            apart(2).at(0, 6),
+        ],
+        modifier: Some(|i| some_modifier(&without_lent(i))),
+        label: |i, answer| composed(&without_lent(i), answer),
+        pages: PLACED_LISTS,
+        aim: nowhere,
+        ours: placed,
+        apart: |i| {
+            let members = i[5] / RECORD as u64;
+            let lengths = [(20, i[5] % RECORD as u64 != 0), (24, i[2] != members || i[3] != members)];
+            first(&lengths).or_else(|| bad_record(&without_lent(i)))
+        },
+        // The layout is the Rust's, and the numbers are those of the plain text beside it.
+        rust: |i| {
+            let members = good_records(&without_lent(i));
+            let mut answer = Answer::from(oracle::for_repr_c_struct(i[0], i[1], &members));
+            if answer.refusal == 0 && !members.is_empty() {
+                let (place, gap) = plain_places::placed(i[1], &members)[i[4] as usize % members.len()];
+                answer.values[7..9].copy_from_slice(&[place, gap].map(|number| number as u64));
+            }
+            answer
+        },
+    },
 ];
 
 // A list has up to 8 members here. The own alignment and the packing are the same for all of them, so they are refused
@@ -245,6 +293,99 @@ const STRICT_LISTS: &[&[u64]] = &[
     &[0, 1, 48, 1, 1, 1, 0, 0, 0],
     &[0, 3, 0],
 ];
+
+/// Two lengths and an index come before the list.
+const PLACED_LISTS: &[&[u64]] = &[
+    // Members at 0, 8 and 16, each looked at, and an index past them; 6 bytes of closing padding.
+    &[0, 0, 3, 3, 0, 144, 1, 1, 1, 0, 0, 0, 8, 1, 8, 0, 0, 0, 2, 1, 2, 0, 0, 0],
+    &[0, 0, 3, 3, 1, 144, 1, 1, 1, 0, 0, 0, 8, 1, 8, 0, 0, 0, 2, 1, 2, 0, 0, 0],
+    &[0, 0, 3, 3, 2, 144, 1, 1, 1, 0, 0, 0, 8, 1, 8, 0, 0, 0, 2, 1, 2, 0, 0, 0],
+    &[0, 0, 3, 3, u64::MAX, 144, 1, 1, 1, 0, 0, 0, 8, 1, 8, 0, 0, 0, 2, 1, 2, 0, 0, 0],
+    // A packing that lowers, one that does not, and an own alignment, which moves nothing.
+    &[0, 2, 3, 3, 1, 144, 1, 1, 1, 0, 0, 0, 8, 1, 8, 0, 0, 0, 2, 1, 2, 0, 0, 0],
+    &[0, 1, 3, 3, 2, 144, 1, 1, 1, 0, 0, 0, 8, 1, 8, 0, 0, 0, 2, 1, 2, 0, 0, 0],
+    &[0, 16, 2, 2, 1, 96, 1, 1, 1, 0, 0, 0, 8, 4, 8, 0, 0, 0],
+    &[32, 0, 2, 2, 1, 96, 1, 1, 1, 0, 0, 0, 8, 1, 8, 0, 0, 0],
+    &[32, 4, 2, 2, 1, 96, 1, 1, 1, 0, 0, 0, 8, 1, 8, 0, 0, 0],
+    // No members, with a packing that would be refused at one.
+    &[0, 0, 0, 0, 0, 0],
+    &[8, 3, 0, 0, 5, 0],
+    // A trailing member: where it starts, not where its elements do.
+    &[0, 0, 2, 2, 1, 96, 1, 1, 1, 0, 0, 0, 4, 2, 8, 9, 2, 5],
+    &[0, 2, 2, 2, 1, 96, 1, 1, 1, 0, 0, 0, 4, 7, 8, 9, 2, 5],
+    &[0, 0, 1, 1, 0, 48, 1, 3, 0, 0, 1, 1],
+    // Members of size 0, of which the second has a gap before it and takes no room.
+    &[0, 0, 4, 4, 1, 192, 1, 1, 1, 0, 0, 0, 4, 1, 0, 0, 0, 0, 1, 1, 0, 0, 0, 0, 1, 1, 1, 0, 0, 0],
+    &[0, 0, 4, 4, 2, 192, 1, 1, 1, 0, 0, 0, 4, 1, 0, 0, 0, 0, 1, 1, 0, 0, 0, 0, 1, 1, 1, 0, 0, 0],
+    &[0, 0, 4, 4, 3, 192, 1, 1, 1, 0, 0, 0, 4, 1, 0, 0, 0, 0, 1, 1, 0, 0, 0, 0, 1, 1, 1, 0, 0, 0],
+    // The greatest place, and a gap that ends at it.
+    &[0, 0, 2, 2, 1, 96, 1, 1, u64::MAX, 0, 0, 0, 1, 1, 0, 0, 0, 0],
+    &[0, 0, 2, 2, 1, 96, 1, 1, u64::MAX - 14, 0, 0, 0, 8, 1, 0, 0, 0, 0],
+    // Slices of another length: longer, shorter and none, of either.
+    &[0, 0, 2, 1, 0, 48, 1, 1, 1, 0, 0, 0],
+    &[0, 0, 1, 2, 0, 48, 1, 1, 1, 0, 0, 0],
+    &[0, 0, 2, 2, 0, 48, 1, 1, 1, 0, 0, 0],
+    &[0, 0, 0, 1, 0, 48, 1, 1, 1, 0, 0, 0],
+    &[0, 0, 1, 0, 0, 48, 1, 1, 1, 0, 0, 0],
+    &[0, 0, 1, 0, 0, 0],
+    &[0, 0, 0, 1, 0, 0],
+    // The length of the list comes before that of the slices, and that before the own alignment and the members.
+    &[3, 3, 2, 2, 0, 49, 4, 8, 8, 0, 0, 0, 1],
+    &[3, 3, 0, 0, 0, 47, 4, 8, 8, 0, 0, 0],
+    &[3, 3, 2, 1, 0, 48, 4, 8, 8, 0, 0, 0],
+    &[3, 0, 0, 1, 0, 0],
+    &[3, 3, 1, 1, 0, 48, 4, 8, 8, 0, 0, 0],
+    &[3, 0, 0, 0, 0, 0],
+    &[0, 3, 1, 1, 0, 48, 4, 8, 8, 0, 0, 0],
+    &[0, 3, 1, 1, 0, 48, 4, 1, 8, 0, 0, 0],
+    // Refusals behind members that have their places: of the last member, and of the closing padding.
+    &[0, 0, 2, 2, 0, 96, 1, 3, 0, 0, 1, 1, 1, 1, 1, 0, 0, 0],
+    &[0, 0, 2, 2, 0, 96, 1, 1, 1, 0, 0, 0, 3, 1, 1, 0, 0, 0],
+    &[0, 0, 2, 2, 0, 96, 1, 1, u64::MAX, 0, 0, 0, 2, 1, 2, 0, 0, 0],
+    &[0, 0, 2, 2, 0, 96, 1, 1, 1, 0, 0, 0, 1, 1, u64::MAX, 0, 0, 0],
+    &[0, 0, 2, 2, 1, 96, 8, 1, 8, 0, 0, 0, 1, 1, u64::MAX - 8, 0, 0, 0],
+    &[2, 0, 1, 1, 0, 48, 1, 1, u64::MAX, 0, 0, 0],
+];
+
+/// The inputs of the composition that writes nothing.
+fn without_lent(inputs: &[u64]) -> Vec<u64> {
+    [&inputs[..2], &inputs[5..]].concat()
+}
+
+/// The composition with places, and the numbers of the member that is looked at. What it wrote is looked at whole.
+fn placed(inputs: &[u64]) -> Answer {
+    let &[repr_align, repr_packed, places_len, gaps_len, at, ref list @ ..] = inputs else { unreachable!() };
+    let [mut places, mut gaps] = [places_len, gaps_len].map(Numbers::new);
+    let (places_at, gaps_at) = (places.as_mut_ptr(), gaps.as_mut_ptr());
+    let (places_len, gaps_len) = (places.len(), gaps.len());
+    let mut answer = reads(&bytes(list), |members, len| {
+        // SAFETY: bytes and numbers are as many as said.
+        unsafe {
+            lukaripe_for_repr_c_struct_places(
+                repr_align,
+                repr_packed,
+                members,
+                len,
+                places_at,
+                places_len,
+                gaps_at,
+                gaps_len,
+            )
+        }
+        .into()
+    });
+    let strays = [&places, &gaps].into_iter().find_map(|numbers| numbers.strays(answer.refusal));
+    answer.broken = answer.broken.or(strays);
+    if answer.refusal == 0 {
+        let (places, gaps) = (places.lent(), gaps.lent());
+        let members = records(list).unwrap_or_default();
+        let wrong = plain_places::broken([repr_align, repr_packed], &members, &answer, places, gaps);
+        answer.broken = answer.broken.or(wrong);
+        let of_one = |numbers: &[u64]| at.checked_rem(numbers.len() as u64).map_or(0, |at| numbers[at as usize]);
+        answer.values[7..9].copy_from_slice(&[of_one(places), of_one(gaps)]);
+    }
+    answer
+}
 
 fn composed(inputs: &[u64], answer: &Answer) -> &'static str {
     let members = inputs[2] / RECORD as u64;

@@ -2,7 +2,8 @@
 
 use crate::exports::{self, Told};
 use crate::layout::or_zero;
-use crate::{Layout, Refusal, Refused, Result};
+use crate::{Layout, Refusal, Refused, Result, RECORD_LENGTH};
+use alloc::vec;
 use alloc::vec::Vec;
 use core::num::NonZeroU64;
 
@@ -151,6 +152,145 @@ pub fn for_repr_c_struct_strict_records(
     let (align, packed) = (or_zero(repr_align), or_zero(repr_packed));
     // SAFETY: the bytes are lent for the call.
     composed(unsafe { exports::lukaripe_for_repr_c_struct_strict(align, packed, members.as_ptr(), members.len()) })
+}
+
+/// A `repr(C)` struct, and where its members stand.
+#[derive(Clone, Debug, PartialEq, Eq, Hash)]
+pub struct Placed {
+    /// The struct, with the final padding, as [`for_repr_c_struct`] gives it.
+    pub layout: Layout,
+    /// Where each member starts. Of one that ends in a run of elements too: the run itself starts at the offset of
+    /// [`Layout::trailing`].
+    pub places: Vec<u64>,
+    /// The bytes between each member and the end of the one before it. The final padding stands in none.
+    pub gaps: Vec<u64>,
+}
+
+/// [`for_repr_c_struct`], with the place of each member and the gap before it.
+///
+/// A place is the next multiple of the member's alignment, or of the packing where that is lower, and what follows a
+/// member does not move it. The gaps, the sizes of the members and the final padding add up to the size of a fixed
+/// struct.
+///
+/// ```
+/// use lukaripe::{for_repr_c_struct_places, Layout, Refusal, Refused, Scalar};
+/// use std::num::NonZeroU64;
+///
+/// let members = [Scalar::U8, Scalar::U64, Scalar::U16].map(Layout::scalar);
+/// let placed = for_repr_c_struct_places(None, None, &members)?;
+/// assert_eq!(placed.places, [0, 8, 16]);
+/// assert_eq!(placed.gaps, [0, 7, 0]);
+/// // The last member ends at 18. The other 6 bytes are the final padding, which is no gap.
+/// assert_eq!(placed.layout.size(), Some(24));
+///
+/// let packed = for_repr_c_struct_places(None, NonZeroU64::new(2), &members)?;
+/// assert_eq!((packed.places, packed.gaps), (vec![0, 2, 10], vec![0, 1, 0]));
+///
+/// // struct Name { length: u32, flag: u8, text: [u16] }, and struct File { kind: u8, name: Name }: the name starts at
+/// // 4, its text at 10.
+/// let [u8, u32] = [Scalar::U8, Scalar::U32].map(Layout::scalar);
+/// let name = for_repr_c_struct_places(None, None, &[u32, u8, Layout::of_slice::<u16>()])?;
+/// assert_eq!((name.places, name.gaps), (vec![0, 4, 6], vec![0, 0, 1]));
+/// let file = for_repr_c_struct_places(None, None, &[u8, name.layout])?;
+/// assert_eq!((file.places, file.gaps), (vec![0, 4], vec![0, 3]));
+/// assert_eq!(file.layout.trailing().unwrap().offset, 10);
+///
+/// let refused = Refused { refusal: Refusal::MemberAfterTrailing, place: 1 };
+/// assert_eq!(for_repr_c_struct_places(None, None, &[name.layout, u8]), Err(refused));
+/// # Ok::<(), Refused>(())
+/// ```
+///
+/// # Errors
+///
+/// Those of [`for_repr_c_struct`].
+pub fn for_repr_c_struct_places(
+    repr_align: Option<NonZeroU64>,
+    repr_packed: Option<NonZeroU64>,
+    members: &[Layout],
+) -> Result<Placed, Refused> {
+    for_repr_c_struct_places_records(repr_align, repr_packed, records(members).as_flattened().as_flattened())
+}
+
+/// [`for_repr_c_struct_places`] of members that stand as records, end to end.
+///
+/// ```
+/// use lukaripe::{for_repr_c_struct_places_records, Layout, Refusal, Refused, Scalar};
+///
+/// let mut file = Layout::scalar(Scalar::U8).to_bytes()?.to_vec();
+/// file.extend(Layout::scalar(Scalar::U32).to_bytes()?);
+/// let placed = for_repr_c_struct_places_records(None, None, &file)?;
+/// assert_eq!((placed.places, placed.gaps), (vec![0, 4], vec![0, 3]));
+/// assert_eq!(for_repr_c_struct_places_records(None, None, &file[1..]), Err(Refused::from(Refusal::RecordLength)));
+/// # Ok::<(), Refused>(())
+/// ```
+///
+/// # Errors
+///
+/// Those of [`for_repr_c_struct_records`].
+pub fn for_repr_c_struct_places_records(
+    repr_align: Option<NonZeroU64>,
+    repr_packed: Option<NonZeroU64>,
+    members: &[u8],
+) -> Result<Placed, Refused> {
+    let count = members.len() / RECORD_LENGTH;
+    let (mut places, mut gaps) = (vec![0; count], vec![0; count]);
+    let layout = for_repr_c_struct_places_into(repr_align, repr_packed, members, &mut places, &mut gaps)?;
+    Ok(Placed { layout, places, gaps })
+}
+
+/// [`for_repr_c_struct_places_records`], which writes to slices that are lent and allocates nothing.
+///
+/// ```
+/// use lukaripe::{for_repr_c_struct_places_into, Layout, Refusal, Refused, Scalar};
+///
+/// let mut file = Layout::scalar(Scalar::U8).to_bytes()?.to_vec();
+/// file.extend(Layout::scalar(Scalar::U32).to_bytes()?);
+///
+/// let [mut places, mut gaps] = [[77; 3]; 2];
+/// let layout = for_repr_c_struct_places_into(None, None, &file, &mut places[..2], &mut gaps[..2])?;
+/// assert_eq!(layout.size(), Some(8));
+/// assert_eq!((places, gaps), ([0, 4, 77], [0, 3, 77]));
+///
+/// // Each has one number for each member, neither fewer nor more.
+/// let refused = Refused { refusal: Refusal::SliceLength, place: 0 };
+/// assert_eq!(for_repr_c_struct_places_into(None, None, &file, &mut places, &mut gaps[..2]), Err(refused));
+/// assert_eq!(for_repr_c_struct_places_into(None, None, &file, &mut places[..2], &mut gaps[..1]), Err(refused));
+/// assert_eq!(refused.refusal.number(), 24);
+///
+/// // A refusal leaves them as they were, also one that comes last: here the final padding has no room.
+/// file.extend(Layout::for_type(u64::MAX - 9, 1)?.to_bytes()?);
+/// [places, gaps] = [[77; 3]; 2];
+/// let refused = Refused { refusal: Refusal::RoundingPassesMax, place: 3 };
+/// assert_eq!(for_repr_c_struct_places_into(None, None, &file, &mut places, &mut gaps), Err(refused));
+/// assert_eq!((places, gaps), ([77; 3], [77; 3]));
+/// # Ok::<(), Refused>(())
+/// ```
+///
+/// # Errors
+///
+/// [`Refusal::RecordLength`] at 0; [`Refusal::SliceLength`] at 0 where `places` or `gaps` has another length than there
+/// are members; then those of [`for_repr_c_struct_records`]. With any of them nothing is written.
+pub fn for_repr_c_struct_places_into(
+    repr_align: Option<NonZeroU64>,
+    repr_packed: Option<NonZeroU64>,
+    members: &[u8],
+    places: &mut [u64],
+    gaps: &mut [u64],
+) -> Result<Layout, Refused> {
+    let (align, packed) = (or_zero(repr_align), or_zero(repr_packed));
+    // SAFETY: bytes and numbers are lent for the call, and the two slices are this call's alone.
+    composed(unsafe {
+        exports::lukaripe_for_repr_c_struct_places(
+            align,
+            packed,
+            members.as_ptr(),
+            members.len(),
+            places.as_mut_ptr(),
+            places.len(),
+            gaps.as_mut_ptr(),
+            gaps.len(),
+        )
+    })
 }
 
 /// [`for_repr_c_struct`] without the final padding.

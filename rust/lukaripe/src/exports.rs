@@ -89,6 +89,18 @@ unsafe extern "C" {
         len: usize,
     ) -> Told<7>;
 
+    // The slices that are written may be NULL where their length is 0.
+    pub unsafe fn lukaripe_for_repr_c_struct_places(
+        repr_align: u64,
+        repr_packed: u64,
+        members: *const u8,
+        len: usize,
+        places: *mut u64,
+        places_len: usize,
+        gaps: *mut u64,
+        gaps_len: usize,
+    ) -> Told<7>;
+
     // ---- casts ----
 
     pub safe fn lukaripe_validate_cast_and_convert_metadata(

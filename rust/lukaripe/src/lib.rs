@@ -27,7 +27,8 @@
 //! ```
 //!
 //! - [`Layout`]: the layout of a type, made of numbers, of a Rust type or of members ([`for_repr_c_struct`], and
-//!   [`for_repr_c_struct_strict`], which refuses what the Rust Reference forbids).
+//!   [`for_repr_c_struct_strict`], which refuses what the Rust Reference forbids); [`for_repr_c_struct_places`] also
+//!   says where each member is placed.
 //! - [`Trailing`]: the run of elements at the end of a layout, its sizes and its padding.
 //! - [`Layout::validate_cast_and_convert_metadata`]: whether bytes hold such a record, and with how many elements.
 //! - [`CastParams`]: whether one record may be read as another, and with how many elements; [`convert_and_cast`].
@@ -54,6 +55,7 @@ mod types;
 
 pub use cast::{Cast, CastType};
 pub use compose::{compose, compose_records, for_repr_c_struct, for_repr_c_struct_records};
+pub use compose::{for_repr_c_struct_places, for_repr_c_struct_places_into, for_repr_c_struct_places_records, Placed};
 pub use compose::{for_repr_c_struct_strict, for_repr_c_struct_strict_records};
 pub use convert::{convert_and_cast, size_sequences_match, Carried, CastParams};
 pub use helpers::{is_power_of_two, max, min, padding_needed_for, round_down_to_next_multiple_of_alignment};

@@ -67,6 +67,7 @@ refusals! {
     Kind = 21, "the kind of a record is above 7";
     FixedRecord = 22, "a record of a fixed size has a later word that is not 0";
     ScalarCode = 23, "the code of a scalar is above 8";
+    SliceLength = 24, "a lent slice has another length than there are members";
     SourceAlignLower = 25, "the source's alignment is lower than the target's";
     FixedSizesDiffer = 26, "both are of a fixed size, and the sizes differ";
     TrailingToFixed = 27, "the source ends in a run of elements and the target is of a fixed size";

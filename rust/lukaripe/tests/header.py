@@ -129,11 +129,13 @@ def crate_fields(body):
 
 
 def crate_parameters(text):
-    """The C parameters of those of a function: a slice is a pointer and a length."""
+    """The C parameters of those of a function: a slice is a pointer and a length, which of numbers has its name."""
     for name, kind in re.findall(r"(\w+): ([^,]+)", text):
-        if kind.strip().endswith("[u8]"):
-            yield "uint8_t *" if "mut" in kind else "const uint8_t *", name
-            yield "size_t", "len"
+        slice_of = re.fullmatch(r"&(mut )?\[(u8|u64)\]\s*", kind)
+        if slice_of:
+            mutable, element = slice_of.groups()
+            yield ("" if mutable else "const ") + {"u8": "uint8_t *", "u64": "uint64_t *"}[element], name
+            yield "size_t", "len" if element == "u8" else f"{name}_len"
         else:
             yield in_c(kind.strip()), name
 
@@ -195,9 +197,9 @@ static char line[4096];
 static char *at;
 static bool missing;
 
-/* Bytes to lend; what those that are written to hold before. */
+/* Bytes to lend; what those that are written to hold before. Of numbers, how many at most. */
 static uint8_t lent[1024];
-enum { BEFORE = 0xa5 };
+enum { BEFORE = 0xa5, NUMBERS = 64 };
 
 static uint64_t next(void) {
     at += *at == ' ';
@@ -232,6 +234,27 @@ static bool untouched(size_t len) {
         if (lent[i] != BEFORE)
             return false;
     return true;
+}
+
+/* Numbers to lend: their bytes are as those of `lent` before, also those of the numbers behind them. */
+static size_t next_numbers(uint64_t numbers[NUMBERS]) {
+    uint64_t len = next();
+    memset(numbers, BEFORE, NUMBERS * sizeof *numbers);
+    missing |= len > NUMBERS;
+    return missing ? 0 : (size_t)len;
+}
+
+static bool untouched_behind(const uint64_t numbers[NUMBERS], size_t len) {
+    for (size_t i = len * sizeof *numbers; i < NUMBERS * sizeof *numbers; i++)
+        if (((const uint8_t *)numbers)[i] != BEFORE)
+            return false;
+    return true;
+}
+
+/* The number of one member, of a list of so many bytes. */
+static uint64_t of_member(const uint64_t numbers[NUMBERS], uint64_t refusal, uint64_t member, size_t len) {
+    size_t count = len / LUKARIPE_RECORD_LENGTH;
+    return refusal || count == 0 ? 0 : numbers[member % count];
 }
 
 /* Whether the rest of the line is the answer. */
@@ -290,8 +313,16 @@ def numbers_of(kind, place, structs):
     return [number for field, name in structs[kind] for number in numbers_of(field, f"{place}.{name}", structs)]
 
 
+def writes_numbers(parameters):
+    """The lent slices of numbers."""
+    return [name for kind, name in parameters if kind == "uint64_t *"]
+
+
 def take(parameters, structs):
-    """The statements that take the parameters from the line, in their order."""
+    """The statements that take the parameters from the line: in their order, but bytes come last, and before them the
+    index of the member whose numbers are looked at."""
+    if writes_numbers(parameters):
+        parameters = sorted([*parameters, ("uint64_t", "member")], key=lambda parameter: parameter[0].endswith("8_t *"))
     for kind, name in parameters:
         if kind == "size_t":
             continue
@@ -304,12 +335,17 @@ def take(parameters, structs):
         elif kind == "uint8_t *":
             yield "size_t len = next_length();"
             yield "memset(lent, BEFORE, len);"
+        elif kind == "uint64_t *":
+            yield f"uint64_t {name}[NUMBERS];"
+            yield f"size_t {name}_len = next_numbers({name});"
         else:
             yield f"{kind} {name} = next();"
 
 
-def answer(result, writes, structs):
+def answer(result, writes, numbers, structs):
     """The numbers of the answer, in what was returned or written."""
+    if numbers:
+        return numbers_of(result, "r", structs) + [f"of_member({name}, r.refusal, member, len)" for name in numbers]
     if writes:
         return ["r"] + [f"r ? 0 : word_at(lent + {8 * word})" for word in range(6)]
     if result == "bool":
@@ -320,13 +356,17 @@ def answer(result, writes, structs):
 def statements(function, result, parameters, structs):
     """What calls a function on a line."""
     writes = any(kind == "uint8_t *" for kind, _ in parameters)
-    handed = ["lent" if kind.endswith("*") else "len" if kind == "size_t" else name for kind, name in parameters]
+    numbers = writes_numbers(parameters)
+    handed = ["lent" if kind.endswith("8_t *") else name for kind, name in parameters]
     yield from take(parameters, structs)
     yield f"{result} r = {function}({', '.join(handed)});"
     if writes:
         yield "if (r != 0 && !untouched(len))"
         yield "    return false;"
-    yield f"uint64_t answer[] = {{{', '.join(answer(result, writes, structs))}}};"
+    for name in numbers:
+        yield f"if (!untouched_behind({name}, r.refusal ? 0 : {name}_len))"
+        yield "    return false;"
+    yield f"uint64_t answer[] = {{{', '.join(answer(result, writes, numbers, structs))}}};"
     yield "return same(answer, sizeof answer / sizeof *answer);"
 
 

@@ -123,6 +123,34 @@ fn composed(i: &mut Inputs, of_layouts: Composition<Layout>, of_records: Composi
     }
 }
 
+/// Behind the words come the place and the gap of one member. A refusal writes nothing, and where the lent slices are
+/// as long as the list, the functions that allocate give the same.
+fn placed(i: &mut Inputs) -> Vec<u64> {
+    const BEFORE: u64 = 0xa5a5_a5a5_a5a5_a5a5;
+    let (align, packed) = (i.asked(), i.asked());
+    let [mut places, mut gaps] = std::array::from_fn(|_| vec![BEFORE; i.number() as usize]);
+    let (at, list) = (i.number(), i.bytes());
+    let answer = for_repr_c_struct_places_into(align, packed, &list, &mut places, &mut gaps);
+    let count = list.len() / RECORD_LENGTH;
+    if (places.len(), gaps.len()) == (count, count) {
+        let placed = answer.map(|layout| Placed { layout, places: places.clone(), gaps: gaps.clone() });
+        assert_eq!(for_repr_c_struct_places_records(align, packed, &list), placed);
+        if let Some(members) = members(&list) {
+            assert_eq!(for_repr_c_struct_places(align, packed, &members), placed);
+        }
+    }
+    match answer {
+        Ok(layout) => {
+            let of_one = |numbers: &[u64]| at.checked_rem(count as u64).map_or(0, |at| numbers[at as usize]);
+            [&[0, 0], &words_of(layout)[..], &[of_one(&places), of_one(&gaps)]].concat()
+        }
+        Err(refused) => {
+            assert!(places.iter().chain(&gaps).all(|number| *number == BEFORE));
+            [&[refused.refusal.number(), refused.place], &[0; 8][..]].concat()
+        }
+    }
+}
+
 fn cast(answer: Result<Cast>) -> Vec<u64> {
     told(answer.map(|cast| [cast.count, cast.split]))
 }
@@ -164,6 +192,7 @@ pub fn call(function: u64, i: &mut Inputs) -> Option<Vec<u64>> {
             carried(convert_and_cast(src, dst, i.number(), i.number(), i.number(), i.number()))
         }
         34 => composed(i, for_repr_c_struct_strict, for_repr_c_struct_strict_records),
+        35 => placed(i),
         _ => panic!("no function {function}"),
     })
 }
