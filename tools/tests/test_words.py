@@ -133,8 +133,8 @@ class Missing(Trial):
             self.says(f"tools/{command}", 1, err=message, without=(missing,))
 
     def test_rt(self):
-        uses = "library", "members u8", "example", "wrapper-test", "rustc-types", "listing </dev/null"
-        self.lacks("rt", "Rattle", "bin/", commands=uses)
+        uses = "library", "members u8", "lukaripe layout", "example", "wrapper-test", "rustc-types"
+        self.lacks("rt", "Rattle", "bin/", commands=[*uses, "listing </dev/null"])
 
     def test_rt_where_nothing_is_to_be_built(self):
         self.build(LIBRARY, PROGRAM)
@@ -144,7 +144,7 @@ class Missing(Trial):
     def test_compilers(self):
         self.build(LIBRARY, PROGRAM)
         self.lacks("gcc", "install", commands=["members u8", "example", "wrapper-test"])
-        self.lacks("cargo", "Rust", commands=["wrapper-test"])
+        self.lacks("cargo", "Rust", commands=["wrapper-test", "lukaripe layout"])
         self.lacks("rustc", "Rust", commands=["rustc-types"])
         self.lacks("python3", "Python", commands=["wrapper-test", "rustc-types"])
         refused = line("listing", "no gcc on PATH")

@@ -1,0 +1,145 @@
+//! Members, as words name them and as records hold them.
+
+use crate::words::{number, quoted, NoNumber};
+use crate::{cause, End, Result};
+use lukaripe::{Layout, Refusal, Scalar, RECORD_LENGTH};
+use std::fs::File;
+use std::io::{self, ErrorKind, Read};
+use std::path::Path;
+
+/// A member before it is placed.
+pub struct Member {
+    pub name: String,
+    pub layout: Layout,
+}
+
+/// What a word names, before the library is asked for its layout.
+pub struct Named {
+    name: String,
+    form: Form,
+    is_run: bool,
+}
+
+enum Form {
+    Scalar(Scalar),
+    Type(u64, u64),
+    Unpadded(u64, u64),
+}
+
+/// In the order of their codes.
+const SCALARS: [&str; 9] = ["u8", "u16", "u32", "u64", "f32", "f64", "char", "bool", "usize"];
+const SIGNED: [&str; 5] = ["i8", "i16", "i32", "i64", "isize"];
+
+impl Named {
+    /// Reads `[NAME=]WORD`, where a WORD is one that tools/members takes.
+    pub fn read(given: &str) -> Result<Named> {
+        let (name, word) = match given.rsplit_once('=') {
+            Some((name, word)) => (name, word),
+            None => (given, given),
+        };
+        let no_member = || End::Wrong(format!("{} is no member; see --help", quoted(given)));
+        // So that a name takes one line of a table, and may stand in XML.
+        if name.is_empty() || !name.chars().all(|letter| letter.is_alphanumeric() || (' '..='~').contains(&letter)) {
+            return Err(no_member());
+        }
+        let run = word.strip_prefix('[').and_then(|rest| rest.strip_suffix(']'));
+        let inner = run.unwrap_or(word);
+        if SIGNED.contains(&inner) {
+            let why = "signed integers have no code";
+            let other = word.replacen('i', "u", 1);
+            let same = "which has the same size and alignment";
+            return Err(End::Wrong(format!("{} is no member: {why}; use {other}, {same}", quoted(given))));
+        }
+        let numbers = |word: &str| match number(word) {
+            Ok(value) => Ok(value),
+            Err(NoNumber::Range) => {
+                Err(End::Wrong(format!("{} is out of range: {word} is above 2^64 - 1", quoted(given))))
+            }
+            Err(NoNumber::Digits) => {
+                let why = "a number is decimal digits alone";
+                Err(End::Wrong(format!("{} is no member: {why}; see --help", quoted(given))))
+            }
+        };
+        let form = match inner.split(':').collect::<Vec<_>>()[..] {
+            ["bytes", size] => Form::Unpadded(numbers(size)?, 1),
+            ["type", size, align] => Form::Type(numbers(size)?, numbers(align)?),
+            ["unpadded", size, align] => Form::Unpadded(numbers(size)?, numbers(align)?),
+            [scalar] => {
+                let at = SCALARS.iter().position(|name| *name == scalar).ok_or_else(no_member)?;
+                Form::Scalar(Scalar::all().nth(at).ok_or_else(no_member)?)
+            }
+            _ => return Err(no_member()),
+        };
+        Ok(Named { name: name.to_string(), form, is_run: run.is_some() })
+    }
+
+    /// The layout that the library makes of it.
+    fn layout(&self) -> Result<Layout, Refusal> {
+        let one = match self.form {
+            Form::Scalar(scalar) => Layout::scalar(scalar),
+            Form::Type(size, align) => Layout::for_type(size, align)?,
+            Form::Unpadded(size, align) => Layout::for_unpadded_type(size, align)?,
+        };
+        match one.size() {
+            Some(size) if self.is_run => Layout::for_slice(size, one.align),
+            _ => Ok(one),
+        }
+    }
+}
+
+/// The members of words. What the library refuses is said of its member.
+pub fn members(named: Vec<Named>) -> Result<Vec<Member>> {
+    let one = |(index, named): (usize, Named)| match named.layout() {
+        Ok(layout) => Ok(Member { name: named.name, layout }),
+        Err(refusal) => Err(End::Fail(refused(&member_at(index, Some(&named.name)), refusal))),
+    };
+    named.into_iter().enumerate().map(one).collect()
+}
+
+/// How a member is called in a refusal. One that came as a record has no name.
+pub fn member_at(index: usize, name: Option<&str>) -> String {
+    match name {
+        Some(name) => format!("member {index} ({name})"),
+        None => format!("member {index}"),
+    }
+}
+
+/// The line of a refusal.
+pub fn refused(what: &str, refusal: Refusal) -> String {
+    format!("{what}: {refusal} (refusal {})", refusal.number())
+}
+
+/// As much as is read of a file. A list of records has an end, and what has none must not fill the memory.
+const MOST: u64 = 1 << 24;
+
+/// The bytes of a file of records, or of standard input.
+pub fn read_records(file: &str) -> Result<Vec<u8>> {
+    let (mut source, called): (Box<dyn Read>, _) = match file {
+        "-" => (Box::new(io::stdin()), "standard input".to_string()),
+        _ if Path::new(file).is_dir() => return Err(End::Fail(format!("{} is a directory", quoted(file)))),
+        _ => (Box::new(File::open(file).map_err(|error| End::Fail(unopened(file, &error)))?), quoted(file)),
+    };
+    let mut bytes = Vec::new();
+    match source.by_ref().take(MOST + 1).read_to_end(&mut bytes) {
+        Err(error) => Err(End::Fail(format!("{called}: {}", cause(&error)))),
+        Ok(_) if bytes.len() as u64 > MOST => Err(End::Fail(format!("{called} has more than {MOST} bytes"))),
+        Ok(_) => Ok(bytes),
+    }
+}
+
+fn unopened(file: &str, error: &io::Error) -> String {
+    match error.kind() {
+        ErrorKind::NotFound => format!("no file {}", quoted(file)),
+        ErrorKind::PermissionDenied => format!("{} may not be read", quoted(file)),
+        _ => format!("{}: {}", quoted(file), cause(error)),
+    }
+}
+
+/// The members of records that the library has accepted.
+pub fn from_records(records: &[u8]) -> Result<Vec<Member>> {
+    let one = |(index, record): (usize, &[u8])| match Layout::decode(record) {
+        Ok(layout) => Ok(Member { name: format!("record {index}"), layout }),
+        Err(refusal) => Err(End::Fail(refused(&member_at(index, None), refusal))),
+    };
+    records.chunks(RECORD_LENGTH).enumerate().map(one).collect()
+}

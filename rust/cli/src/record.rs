@@ -1,0 +1,222 @@
+//! A record whose members are placed, and the pieces that it is drawn of. The numbers are the library's; what is added
+//! up here is for drawing alone.
+
+use crate::member::Member;
+use crate::scale::{Scale, Shared};
+use lukaripe::{Layout, Placed, Refusal};
+use std::num::NonZeroU64;
+
+/// What a composition is asked for beside its members.
+#[derive(Clone, Copy, Default)]
+pub struct Asked {
+    pub align: Option<NonZeroU64>,
+    pub packed: Option<NonZeroU64>,
+}
+
+pub struct PlacedMember {
+    pub name: String,
+    pub layout: Layout,
+    pub place: u64,
+    pub gap: u64,
+}
+
+pub struct Record {
+    pub asked: Asked,
+    pub whole: Layout,
+    pub members: Vec<PlacedMember>,
+}
+
+#[derive(Clone, Copy, Debug, PartialEq, Eq)]
+pub enum Part {
+    Gap,
+    Member(usize),
+    /// The member that ends in a run of elements.
+    Open(usize),
+    Closing,
+}
+
+impl Part {
+    fn sort(self) -> Sort {
+        match self {
+            Part::Gap => Sort::Gap,
+            Part::Closing => Sort::Closing,
+            Part::Member(_) | Part::Open(_) => Sort::Member,
+        }
+    }
+}
+
+/// What is told apart in a drawing. The end of a part that is open is one too.
+#[derive(Clone, Copy, PartialEq, Eq)]
+pub enum Sort {
+    Member,
+    Gap,
+    Closing,
+    Open,
+}
+
+/// Bytes that belong together. There is at least one.
+pub struct Piece {
+    pub part: Part,
+    pub start: u128,
+    pub bytes: u128,
+}
+
+/// The size at a count of elements, and the padding after them where they end within it.
+pub struct SizeAt {
+    pub count: u64,
+    pub size: Result<u64, Refusal>,
+    pub padding: Option<u64>,
+}
+
+/// How many elements of an open end are drawn.
+pub const ELEMENTS: u64 = 2;
+
+impl Record {
+    pub fn new(asked: Asked, placed: Placed, members: Vec<Member>) -> Record {
+        let places = placed.places.into_iter().zip(placed.gaps);
+        let members = members.into_iter().zip(places);
+        let members =
+            members.map(|(member, (place, gap))| PlacedMember { name: member.name, layout: member.layout, place, gap });
+        Record { asked, whole: placed.layout, members: members.collect() }
+    }
+
+    /// Where the last member ends, of a fixed whole.
+    fn end(&self) -> u128 {
+        self.members.last().map_or(0, |last| u128::from(last.place) + u128::from(last.layout.size().unwrap_or(0)))
+    }
+
+    /// The closing padding of a fixed whole: its size less the end of the last member.
+    pub fn closing(&self) -> Option<u128> {
+        self.whole.size().map(|size| u128::from(size).saturating_sub(self.end()))
+    }
+
+    /// Whether the size hangs on a count of elements.
+    pub fn is_open(&self) -> bool {
+        self.whole.trailing().is_some()
+    }
+
+    /// What is drawn, from the left. A member of size 0 has no piece. An open end has two elements.
+    pub fn pieces(&self) -> Vec<Piece> {
+        let mut pieces = Vec::new();
+        for (index, member) in self.members.iter().enumerate() {
+            let start = u128::from(member.place);
+            let gap = u128::from(member.gap);
+            pieces.push(Piece { part: Part::Gap, start: start - gap, bytes: gap });
+            let (part, bytes) = match (member.layout.size(), self.whole.trailing()) {
+                (None, Some(run)) => {
+                    let elements = u128::from(run.elem_size) * u128::from(ELEMENTS);
+                    (Part::Open(index), u128::from(run.offset).saturating_sub(start) + elements)
+                }
+                (size, _) => (Part::Member(index), u128::from(size.unwrap_or(0))),
+            };
+            pieces.push(Piece { part, start, bytes });
+        }
+        pieces.push(Piece { part: Part::Closing, start: self.end(), bytes: self.closing().unwrap_or(0) });
+        pieces.retain(|piece| piece.bytes > 0);
+        pieces
+    }
+
+    /// What the sorts mean, of those that are drawn.
+    pub fn legend(&self) -> Vec<(Sort, &'static str)> {
+        let pieces = self.pieces();
+        let has = |sort| pieces.iter().any(|piece| piece.part.sort() == sort);
+        let mut legend = vec![(Sort::Member, "member"), (Sort::Gap, "gap"), (Sort::Closing, "closing padding")];
+        legend.retain(|(sort, _)| has(*sort));
+        match self.whole.trailing().map(|run| run.elem_size) {
+            None => {}
+            Some(0) => legend.push((Sort::Open, "more elements follow, of 0 bytes")),
+            Some(_) => legend.push((Sort::Open, "more elements follow (2 are drawn)")),
+        }
+        legend
+    }
+
+    /// The members that have no bytes to draw.
+    pub fn undrawn(&self) -> Vec<usize> {
+        let is_empty = |index: &usize| self.members[*index].layout.size() == Some(0);
+        (0..self.members.len()).filter(is_empty).collect()
+    }
+
+    /// The sizes at 0, 1 and 2 elements, of a whole that ends in a run of them.
+    pub fn sizes(&self) -> Vec<SizeAt> {
+        let Some(run) = self.whole.trailing() else { return Vec::new() };
+        let at = |count| {
+            let size = run.size_for_elems(count).map_err(Refusal::from);
+            // The library's padding is modulo 2^64: it is one where the elements end within the size.
+            let end = u128::from(run.offset) + u128::from(count) * u128::from(run.elem_size);
+            let is_within = size.is_ok_and(|size| end <= u128::from(size));
+            let padding = run.padding_for_elems(count).ok().filter(|_| is_within);
+            SizeAt { count, size, padding }
+        };
+        (0..=ELEMENTS).map(at).collect()
+    }
+
+    /// The `repr` attribute, and how many members there are.
+    pub fn heading(&self) -> String {
+        let align = self.asked.align.map(|align| format!(", align({align})")).unwrap_or_default();
+        let packed = self.asked.packed.map(|packed| format!(", packed({packed})")).unwrap_or_default();
+        let count = match self.members.len() {
+            0 => "no members".to_string(),
+            1 => "1 member".to_string(),
+            count => format!("{count} members"),
+        };
+        format!("repr(C{align}{packed}), {count}")
+    }
+
+    /// The whole's numbers and marks in words.
+    pub fn summary(&self) -> String {
+        let align = self.whole.align;
+        let size = match self.whole.trailing() {
+            Some(run) => format!("elements of {} from place {} on", bytes(run.elem_size.into()), run.offset),
+            None => {
+                let closing = self.closing().unwrap_or(0);
+                format!("size {}, closing padding {closing}", self.whole.size().unwrap_or(0))
+            }
+        };
+        format!("alignment {align}, {size}; {}", marks(self.whole))
+    }
+}
+
+/// The marks of a layout in words. Of a run of elements it says nothing: what padding follows them hangs on the count.
+fn marks(layout: Layout) -> String {
+    let padding = match (layout.statically_shallow_unpadded, layout.trailing()) {
+        (true, None) => "no padding known",
+        (true, Some(_)) => "no padding known between the members",
+        (false, _) => "there may be padding",
+    };
+    // Of the whole or of a member: a packed struct may hold neither.
+    let modifier = if layout.has_align_modifier() { "; with an alignment modifier" } else { "" };
+    format!("{padding}{modifier}")
+}
+
+pub fn bytes(count: u128) -> String {
+    match count {
+        1 => "1 byte".to_string(),
+        _ => format!("{count} bytes"),
+    }
+}
+
+/// What is to be said of a drawing: whether it is to scale, and what it leaves out.
+pub fn notes(record: &Record, shared: &Shared, cell: &str) -> Vec<String> {
+    let total: u128 = record.pieces().iter().map(|piece| piece.bytes).sum();
+    let cells: u64 = shared.cells.iter().sum();
+    let scale = match shared.scale {
+        _ if total == 0 => "no bytes to draw".to_string(),
+        Scale::Byte(1) => format!("to scale: a byte is 1 {cell}"),
+        Scale::Byte(per_byte) => format!("to scale: a byte is {per_byte} {cell}s"),
+        Scale::Share => format!("to scale: {} in {cells} {cell}s", bytes(total)),
+        Scale::Widened(1) => "not to scale: 1 part is drawn wider than it is, to be seen".to_string(),
+        Scale::Widened(parts) => format!("not to scale: {parts} parts are drawn wider than they are, to be seen"),
+    };
+    let undrawn = record.undrawn();
+    let listed = undrawn.iter().take(LISTED).map(usize::to_string).collect::<Vec<_>>().join(", ");
+    let more = undrawn.len().saturating_sub(LISTED);
+    match (undrawn.len(), more) {
+        (0, _) => vec![scale],
+        (1, _) => vec![scale, format!("member {listed} has size 0 and is not drawn")],
+        (_, 0) => vec![scale, format!("members {listed} have size 0 and are not drawn")],
+        _ => vec![scale, format!("members {listed} and {more} more have size 0 and are not drawn")],
+    }
+}
+
+/// How many members a note lists.
+const LISTED: usize = 8;
