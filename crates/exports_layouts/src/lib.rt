@@ -133,6 +133,7 @@ fn layout_out(a: LayoutAnswer) -> LayoutOut
     }
 }
 
+// A composition as it crosses to C.
 pub fn composed_out(a: ComposeAnswer) -> ComposedOut
     ensures { λ r. ⌜ r ≡ composedOut (composeSays a) ⌝ }
 {
