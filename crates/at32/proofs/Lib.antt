@@ -12,3 +12,4 @@ mod OfShift
 mod OfConvert
 mod OfGuarantee
 mod OfPlaces
+mod OfTyped

@@ -12,7 +12,7 @@ use mathlib.Core.Logic.{_⊎_}
 use Rattle.util_defs.specs.Power.{PowerOfTwo}
 use Rattle.util_defs.specs.Round.{up}
 use Rattle.trailing_defs.specs.Size.{Trailing, A, sizeAt}
-use Rattle.padding_defs.specs.Pad.{coarser, paddedTail, padded, padCauses, padFor, Padded, paddedInfo, paddingNeeds, staticFor, DynamicPadding, dynamicPadding, dynamicFor}
+use Rattle.padding_defs.specs.Pad.{coarser, paddedTail, padded, padCauses, padFor, Padded, PadsSizes, paddedInfo, paddingNeeds, staticFor, DynamicPadding, dynamicPadding, dynamicFor}
 use Rattle.rounding.specs.Word.{alignOf, alignFor}
 use Rattle.padding_defs.proofs.Settled.{Settled}
 use Rattle.padding_defs.proofs.Padding as Padding
@@ -57,3 +57,6 @@ dynamic-meets = Marks.dynamic-meets 32
 
 pub align-answered : (n : ℕ) → 0 < n → alignFor 32 n ≡ answered (alignOf 32 n)
 align-answered = Marks.align-answered 32
+
+pub pads-sizes : (l : Layout) → l .align < 2 ^ 32 → PadsSizes 32 l
+pads-sizes = Settled.pads-sizes 32

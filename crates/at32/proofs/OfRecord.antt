@@ -54,3 +54,6 @@ record-back s {l} = RoundTrips.record-back 32 s {l = l}
 
 pub encode-decoded : (s out : List ℕ) {l : Layout} → AllBytes s → length out ≡ 48 → decodeFor 32 s ≡ answered l → encodedInto 32 l out ≡ s
 encode-decoded s out {l} = RoundTrips.encode-decoded 32 s out {l = l}
+
+pub words-accepted : (r : Words) {l : Layout} → wordsFor 32 r ≡ answered l → checkFor 32 l ≡ answered tt
+words-accepted r {l} = RoundTrips.words-accepted 32 r {l = l}

@@ -6,3 +6,4 @@ pub mod Accepted
 pub mod Places
 pub mod Written
 pub mod Landing
+pub mod Typed

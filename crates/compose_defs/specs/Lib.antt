@@ -1,3 +1,4 @@
 pub mod Compose
 pub mod Strict
 pub mod Places
+pub mod Typed

@@ -91,7 +91,7 @@ fn with_member(l: DstLayout, m: DstLayout, repr_packed: u64) -> LayoutAnswer
 }
 
 // The words of a layout.
-fn words_out(words: Words) -> Layout
+pub fn words_out(words: Words) -> Layout
     ensures { λ r. ⌜ r ≡ wordsOut (wordsIn words) ⌝ }
 {
     Layout {
@@ -118,7 +118,8 @@ fn no_layout() -> Layout
     }
 }
 
-fn layout_out(a: LayoutAnswer) -> LayoutOut
+// A layout as it crosses to C.
+pub fn layout_out(a: LayoutAnswer) -> LayoutOut
     ensures { λ r. ⌜ r ≡ layoutOut (layoutSays a) ⌝ }
 {
     match a {

@@ -8,16 +8,16 @@ use borrow.Author.Tests.{eq-eqb, le-ltb, ltb-false}
 use Rattle.util_defs.specs.Width.{M}
 use Rattle.util_defs.specs.Power.{PowerOfTwo}
 use Rattle.util_defs.specs.Round.{up}
-use Rattle.util_defs.specs.Refusal.{answered, None}
-use Rattle.util_defs.proofs.Refusals.{clear}
+use Rattle.util_defs.specs.Refusal.{answered, None, Meets}
+use Rattle.util_defs.proofs.Refusals.{clear, answered-means}
 use Rattle.util_defs.proofs.Powers.{positive}
 use Rattle.util_defs.proofs.Rounding.{down-multiple, down-le, up-multiple, up-whole}
 use Rattle.util_defs.proofs.Helpers.{power}
 use Rattle.trailing_defs.specs.Size.{Trailing, A}
 use Rattle.layout_defs.specs.Layout.{Info, fixed, trailing, Layout, noWord}
-use Rattle.padding_defs.specs.Pad.{fixedPart, coarser, finer, paddedTail, paddedInfo, paddedMark, padded, paddingNeeds, padCauses, padFor}
+use Rattle.padding_defs.specs.Pad.{fixedPart, coarser, finer, paddedTail, paddedInfo, paddedMark, padded, paddingNeeds, padCauses, padFor, Padded, PadsSizes}
 use Rattle.util_defs.proofs.Tables.{answer-is, accepted-none}
-use Rattle.padding_defs.proofs.Padding.{coarser-align, pad-decided}
+use Rattle.padding_defs.proofs.Padding.{coarser-align, pad-decided, pad-meets}
 
 -- padding to a leaves i as it is, and refuses nothing
 pub record Settled (w a : ℕ) (i : Info) : Type 0 where
@@ -77,3 +77,7 @@ unfolding padFor
 pad-again w l h e =
     subst (λ (x : Layout). padFor w x ≡ answered x) (sym (answer-is (padCauses w l) (padded w l) e))
     (padded-again w l h (accepted-none (padCauses w l) (padded w l) (pad-decided w l h) e))
+
+-- document 02, request 14, of what stands: padded sizes are rounded up, and padding settles
+pub pads-sizes : (w : ℕ) (l : Layout) → l .align < 2 ^ w → PadsSizes w l
+pads-sizes w l h r e = (answered-means (subst (Meets (padCauses w l) (Padded w l)) e (pad-meets w l h)) .1 .sizes, pad-again w l h e)

@@ -8,7 +8,7 @@ use Prim.Native.Nat.{ℕ, _+_, _%_, _≤_, _<_}
 use lib.Dec.{eqb, ltb}
 use Rattle.util_defs.specs.Width.{M}
 use Rattle.util_defs.specs.Round.{up, down, GreatestMultiple}
-use Rattle.util_defs.specs.Refusal.{Outcome, Cause, unless, Tells}
+use Rattle.util_defs.specs.Refusal.{Outcome, answered, Cause, unless, Tells}
 use Rattle.rounding.specs.Word.{IsWord}
 use Rattle.trailing_defs.specs.Size.{Trailing, A, p, sizeAt, HasSize}
 use Rattle.layout_defs.specs.Layout.{Info, fixed, trailing, Layout, IsCount, sizeIn, layoutCauses}
@@ -86,6 +86,13 @@ pub record Padded (w : ℕ) (l r : Layout) : Type 0 where
   pub mark : Tells ((l .mark ≡ true) × KeepsMark (l .info) (r .info)) (r .mark)
   pub modifier : r .modifier ≡ l .modifier
   pub sizes : (n : ℕ) → IsCount (l .info) n → sizeIn w (r .info) n ≡ up (sizeIn w (l .info) n) (l .align)
+
+-- document 02, request 14: where final padding is accepted the padded sizes are the old ones rounded up to the alignment at every
+-- count, as whole numbers, and padding again is accepted and changes nothing
+abbrev pub PadsSizes : ℕ → Layout → Type 0
+PadsSizes w l =
+    (r : Layout) → padFor w l ≡ answered r
+    → ((n : ℕ) → IsCount (l .info) n → sizeIn w (r .info) n ≡ up (sizeIn w (l .info) n) (l .align)) × (padFor w r ≡ answered r)
 
 -- `requires_static_padding`: the mark is unset
 unfoldable pub staticFor : ℕ → Layout → Outcome Bool

@@ -121,11 +121,13 @@ pub record-back : (w : ℕ) (s : List ℕ) {l : Layout} → AllBytes s → decod
 record-back w s h e = ap recordBytes (words-kept w (wordsAt s 0) (decoded-words w s e)) ∙ bytes-back s h (decoded-length w s e)
 
 -- what is decoded is accepted, so that `encode` writes those bytes
-decoded-accepted : (w : ℕ) (s : List ℕ) {l : Layout} → decodeFor w s ≡ answered l → checkFor w l ≡ answered tt
+pub words-accepted : (w : ℕ) (r : Words) {l : Layout} → wordsFor w r ≡ answered l → checkFor w l ≡ answered tt
 unfolding checkFor
-decoded-accepted w s {l} e =
-    let k = words-kept w (wordsAt s 0) (decoded-words w s e) in
-    accepted-as (layoutCauses w l) l tt (sym (words-checked w (l .align) (l .info) (l .mark) (l .modifier)) ∙ ap (wordsFor w) k ∙ decoded-words w s e)
+words-accepted w r {l} e =
+    accepted-as (layoutCauses w l) l tt (sym (words-checked w (l .align) (l .info) (l .mark) (l .modifier)) ∙ ap (wordsFor w) (words-kept w r e) ∙ e)
+
+decoded-accepted : (w : ℕ) (s : List ℕ) {l : Layout} → decodeFor w s ≡ answered l → checkFor w l ≡ answered tt
+decoded-accepted w s e = words-accepted w (wordsAt s 0) (decoded-words w s e)
 
 pub encode-decoded : (w : ℕ) (s out : List ℕ) {l : Layout} → AllBytes s → length out ≡ 48 → decodeFor w s ≡ answered l → encodedInto w l out ≡ s
 encode-decoded w s out {l} h n e =
