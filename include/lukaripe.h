@@ -24,8 +24,9 @@
  * there are two, the first one is tested first. "Layout refusals" below stands for these four.
  *
  * The library has no state and allocates nothing: every function may be called from any thread at any time. What is lent is
- * only read, but for `out` of lukaripe_encode and for `places` and `gaps` of lukaripe_for_repr_c_struct_places, which overlap
- * nothing else that is lent, and it is not kept. A pointer may be NULL where its length is 0.
+ * only read, but for `out` of lukaripe_encode, for `places` and `gaps` of lukaripe_for_repr_c_struct_places and for `working`
+ * of lukaripe_working_add and lukaripe_working_add_record, which overlap nothing else that is lent, and it is not kept. A
+ * pointer may be NULL where its length is 0; `working` has none, and may not.
  */
 #ifndef LUKARIPE_H
 #define LUKARIPE_H
@@ -35,9 +36,9 @@
 #include <stdint.h>
 
 #define LUKARIPE_VERSION_MAJOR 0
-#define LUKARIPE_VERSION_MINOR 3
+#define LUKARIPE_VERSION_MINOR 4
 #define LUKARIPE_VERSION_PATCH 0
-#define LUKARIPE_VERSION "0.3.0"
+#define LUKARIPE_VERSION "0.4.0"
 
 /* An answer that is not looked at is a mistake: a refusal would go unseen. */
 #if defined(__GNUC__) || defined(__clang__)
@@ -360,6 +361,22 @@ LUKARIPE_USE_RESULT lukaripe_composed lukaripe_for_repr_c_struct_places(uint64_t
                                                                         const uint8_t *members, size_t len,
                                                                         uint64_t *places, size_t places_len,
                                                                         uint64_t *gaps, size_t gaps_len);
+
+/* The empty layout that a struct begins with whose members are added one by one, with its own alignment; 0: none is asked for.
+ * The caller keeps it and lends it to each addition. After any run of additions with one packing it is what lukaripe_compose
+ * gives of the members that were accepted, with that alignment and packing; lukaripe_pad_to_align of it gives the struct.
+ * Refusals: 1. */
+LUKARIPE_USE_RESULT lukaripe_layout_answer lukaripe_working_begin(uint64_t repr_align);
+
+/* Adds a member to the lent layout and gives the refusal, which is the one that lukaripe_compose has for this member behind
+ * those that were accepted; on a refusal no word of working has changed. The lent words may be any, and are tested first.
+ * repr_packed 0: no packing is asked for. Refusals: layout refusals, of working and then of field; 5, 6, 7, 8, 9. */
+LUKARIPE_USE_RESULT uint64_t lukaripe_working_add(lukaripe_layout *working, lukaripe_layout field, uint64_t repr_packed);
+
+/* The same by the member's record. Refusals: layout refusals of working; 20 where len is not 48; layout refusals of the
+ * member; 5, 6, 7, 8, 9. */
+LUKARIPE_USE_RESULT uint64_t lukaripe_working_add_record(lukaripe_layout *working, const uint8_t *member, size_t len,
+                                                         uint64_t repr_packed);
 
 /* ---- casts ---- */
 

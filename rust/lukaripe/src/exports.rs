@@ -101,6 +101,16 @@ unsafe extern "C" {
         gaps_len: usize,
     ) -> Told<7>;
 
+    // What is lent is altered in its place.
+    pub safe fn lukaripe_working_begin(repr_align: u64) -> Told<6>;
+    pub safe fn lukaripe_working_add(working: &mut Layout, field: Layout, repr_packed: u64) -> u64;
+    pub unsafe fn lukaripe_working_add_record(
+        working: &mut Layout,
+        member: *const u8,
+        len: usize,
+        repr_packed: u64,
+    ) -> u64;
+
     // ---- casts ----
 
     pub safe fn lukaripe_validate_cast_and_convert_metadata(

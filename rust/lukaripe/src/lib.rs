@@ -28,7 +28,7 @@
 //!
 //! - [`Layout`]: the layout of a type, made of numbers, of a Rust type or of members ([`for_repr_c_struct`], and
 //!   [`for_repr_c_struct_strict`], which refuses what the Rust Reference forbids); [`for_repr_c_struct_places`] also
-//!   says where each member is placed.
+//!   says where each member is placed, and [`Working`] takes them one by one.
 //! - [`Trailing`]: the run of elements at the end of a layout, its sizes and its padding.
 //! - [`Layout::validate_cast_and_convert_metadata`]: whether bytes hold such a record, and with how many elements.
 //! - [`CastParams`]: whether one record may be read as another, and with how many elements; [`convert_and_cast`].
@@ -52,6 +52,7 @@ mod rounding;
 mod scalar;
 mod trailing;
 mod types;
+mod working;
 
 pub use cast::{Cast, CastType};
 pub use compose::{compose, compose_records, for_repr_c_struct, for_repr_c_struct_records};
@@ -66,6 +67,7 @@ pub use rounding::RoundingAlignAndPhase;
 pub use scalar::Scalar;
 pub use trailing::Trailing;
 pub use types::NoAllocLayout;
+pub use working::Working;
 
 /// The examples of README.md are tested too.
 #[cfg(doctest)]

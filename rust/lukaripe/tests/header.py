@@ -129,13 +129,18 @@ def crate_fields(body):
 
 
 def crate_parameters(text):
-    """The C parameters of those of a function: a slice is a pointer and a length, which of numbers has its name."""
+    """The C parameters of those of a function: a slice is a pointer and a length, which of numbers has its name; a struct
+    that is lent is a pointer alone."""
     for name, kind in re.findall(r"(\w+): ([^,]+)", text):
         slice_of = re.fullmatch(r"&(mut )?\[(u8|u64)\]\s*", kind)
+        lent = re.fullmatch(r"&(mut )?(\w+)\s*", kind)
         if slice_of:
             mutable, element = slice_of.groups()
             yield ("" if mutable else "const ") + {"u8": "uint8_t *", "u64": "uint64_t *"}[element], name
             yield "size_t", "len" if element == "u8" else f"{name}_len"
+        elif lent:
+            mutable, struct = lent.groups()
+            yield ("" if mutable else "const ") + in_c(struct) + " *", name
         else:
             yield in_c(kind.strip()), name
 
@@ -229,9 +234,9 @@ static uint64_t word_at(const uint8_t *bytes) {
     return word;
 }
 
-static bool untouched(size_t len) {
+static bool untouched(const void *bytes, size_t len) {
     for (size_t i = 0; i < len; i++)
-        if (lent[i] != BEFORE)
+        if (((const uint8_t *)bytes)[i] != BEFORE)
             return false;
     return true;
 }
@@ -245,10 +250,7 @@ static size_t next_numbers(uint64_t numbers[NUMBERS]) {
 }
 
 static bool untouched_behind(const uint64_t numbers[NUMBERS], size_t len) {
-    for (size_t i = len * sizeof *numbers; i < NUMBERS * sizeof *numbers; i++)
-        if (((const uint8_t *)numbers)[i] != BEFORE)
-            return false;
-    return true;
+    return untouched(numbers + len, (NUMBERS - len) * sizeof *numbers);
 }
 
 /* The number of one member, of a list of so many bytes. */
@@ -318,15 +320,26 @@ def writes_numbers(parameters):
     return [name for kind, name in parameters if kind == "uint64_t *"]
 
 
+def altered(parameters, structs):
+    """The lent structs, by their names."""
+    return {name: kind[:-2] for kind, name in parameters if kind.endswith(" *") and kind[:-2] in structs}
+
+
 def take(parameters, structs):
     """The statements that take the parameters from the line: in their order, but bytes come last, and before them the
     index of the member whose numbers are looked at."""
     if writes_numbers(parameters):
-        parameters = sorted([*parameters, ("uint64_t", "member")], key=lambda parameter: parameter[0].endswith("8_t *"))
-    for kind, name in parameters:
+        parameters = [*parameters, ("uint64_t", "member")]
+    lent_structs = altered(parameters, structs)
+    for kind, name in sorted(parameters, key=lambda parameter: parameter[0].endswith("8_t *")):
         if kind == "size_t":
             continue
-        if kind in structs:
+        if name in lent_structs:
+            # It stands between two others, whose bytes are as those of `lent` before.
+            yield f"{lent_structs[name]} {name}[3];"
+            yield f"memset({name}, BEFORE, sizeof {name});"
+            yield from (f"{number} = next();" for number in numbers_of(lent_structs[name], f"{name}[1]", structs))
+        elif kind in structs:
             yield f"{kind} {name};"
             yield from (f"{number} = next();" for number in numbers_of(kind, name, structs))
         elif kind == "const uint8_t *":
@@ -342,8 +355,12 @@ def take(parameters, structs):
             yield f"{kind} {name} = next();"
 
 
-def answer(result, writes, numbers, structs):
-    """The numbers of the answer, in what was returned or written."""
+def answer(result, writes, numbers, lent_structs, structs):
+    """The numbers of the answer, in what was returned or written. Of a lent struct they are those that it holds, on a
+    refusal too."""
+    if lent_structs:
+        held = [numbers_of(kind, f"{name}[1]", structs) for name, kind in lent_structs.items()]
+        return sum(held, numbers_of(result, "r", structs))
     if numbers:
         return numbers_of(result, "r", structs) + [f"of_member({name}, r.refusal, member, len)" for name in numbers]
     if writes:
@@ -357,16 +374,23 @@ def statements(function, result, parameters, structs):
     """What calls a function on a line."""
     writes = any(kind == "uint8_t *" for kind, _ in parameters)
     numbers = writes_numbers(parameters)
-    handed = ["lent" if kind.endswith("8_t *") else name for kind, name in parameters]
+    lent_structs = altered(parameters, structs)
+    handed = [
+        "lent" if kind.endswith("8_t *") else f"{name} + 1" if name in lent_structs else name
+        for kind, name in parameters
+    ]
     yield from take(parameters, structs)
     yield f"{result} r = {function}({', '.join(handed)});"
     if writes:
-        yield "if (r != 0 && !untouched(len))"
+        yield "if (r != 0 && !untouched(lent, len))"
         yield "    return false;"
     for name in numbers:
         yield f"if (!untouched_behind({name}, r.refusal ? 0 : {name}_len))"
         yield "    return false;"
-    yield f"uint64_t answer[] = {{{', '.join(answer(result, writes, numbers, structs))}}};"
+    for name in lent_structs:
+        yield f"if (!untouched({name}, sizeof *{name}) || !untouched({name} + 2, sizeof *{name}))"
+        yield "    return false;"
+    yield f"uint64_t answer[] = {{{', '.join(answer(result, writes, numbers, lent_structs, structs))}}};"
     yield "return same(answer, sizeof answer / sizeof *answer);"
 
 

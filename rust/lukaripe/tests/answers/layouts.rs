@@ -151,6 +151,38 @@ fn placed(i: &mut Inputs) -> Vec<u64> {
     }
 }
 
+/// The words of the layout come behind the refusal, on a refusal too: those from before.
+fn worked(mut working: Working, add: impl FnOnce(&mut Working) -> Result<()>) -> Vec<u64> {
+    let before = working;
+    let refusal = add(&mut working).map_or_else(Refusal::number, |()| 0);
+    if refusal != 0 {
+        assert_eq!(working, before);
+    }
+    [&[refusal], &words_of(working.layout())[..]].concat()
+}
+
+fn worked_by_value(i: &mut Inputs) -> Option<Vec<u64>> {
+    let (own, field) = (i.layout()?, i.layout()?);
+    Some(worked(Working::from_layout(own, i.asked()), |working| working.add(field)))
+}
+
+/// A member gives what its record gives.
+fn worked_by_record(i: &mut Inputs) -> Option<Vec<u64>> {
+    let working = Working::from_layout(i.layout()?, i.asked());
+    let record = i.bytes();
+    let by_record = worked(working, |working| working.add_record(&record));
+    if let Some([member]) = members(&record).as_deref() {
+        assert_eq!(worked(working, |working| working.add(*member)), by_record);
+    }
+    Some(by_record)
+}
+
+fn begun(repr_align: Option<NonZeroU64>) -> Vec<u64> {
+    let under = |packing| Working::begin(repr_align, NonZeroU64::new(packing)).map(|working| working.layout());
+    assert_eq!(under(3), under(0));
+    layout(under(0))
+}
+
 fn cast(answer: Result<Cast>) -> Vec<u64> {
     told(answer.map(|cast| [cast.count, cast.split]))
 }
@@ -193,6 +225,9 @@ pub fn call(function: u64, i: &mut Inputs) -> Option<Vec<u64>> {
         }
         34 => composed(i, for_repr_c_struct_strict, for_repr_c_struct_strict_records),
         35 => placed(i),
+        36 => worked_by_value(i)?,
+        37 => worked_by_record(i)?,
+        38 => begun(i.asked()),
         _ => panic!("no function {function}"),
     })
 }
