@@ -6,8 +6,8 @@ use crate::exports::{Carried, Told};
 const MOST: usize = 12;
 
 /// The refusal number, 0 where there is none, and the numbers of the answer. Those not used are 0, and on a refusal all
-/// of them but a list's place, the count that comes with 15 and the other answers of a chain, so that a refusal that
-/// hands back anything else is a difference.
+/// of them but a list's place, the count that comes with 15, the words of a lent layout and the other answers of a
+/// chain, so that a refusal that hands back anything else is a difference.
 #[derive(Clone, Copy, PartialEq, Eq)]
 pub struct Answer {
     pub refusal: u64,
@@ -40,6 +40,19 @@ impl Answer {
     /// A refusal of a list.
     pub fn refused_at(refusal: u64, place: usize) -> Answer {
         Answer::new(refusal, [place as u64])
+    }
+
+    /// A refusal beside which stand the words that a lent layout holds.
+    pub fn refused_beside(refusal: u64, words: [u64; 6]) -> Answer {
+        Answer::new(refusal, words)
+    }
+
+    /// What came of an addition behind so many members: the place of a refusal, as a list has it, and the words that the
+    /// lent layout holds.
+    pub fn added(refusal: u64, accepted: usize, words: [u64; 6]) -> Answer {
+        let place = if refusal == 0 { 0 } else { accepted as u64 };
+        let [align, kind, size_base, offset, elem_size, word] = words;
+        Answer::new(refusal, [place, align, kind, size_base, offset, elem_size, word])
     }
 
     /// The refusal and as many of the other numbers.

@@ -4,6 +4,7 @@ use crate::inputs::Input;
 use crate::layouts;
 use crate::lists;
 use crate::random::Random;
+use crate::runs;
 
 pub struct Kind {
     /// The names of its numbers, where it has several and always as many.
@@ -201,6 +202,21 @@ const LENT_LIST: Kind = Kind {
     ..LIST
 };
 
+/// A run of additions to a working layout.
+const RUN: Kind = Kind {
+    good: &[0, 48, 8, 1, 16, 0, 0, 0, 1, 48, 1, 3, 0, 0, 1, 1],
+    bad: &[
+        &[0, 48, 8, 8, 16, 0, 0, 0, 1, 48, 1, 3, 0, 0, 1, 1],
+        &[0, 48, 8, 1, 16, 0, 0, 0, 1, 47, 1, 3, 0, 0, 1, 1],
+        &[2, 3, 1, 16, 0, 0, 0, 48, 8, 1, 16, 0, 0, 0],
+        &[3, 1, 6, 16, 9, 9, 0, 48, 8, 1, 16, 0, 0, 0],
+    ],
+    small: runs::small,
+    boundaries: Boundaries::Drawn(|random, case| case.extend(runs::at_boundaries(random))),
+    draw: |random, case| case.extend(runs::draw(random)),
+    ..LIST
+};
+
 pub const fn number(name: &'static str) -> Input {
     Input { name, kind: &NUMBER }
 }
@@ -247,6 +263,10 @@ pub const fn list(name: &'static str) -> Input {
 
 pub const fn lent_list(name: &'static str) -> Input {
     Input { name, kind: &LENT_LIST }
+}
+
+pub const fn additions(name: &'static str) -> Input {
+    Input { name, kind: &RUN }
 }
 
 /// The numbers from 0 up.

@@ -4,6 +4,7 @@
 //! that is no multiple of 8 the remaining bytes as one such number. They come last, since their number varies.
 
 use crate::answer::Answer;
+use crate::exports::Words;
 
 pub const RECORD: usize = 48;
 
@@ -108,4 +109,21 @@ impl Numbers {
         let changed = [before, lent, after].concat().iter().any(|number| *number != OTHER_NUMBER);
         changed.then_some("numbers changed that it may not change")
     }
+}
+
+/// A call that alters a layout which it is lent, and gives the refusal number: that, the words afterwards, and what it
+/// broke. Other words stand before the lent ones and after them.
+pub fn alters(lent: [u64; 6], call: impl FnOnce(&mut Words<6>) -> u64) -> (u64, [u64; 6], Option<&'static str>) {
+    const OTHERS: [u64; 6] = [OTHER_NUMBER; 6];
+    let mut all = [OTHERS, lent, OTHERS].map(Words);
+    let refusal = call(&mut all[1]);
+    let [before, Words(after), behind] = all;
+    let broken = if before.0 != OTHERS || behind.0 != OTHERS {
+        Some("numbers changed that it may not change")
+    } else if refusal != 0 && after != lent {
+        Some("a refusal altered the lent layout")
+    } else {
+        None
+    };
+    (refusal, after, broken)
 }

@@ -26,7 +26,7 @@ pub fn small_records(level: u64) -> Vec<Vec<u64>> {
     records
 }
 
-const MEMBERS: [Layout; 7] = [
+pub const MEMBERS: [Layout; 7] = [
     [1, 1, 1, 0, 0, 0],
     [2, 1, 2, 0, 0, 0],
     [4, 0, 8, 0, 0, 0],
@@ -120,7 +120,7 @@ fn modify(random: &mut Random, members: &mut [Layout]) {
 }
 
 /// Something wrong with one of the members.
-fn spoil(random: &mut Random, members: &mut [Layout]) {
+pub fn spoil(random: &mut Random, members: &mut [Layout]) {
     let at = random.below(members.len() as u64) as usize;
     let [align, kind, size_base, offset, elem_size, word] = members[at];
     members[at] = match random.below(7) {

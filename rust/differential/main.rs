@@ -16,6 +16,7 @@ mod plain_places;
 mod random;
 mod recorded;
 mod rows;
+mod runs;
 mod table;
 
 use answer::Answer;
@@ -164,7 +165,17 @@ impl Tried<'_> {
     /// The slots that nothing came to.
     fn empty(&self) -> Vec<String> {
         let empty = self.slots.iter().zip(&self.counts).filter(|(_, count)| **count == 0);
-        empty.map(|(slot, _)| format!("{} {slot}", self.row.name)).collect()
+        let mut empty: Vec<String> = empty.map(|(slot, _)| format!("{} {slot}", self.row.name)).collect();
+        if self.is_runs() {
+            let of_steps = runs::counted().into_iter().filter(|(_, count, _)| *count == 0);
+            empty.extend(of_steps.map(|(outcome, ..)| format!("{}, each step {outcome}", self.row.name)));
+        }
+        empty
+    }
+
+    /// Whether its inputs are runs of additions, of which each step is counted too.
+    fn is_runs(&self) -> bool {
+        self.row.number == 0
     }
 }
 
@@ -181,7 +192,8 @@ fn run<'a>(row: &'a Row, options: &Options, cases: u64, progress: &mut Progress)
     let mut left = cases;
     let slots = row.slots();
     let mut counts = vec![0; slots.len()];
-    let mut recorded = options.record.map(|lines| Recorded::new(row, slots.len(), seed, lines));
+    let lines = options.record.filter(|_| row.number != 0);
+    let mut recorded = lines.map(|lines| Recorded::new(row, slots.len(), seed, lines));
     for phase in PHASES {
         plan.each(phase, left, &mut |case| {
             left -= 1;
@@ -212,7 +224,25 @@ fn report(tried: &[Tried], seed: u64, progress: &Progress) {
         apart += totals.1;
     }
     println!("{compared} inputs compared with the Rust, and apart {apart} checked against the documents' table");
+    if tried.iter().any(Tried::is_runs) {
+        report_steps();
+    }
     println!("seed {seed}, {:.1} million inputs a second", progress.rate());
+}
+
+/// Each step of the runs of additions, of which the lines above have the last one.
+fn report_steps() {
+    let (mut compared, mut apart) = (0, 0);
+    for (outcome, count, by_the_rust) in runs::counted() {
+        if by_the_rust {
+            compared += count;
+            line("working, each step", &outcome, &count.to_string(), "-");
+        } else {
+            apart += count;
+            line("working, each step", &outcome, "-", &count.to_string());
+        }
+    }
+    println!("{compared} steps of runs compared with the Rust, and {apart} apart");
 }
 
 fn all(options: &Options) -> Result<(), String> {

@@ -7,6 +7,7 @@ mod record;
 mod rounding;
 mod trailing;
 mod util;
+mod working;
 
 use crate::answer::Answer;
 use crate::inputs::{Aim, Input};
@@ -16,12 +17,13 @@ use crate::table::{has_modifier, is_fixed};
 use std::fmt;
 
 pub const LAYERS: &[&[Row]] =
-    &[util::ROWS, rounding::ROWS, trailing::ROWS, layout::ROWS, record::ROWS, cast::ROWS, convert::ROWS];
+    &[util::ROWS, rounding::ROWS, trailing::ROWS, layout::ROWS, record::ROWS, working::ROWS, cast::ROWS, convert::ROWS];
 
 pub struct Row {
-    /// The function's number in recorded answers. It never changes and is not given to another.
+    /// The function's number in recorded answers. It never changes and is not given to another. 0: it is not recorded,
+    /// since it is of several functions.
     pub number: u64,
-    /// The export's name without its prefix.
+    /// The export's name without its prefix, or that of what several of them do.
     pub name: &'static str,
     /// What is handed over, in the order of the C parameters.
     pub inputs: &'static [&'static [Input]],
@@ -181,6 +183,14 @@ fn layout_kind(kind: u64) -> &'static str {
         (true, true) => "fixed, modifier",
         (false, false) => "trailing",
         (false, true) => "trailing, modifier",
+    }
+}
+
+/// The same of an answer that is a layout alone.
+fn which_layout(_: &[u64], answer: &Answer) -> &'static str {
+    match answer.refusal {
+        0 => layout_kind(answer.values[1]),
+        _ => "",
     }
 }
 

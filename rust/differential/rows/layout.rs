@@ -1,7 +1,7 @@
 //! Whole layouts.
 
-use super::{answered, apart, layout_kind, layout_of, no_label, no_modifier, nowhere, refused, yes_or_no, Row, ANSWER};
-use crate::answer::Answer;
+use super::{answered, apart, layout_of, no_label, no_modifier, nowhere, refused, which_layout, yes_or_no};
+use super::{Cell, Row, ANSWER};
 use crate::exports::*;
 use crate::kinds::{align, layout, modifier, number, preceding};
 use crate::random::Random;
@@ -69,40 +69,10 @@ pub const ROWS: &[Row] = &[
         name: "extend",
         inputs: &[&[preceding("layout"), layout("field"), modifier("repr_packed")]],
         values: 6,
-        cells: &[
-            answered("fixed"),
-            answered("trailing"),
-            answered("fixed, modifier"),
-            answered("trailing, modifier"),
-            refused(5),
-            refused(6),
-            refused(7),
-            refused(8),
-            refused(9),
-            apart(1),
-            apart(2),
-            apart(21),
-            apart(22),
-        ],
+        cells: STEP,
         modifier: Some(|i| has_modifier(i[1]) || has_modifier(i[7])),
         label: which_layout,
-        pages: &[
-            // The steps of the listing's example, and its refusal.
-            &[1, 1, 0, 0, 0, 0, 4, 1, 8, 0, 0, 0, 0],
-            &[4, 1, 8, 0, 0, 0, 1, 1, 1, 0, 0, 0, 0],
-            &[4, 1, 9, 0, 0, 0, 1, 3, 0, 0, 1, 1, 0],
-            &[1, 3, 0, 0, 1, 1, 1, 1, 1, 0, 0, 0, 0],
-            // 6 tests the member's own alignment, before the packing lowers it; packing 3 * 2^29 is 5.
-            &[1, 1, 0, 0, 0, 0, 1 << 30, 1, 0, 0, 0, 0, 1],
-            &[1, 1, 0, 0, 0, 0, 1, 1, 0, 0, 0, 0, 1 << 30],
-            &[1, 1, 0, 0, 0, 0, 1, 1, 0, 0, 0, 0, 3 << 29],
-            // The alignment modifier of either, in each kind; it is no refusal here, under a packing either.
-            &[4, 5, 8, 0, 0, 0, 1, 1, 1, 0, 0, 0, 0],
-            &[4, 1, 9, 0, 0, 0, 4, 4, 8, 0, 0, 0, 1],
-            &[4, 1, 9, 0, 0, 0, 1, 7, 0, 0, 1, 1, 0],
-            &[4, 4, 9, 0, 0, 0, 1, 3, 0, 0, 1, 1, 0],
-            &[4, 5, 8, 0, 0, 0, 4, 6, 8, 9, 1, 5, 2],
-        ],
+        pages: STEPS,
         aim: at_the_last_place,
         ours: |i| lukaripe_extend(Words(layout_of(i)), Words(layout_of(&i[6..])), i[12]).into(),
         apart: |i| two_layouts(layout_of(i), layout_of(&i[6..])),
@@ -172,12 +142,40 @@ pub const ROWS: &[Row] = &[
     },
 ];
 
-fn which_layout(_: &[u64], answer: &Answer) -> &'static str {
-    match answer.refusal {
-        0 => layout_kind(answer.values[1]),
-        _ => "",
-    }
-}
+/// What can come of a member that is added.
+pub const STEP: &[Cell] = &[
+    answered("fixed"),
+    answered("trailing"),
+    answered("fixed, modifier"),
+    answered("trailing, modifier"),
+    refused(5),
+    refused(6),
+    refused(7),
+    refused(8),
+    refused(9),
+    apart(1),
+    apart(2),
+    apart(21),
+    apart(22),
+];
+
+pub const STEPS: &[&[u64]] = &[
+    // The steps of the listing's example, and its refusal.
+    &[1, 1, 0, 0, 0, 0, 4, 1, 8, 0, 0, 0, 0],
+    &[4, 1, 8, 0, 0, 0, 1, 1, 1, 0, 0, 0, 0],
+    &[4, 1, 9, 0, 0, 0, 1, 3, 0, 0, 1, 1, 0],
+    &[1, 3, 0, 0, 1, 1, 1, 1, 1, 0, 0, 0, 0],
+    // 6 tests the member's own alignment, before the packing lowers it; packing 3 * 2^29 is 5.
+    &[1, 1, 0, 0, 0, 0, 1 << 30, 1, 0, 0, 0, 0, 1],
+    &[1, 1, 0, 0, 0, 0, 1, 1, 0, 0, 0, 0, 1 << 30],
+    &[1, 1, 0, 0, 0, 0, 1, 1, 0, 0, 0, 0, 3 << 29],
+    // The alignment modifier of either, in each kind; it is no refusal here, under a packing either.
+    &[4, 5, 8, 0, 0, 0, 1, 1, 1, 0, 0, 0, 0],
+    &[4, 1, 9, 0, 0, 0, 4, 4, 8, 0, 0, 0, 1],
+    &[4, 1, 9, 0, 0, 0, 1, 7, 0, 0, 1, 1, 0],
+    &[4, 4, 9, 0, 0, 0, 1, 3, 0, 0, 1, 1, 0],
+    &[4, 5, 8, 0, 0, 0, 4, 6, 8, 9, 1, 5, 2],
+];
 
 // ---- where to aim ----
 
@@ -187,7 +185,7 @@ fn at_a_type(_: &mut Random, inputs: &mut [u64]) {
 }
 
 /// A preceding size, and a member's numbers, such that the last place or the last size is met.
-fn at_the_last_place(random: &mut Random, inputs: &mut [u64]) {
+pub fn at_the_last_place(random: &mut Random, inputs: &mut [u64]) {
     let room = random.below(64);
     match random.below(3) {
         // No room to round up in.
