@@ -6,6 +6,7 @@ use exports_layouts::ComposedOut;
 use exports_layouts::Layout;
 use exports_layouts::LayoutOut;
 use exports_numbers::Number;
+use exports_working::Worked;
 use recorded::LENGTH;
 use recorded::Told;
 use recorded::WIDTH;
@@ -234,6 +235,48 @@ fn placed(line: &[u64; WIDTH]) -> Told {
     tell_placed(6 + (length + 7) / 8, answer, places[at], gaps[at])
 }
 
+fn tell_worked(inputs: usize, a: Worked) -> Told {
+    let l = a.layout;
+    Told {
+        inputs,
+        length: 7,
+        numbers: [
+            a.refusal,
+            l.align,
+            l.kind,
+            l.size_base,
+            l.offset,
+            l.elem_size,
+            l.word,
+            0,
+            0,
+            0,
+            0,
+            0,
+            0,
+        ],
+    }
+}
+
+// The words of the working layout after an addition, on a refusal those that were lent. The functions by value are called, which
+// the exports are thin calls over: to lend a struct takes a proof by hand. tools/wrapper-test lends it.
+fn worked(line: &[u64; WIDTH]) -> Told {
+    tell_worked(
+        13,
+        exports_working::add_words(first(line), second(line), line[13]),
+    )
+}
+
+fn worked_by_record(line: &[u64; WIDTH]) -> Told {
+    let length = line[8] as usize;
+    if length > BYTES {
+        return tell_none();
+    }
+    let bytes = bytes_from(line, 9);
+    let answer = exports_working::add_record_words(first(line), &bytes[..length], line[7]);
+    tell_worked(8 + (length + 7) / 8, answer)
+}
+
 fn made(line: &[u64; WIDTH]) -> Told {
     match line[0] {
         15 => tell_layout(1, exports_layouts::lukaripe_new_zst(line[1])),
@@ -244,6 +287,7 @@ fn made(line: &[u64; WIDTH]) -> Told {
         ),
         18 => tell_layout(2, exports_layouts::lukaripe_for_slice(line[1], line[2])),
         25 => tell_layout(1, exports_layouts::lukaripe_scalar(line[1])),
+        38 => tell_layout(1, exports_working::lukaripe_working_begin(line[1])),
         _ => tell_none(),
     }
 }
@@ -254,6 +298,8 @@ fn listed(line: &[u64; WIDTH]) -> Told {
         24 => encode(line),
         26 | 27 | 34 => composed(line),
         35 => placed(line),
+        36 => worked(line),
+        37 => worked_by_record(line),
         _ => made(line),
     }
 }
