@@ -84,6 +84,9 @@ pub struct Case {
     pub own_align: u64,
     pub list: Vec<u8>,
     pub list_n: Vec<DstLayout>,
+    /// The same members by value, and the record of the one that is added to the fixed layout.
+    pub members: Vec<Words<6>>,
+    pub member: Vec<u8>,
     pub record: Vec<u8>,
     pub room: usize,
     /// Numbers to lend, as many as there are members. They stand here, since to make them anew for each call would take
@@ -270,7 +273,9 @@ fn draw(random: &mut Random, set: Set, members: usize) -> Option<Case> {
         room: 48,
         own_align: 0,
         list: bytes(&list.concat()),
+        members: list.iter().copied().map(Words).collect(),
         list_n: list.into_iter().map(layout).collect(),
+        member: bytes(&field),
         places: vec![Cell::new(0); members],
         gaps: vec![Cell::new(0); members],
     })

@@ -1,6 +1,7 @@
 //! How a typical case is spoilt, so that a function refuses it: each function's refusals by number.
 
 use super::cases::{bytes, Case};
+use super::exports::Words;
 
 /// The number, and what makes the case one that is refused by it.
 pub type Spoil = (u64, fn(&mut Case));
@@ -151,10 +152,40 @@ pub const DECODE: &[Spoil] = &[
     (2, |c| with_record(c, WHOLE[4].1)),
 ];
 
-/// Puts a record where the last one of the list is, or before that one.
+/// Puts the field's words into its record.
+fn with_member(case: &mut Case, spoil: fn(&mut Case)) {
+    spoil(case);
+    case.member = bytes(&case.field.0);
+}
+
+/// Those of `extend`, and the length behind those of the lent layout.
+pub const ADD_RECORD: &[Spoil] = &[
+    (21, |c| with_member(c, EXTEND[0].1)),
+    (1, |c| with_member(c, EXTEND[1].1)),
+    (1, |c| with_member(c, EXTEND[2].1)),
+    (22, |c| with_member(c, EXTEND[3].1)),
+    (2, |c| with_member(c, EXTEND[4].1)),
+    (20, |c| c.member.truncate(47)),
+    (21, |c| with_member(c, EXTEND[5].1)),
+    (1, |c| with_member(c, EXTEND[6].1)),
+    (1, |c| with_member(c, EXTEND[7].1)),
+    (22, |c| with_member(c, EXTEND[8].1)),
+    (2, |c| with_member(c, EXTEND[9].1)),
+    (5, |c| with_member(c, EXTEND[10].1)),
+    (6, |c| with_member(c, EXTEND[11].1)),
+    (6, |c| with_member(c, EXTEND[12].1)),
+    (6, |c| with_member(c, EXTEND[13].1)),
+    (7, |c| with_member(c, EXTEND[14].1)),
+    (8, |c| with_member(c, EXTEND[15].1)),
+    (9, |c| with_member(c, EXTEND[16].1)),
+];
+
+/// Puts a record where the last one of the list is, or before that one, and by value too.
 fn put(case: &mut Case, from_end: usize, record: [u64; 6]) {
     let at = case.list.len() - 48 * (1 + from_end);
     case.list[at..at + 48].copy_from_slice(&bytes(&record));
+    let at = case.members.len() - 1 - from_end;
+    case.members[at] = Words(record);
 }
 
 /// The size of the members before the last ones.
@@ -187,6 +218,8 @@ const FINAL_8: Spoil = (8, |c| {
     c.own_align = 2 * c.align;
 });
 
+/// Of additions one by one: the packing is refused by the first, the others by the last.
+pub const ADDITIONS: &[Spoil] = &[PACKING, LAST_21, LAST_1, LAST_22, LAST_2, LAST_6, LAST_7, LAST_8, LAST_9];
 pub const COMPOSE: &[Spoil] =
     &[UNEVEN, OWN_ALIGN, PACKING, LAST_21, LAST_1, LAST_22, LAST_2, LAST_6, LAST_7, LAST_8, LAST_9];
 pub const STRUCT: &[Spoil] =

@@ -82,6 +82,12 @@ impl Refusal for (u64, [u8; 48]) {
     }
 }
 
+impl Refusal for (u64, [u64; 6]) {
+    fn refusal(&self) -> u64 {
+        self.0
+    }
+}
+
 pub fn rows() -> Vec<Row> {
     vec![
         row!("is_power_of_two", cases, &[], f, c =>
@@ -187,6 +193,26 @@ pub fn rows() -> Vec<Row> {
             [lukaripe_for_repr_c_struct_places, tested::for_repr_c_struct_places], placed(c, f);),
         row!("for_repr_c_struct_places, 1365 members", |set| lists(set, 1365), PLACES, f, c =>
             [lukaripe_for_repr_c_struct_places, tested::for_repr_c_struct_places], placed(c, f);),
+        row!("working_begin", cases, ASKED, f, c =>
+            [lukaripe_working_begin, tested::new_zst], f(c.packing);
+            plain::new_zst as fn(_) -> _, f(c.packing_n)),
+        row!("working_add", cases, EXTEND, f, c =>
+            [lukaripe_working_add, tested::working_add], altered(c.fixed, |lent| f(lent, c.field, c.packing));
+            plain::extend as fn(_, _, _) -> _, f(c.fixed_n, c.field_n, c.packing_n)),
+        row!("working_add_record", cases, ADD_RECORD, f, c =>
+            [lukaripe_working_add_record, tested::working_add_record],
+            altered(c.fixed, |lent| unsafe { f(lent, c.member.as_ptr(), c.member.len(), c.packing) });
+            plain::extend as fn(_, _, _) -> _, f(c.fixed_n, c.field_n, c.packing_n)),
+        row!("working_add, 10 members", |set| lists(set, 10), ADDITIONS, f, c =>
+            [lukaripe_working_add, tested::working_add],
+            altered(EMPTY, |lent| each(&c.members, |member| f(lent, *member, c.packing)));
+            plain::compose as fn(_, _, &[_]) -> _, f(None, c.packing_n, &c.list_n)),
+        row!("working_add_record, 10 members", |set| lists(set, 10), ADDITIONS, f, c =>
+            [lukaripe_working_add_record, tested::working_add_record],
+            altered(EMPTY, |lent| each(c.list.chunks_exact(48), |record| unsafe {
+                f(lent, record.as_ptr(), record.len(), c.packing)
+            }));
+            plain::compose as fn(_, _, &[_]) -> _, f(None, c.packing_n, &c.list_n)),
         row!("validate_cast_and_convert_metadata", cases, CAST, f, c =>
             [lukaripe_validate_cast_and_convert_metadata, tested::validate_cast_and_convert_metadata],
             f(c.whole, c.addr, c.len, c.suffix);
@@ -228,4 +254,20 @@ fn placed(case: &Case, by: Places) -> Told<7> {
     let list = &case.list;
     // SAFETY: bytes and numbers are as many as said, and cells may be written.
     unsafe { by(case.own_align, case.packing, list.as_ptr(), list.len(), places, places_len, gaps, gaps_len) }
+}
+
+/// The layout that a struct begins with.
+const EMPTY: Layout = Words([1, 1, 0, 0, 0, 0]);
+
+/// What is given, and what a lent layout holds afterwards.
+#[inline(always)]
+fn altered(lent: Layout, add: impl FnOnce(&mut Layout) -> u64) -> (u64, [u64; 6]) {
+    let mut lent = lent;
+    (add(&mut lent), lent.0)
+}
+
+/// The first refusal of an addition of each, or 0.
+#[inline(always)]
+fn each<T>(members: impl IntoIterator<Item = T>, mut add: impl FnMut(T) -> u64) -> u64 {
+    members.into_iter().map(&mut add).find(|refusal| *refusal != 0).unwrap_or(0)
 }

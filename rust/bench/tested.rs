@@ -433,3 +433,40 @@ pub unsafe extern "C" fn for_repr_c_struct_places(
         unsafe { (slice::from_raw_parts_mut(places, places_len), slice::from_raw_parts_mut(gaps, gaps_len)) };
     of_struct_with_places(repr_align, repr_packed, unsafe { slice::from_raw_parts(members, len) }, places, gaps)
 }
+
+/// A layout with a member more, and the alignment modifier of both.
+#[inline]
+fn extended(own: Layout, field: Result<Layout, u64>, repr_packed: u64) -> Says<6> {
+    let whole = layout(own)?;
+    let field = field?;
+    let member = layout(field)?;
+    Ok(with_modifier(whole.try_extend(member, asked(repr_packed))?, modifier(own) | modifier(field)))
+}
+
+/// Alters the lent layout where the member is accepted.
+#[inline]
+fn altered(working: &mut Layout, next: Says<6>) -> u64 {
+    match next {
+        Ok(words) => {
+            *working = Words(words);
+            0
+        }
+        Err(refusal) => refusal,
+    }
+}
+
+pub extern "C" fn working_add(working: &mut Layout, field: Layout, repr_packed: u64) -> u64 {
+    let next = extended(*working, Ok(field), repr_packed);
+    altered(working, next)
+}
+
+pub unsafe extern "C" fn working_add_record(
+    working: &mut Layout,
+    member: *const u8,
+    len: usize,
+    repr_packed: u64,
+) -> u64 {
+    let member = unsafe { slice::from_raw_parts(member, len) }.try_into().map(words).map_err(|_| 20);
+    let next = extended(*working, member, repr_packed);
+    altered(working, next)
+}

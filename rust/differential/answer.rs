@@ -47,8 +47,8 @@ impl Answer {
         Answer::new(refusal, words)
     }
 
-    /// What came of an addition behind so many members: the place of a refusal, as a list has it, and the words that the
-    /// lent layout holds.
+    /// What came of an addition behind so many members: the place of a refusal, as a list has it, and the words that
+    /// the lent layout holds.
     pub fn added(refusal: u64, accepted: usize, words: [u64; 6]) -> Answer {
         let place = if refusal == 0 { 0 } else { accepted as u64 };
         let [align, kind, size_base, offset, elem_size, word] = words;

@@ -110,7 +110,8 @@ struct Working {
 }
 
 impl Working {
-    fn is_composition(&self) -> Option<&'static str> {
+    /// What is broken where it is not the composition of the accepted members.
+    fn not_composed(&self) -> Option<&'static str> {
         let Told { refusal, values: [place, ref words @ ..] } =
             composed(self.repr_align, self.repr_packed, &self.accepted);
         let same = (refusal, place) == (0, 0) && *words == self.words;
@@ -153,7 +154,7 @@ impl Working {
                 self.accepted.extend(bytes(step.member));
             }
         }
-        (answer, broken.or_else(|| self.is_composition()))
+        (answer, broken.or_else(|| self.not_composed()))
     }
 }
 
@@ -166,7 +167,7 @@ pub fn run(inputs: &[u64]) -> Answer {
         return answer;
     }
     let mut working = Working { repr_align, repr_packed, words: begun.values, accepted: Vec::new() };
-    let mut broken = working.is_composition();
+    let mut broken = working.not_composed();
     for step in steps(run) {
         let wrong;
         (answer, wrong) = working.make(&step);

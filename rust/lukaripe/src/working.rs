@@ -9,9 +9,10 @@ use core::num::NonZeroU64;
 
 /// A `repr(C)` struct whose members are added one by one, as its maker types them.
 ///
-/// After any run of additions [`Working::layout`] is what [`compose`] gives of the members that were accepted, under the
-/// same alignment and packing, and [`Working::padded`] what [`for_repr_c_struct`] gives. An addition is refused where
-/// [`compose`] would refuse that member behind the accepted ones, for the same cause, and then alters nothing.
+/// After any run of additions [`Working::layout`] is what [`compose`] gives of the members that were accepted, under
+/// the same alignment and packing, and [`Working::padded`] what [`for_repr_c_struct`] gives. An addition is refused
+/// exactly where [`compose`] would refuse that member behind the accepted ones, for the same cause, and then alters
+/// nothing.
 ///
 /// ```
 /// use lukaripe::{compose, for_repr_c_struct, Layout, Refusal, Refused, Working};
@@ -109,8 +110,8 @@ impl Working {
     ///
     /// # Errors
     ///
-    /// [`Refusal::AlignNotPowerOfTwo`] or [`Refusal::RoundingWordZero`] for the layout so far, then for the member; then
-    /// [`Refusal::PackingNotPowerOfTwo`], [`Refusal::AlignAboveMax`], [`Refusal::MemberAfterTrailing`],
+    /// [`Refusal::AlignNotPowerOfTwo`] or [`Refusal::RoundingWordZero`] for the layout so far, then for the member;
+    /// then [`Refusal::PackingNotPowerOfTwo`], [`Refusal::AlignAboveMax`], [`Refusal::MemberAfterTrailing`],
     /// [`Refusal::RoundingPassesMax`], [`Refusal::MemberPassesMax`]. With any of them nothing has changed.
     pub fn add(&mut self, field: Layout) -> Result<()> {
         let packed = or_zero(self.repr_packed);
@@ -133,8 +134,8 @@ impl Working {
     /// # Errors
     ///
     /// Those of [`Working::add`], where the member is tested as a record: [`Refusal::RecordLength`], [`Refusal::Kind`],
-    /// [`Refusal::AlignNotPowerOfTwo`], then [`Refusal::FixedRecord`] or [`Refusal::RoundingWordZero`]. With any of them
-    /// nothing has changed.
+    /// [`Refusal::AlignNotPowerOfTwo`], then [`Refusal::FixedRecord`] or [`Refusal::RoundingWordZero`]. With any of
+    /// them nothing has changed.
     pub fn add_record(&mut self, record: &[u8]) -> Result<()> {
         let packed = or_zero(self.repr_packed);
         // SAFETY: the bytes are lent for the call.
@@ -179,7 +180,7 @@ impl Working {
         self.layout.pad_to_align()
     }
 
-    /// Lends the words of the layout. What they hold afterwards is the layout, on a refusal too: it has not changed them.
+    /// Lends the words of the layout. What they hold afterwards is the layout, on a refusal too, which changes none.
     fn lend(&mut self, add: impl FnOnce(&mut Words<6>) -> u64) -> Result<()> {
         let mut words = self.layout.words();
         let refusal = add(&mut words);

@@ -129,8 +129,8 @@ def crate_fields(body):
 
 
 def crate_parameters(text):
-    """The C parameters of those of a function: a slice is a pointer and a length, which of numbers has its name; a struct
-    that is lent is a pointer alone."""
+    """The C parameters of those of a function: a slice is a pointer and a length, which of numbers has its name; a
+    struct that is lent is a pointer alone."""
     for name, kind in re.findall(r"(\w+): ([^,]+)", text):
         slice_of = re.fullmatch(r"&(mut )?\[(u8|u64)\]\s*", kind)
         lent = re.fullmatch(r"&(mut )?(\w+)\s*", kind)
