@@ -1,8 +1,9 @@
 // The working layout for C and Rust: no logic of its own. include/lukaripe.h is its C side. A layout crosses as six words, so the
-// caller keeps those and lends them: a `DstLayout` holds an enum, which does not cross.
+// caller keeps those and lends them: a `DstLayout` holds an enum, which does not cross. The addition of a record stands apart, in
+// exports_working_record, so that what an export calls is called once, and inlined.
 ghost use mathlib.Core.Path.{_≡_};
 ghost use Rattle.make.specs.Make.{newZstFor};
-ghost use Rattle.record_defs.specs.Record.{wordsFor, decodeFor};
+ghost use Rattle.record_defs.specs.Record.{wordsFor};
 ghost use Rattle.working.specs.View.{addSays};
 ghost use Rattle.exports_layouts.specs.Layouts.{wordsGiven, layoutOut};
 ghost use Rattle.exports_working.specs.Working.{workedOut, workingFor};
@@ -19,7 +20,7 @@ pub struct Worked {
 }
 
 // An addition as it crosses: on a refusal the words are those that were lent.
-fn worked_out(lent: Layout, addition: Addition) -> Worked
+pub fn worked_out(lent: Layout, addition: Addition) -> Worked
     ensures { λ r. ⌜ r ≡ workedOut (addSays (addition .answer) (addition .layout)) lent ⌝ }
 {
     let answer = addition.answer;
@@ -56,21 +57,6 @@ pub fn add_words(lent: Layout, field: Layout, repr_packed: u64) -> Worked
     }
 }
 
-// The addition of a member by its record, to words by value.
-pub fn add_record_words(lent: Layout, member: &[u8], repr_packed: u64) -> Worked
-    ensures { λ r. ⌜ r ≡ workedOut (workingFor 64 «repr_packed» lent (decodeFor 64 (now (member .entry)))) lent ⌝ }
-{
-    match exports_layouts::layout_in(lent) {
-        LayoutAnswer::Layout(own) => {
-            worked_out(lent, working::with_record(own, member, repr_packed))
-        }
-        LayoutAnswer::Refused(refusal) => Worked {
-            refusal,
-            layout: lent,
-        },
-    }
-}
-
 // The empty layout that a working layout begins with.
 #[no_mangle]
 pub extern "C" fn lukaripe_working_begin(repr_align: u64) -> LayoutOut
@@ -92,27 +78,6 @@ pub extern "C" fn lukaripe_working_add(working: &mut Layout, field: Layout, repr
         ⌝ }
 {
     let worked = add_words(*working, field, repr_packed);
-    *working = worked.layout;
-    worked.refusal
-}
-
-// The same of a member's record.
-#[no_mangle]
-pub extern "C" fn lukaripe_working_add_record(
-    working: &mut Layout,
-    member: &[u8],
-    repr_packed: u64,
-) -> u64
-    ensures { λ r. ⌜
-        r ≡ workedOut (workingFor 64 «repr_packed» (now (working .entry)) (decodeFor 64 (now (member .entry))))
-        (now (working .entry)) .refusal
-        ⌝ }
-    ensures { λ _. ⌜
-        now (working .exit) ≡ workedOut (workingFor 64 «repr_packed» (now (working .entry)) (decodeFor 64 (now (member .entry))))
-        (now (working .entry)) .layout
-        ⌝ }
-{
-    let worked = add_record_words(*working, member, repr_packed);
     *working = worked.layout;
     worked.refusal
 }

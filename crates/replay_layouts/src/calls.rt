@@ -273,7 +273,7 @@ fn worked_by_record(line: &[u64; WIDTH]) -> Told {
         return tell_none();
     }
     let bytes = bytes_from(line, 9);
-    let answer = exports_working::add_record_words(first(line), &bytes[..length], line[7]);
+    let answer = exports_working_record::add_record_words(first(line), &bytes[..length], line[7]);
     tell_worked(8 + (length + 7) / 8, answer)
 }
 

@@ -1,4 +1,4 @@
--- `exports_working::lukaripe_working_add_record` meets its contract: a walk of its MIR, by hand. The borrow is opened, the lent words are copied and passed with the record to `add_record_words`, of which the proof knows its contract alone; what that gives is written, and the borrow is closed at it.
+-- `exports_working_record::lukaripe_working_add_record` meets its contract: a walk of its MIR, by hand. The borrow is opened, the lent words are copied and passed with the record to `add_record_words`, of which the proof knows its contract alone; what that gives is written, and the borrow is closed at it.
 -- Assumes nothing.
 use mathlib.Core.Path.{_≡_, refl, ap}
 use Prim.Native.Nat.{ℕ, _<_, _^_}
@@ -45,18 +45,18 @@ use Rattle.record_defs.specs.Record.{decodeFor}
 use Rattle.exports_layouts.proofs.Layout as T
 use Rattle.exports_layouts.proofs.Layout.Laws as T′
 use Rattle.compose_defs.specs.Compose.{Member}
 use Rattle.exports_working.specs.declared.Worked.{Worked}
 use Rattle.exports_working.proofs.Worked as P
 use Rattle.exports_working.proofs.Worked.Laws as P′
 use Rattle.exports_working.proofs.Facts.{only, val, refusal-fits, layout-is, Gives, say}
-use Rattle.exports_working.proofs.add_record_words as with
-use Rattle.exports_working.proofs.add_record_words.Symbol as with-def
-use Rattle.exports_working.proofs.add_record_words.Symbol.{name as #exports-working·add-record-words}
-use Rattle.exports_working.proofs.add_record_words.Met as with-thm
-use Rattle.exports_working.proofs.lukaripe_working_add_record.Key.{name as #exports-working·lukaripe-working-add-record}
-use Rattle.exports_working.proofs.lukaripe_working_add_record as add
-use Rattle.exports_working.proofs.lukaripe_working_add_record.Statement as stated
-use Rattle.exports_working.proofs.lukaripe_working_add_record.Code as code
+use Rattle.exports_working_record.proofs.add_record_words as with
+use Rattle.exports_working_record.proofs.add_record_words.Symbol as with-def
+use Rattle.exports_working_record.proofs.add_record_words.Symbol.{name as #exports-working-record·add-record-words}
+use Rattle.exports_working_record.proofs.add_record_words.Met as with-thm
+use Rattle.exports_working_record.proofs.lukaripe_working_add_record.Key.{name as #exports-working-record·lukaripe-working-add-record}
+use Rattle.exports_working_record.proofs.lukaripe_working_add_record as add
+use Rattle.exports_working_record.proofs.lukaripe_working_add_record.Statement as stated
+use Rattle.exports_working_record.proofs.lukaripe_working_add_record.Code as code
 
 abbrev stayed : Stays (add.ended .signature .params) (add.ended .kept)
 stayed = (stay-ref (0 ∷ []) tt (plain (λ _. T.the-row)), (stay-none-slice (1 ∷ []) tt (plain (λ _. u8)) yes, (stay-none (λ _. u64) yes, tt)))
@@ -113,7 +113,7 @@ module _ {M : Type 1} (𝓤 : URA M) (H : Heap 𝓤) (A : Atoms 𝓤) (W : Given
   goes-with : ent 𝓤 (onEntry 𝓤 H A with.signature (κ₁, tt) (q₁, tt) (h, (s, (n, tt))) passed) (With 𝓤 H A at-mem run .pre to-with)
   goes-with = qed W ((‵ (flft κ₁ q₁) ⊛ ‵ ftrue) ∷ ‵ (owns (row ∷ ShrSlice (named 0) κ₁ u8 ∷ u64 ∷ []) (h, (s, (n, tt))) passed) ∷ []) ∵ join ! $ frame ! $ done !
 
-  module _ (C : Calls 𝓤 H) (Λ : Loops 𝓤 H) (fm : FmC 𝓤 H (W .laws) C) (known : Triple 𝓤 (C #exports-working·add-record-words) (With 𝓤 H A at-mem run)) where
+  module _ (C : Calls 𝓤 H) (Λ : Loops 𝓤 H) (fm : FmC 𝓤 H (W .laws) C) (known : Triple 𝓤 (C #exports-working-record·add-record-words) (With 𝓤 H A at-mem run)) where
     walk : Is (ShrSlice (named 1) κ₁ u8) s (v₂ ∷ []) → ent 𝓤 (onEntry 𝓤 H A add.signature (κ, (κ₁, tt)) (q, (q₁, tt)) x at) (WpFn 𝓤 H C Λ code.function (vptr b o ∷ v₂ ∷ vint w64 n ∷ []) Post)
     walk is-s =
         qed W ((‵ (flft κ q) ⊛ (‵ (flft κ₁ q₁) ⊛ ‵ ftrue)) ∷ ‵ (owns (MutRef (named 0) κ row ∷ ShrSlice (named 1) κ₁ u8 ∷ u64 ∷ []) x at) ∷ []) ∵ split ! $ move ! (2 ∷ []) $ fsplit ! $ fsplit3 ! $ drop ! $
@@ -143,7 +143,7 @@ module _ {M : Type 1} (𝓤 : URA M) (H : Heap 𝓤) (A : Atoms 𝓤) (W : Given
         by ! (exits r told (refusal-fits r v is))))))))))))))
 
 module _ {M : Type 1} (𝓤 : URA M) (H : Heap 𝓤) (A : Atoms 𝓤) (W : Given 𝓤 H A) (at-mem : Memory → SProp 𝓤) (run : Routine → Fun 𝓤) where
-  add-walks : (C : Calls 𝓤 H) (Λ : Loops 𝓤 H) → FmC 𝓤 H (W .laws) C → Triple 𝓤 (C #exports-working·add-record-words) (With 𝓤 H A at-mem run)
+  add-walks : (C : Calls 𝓤 H) (Λ : Loops 𝓤 H) → FmC 𝓤 H (W .laws) C → Triple 𝓤 (C #exports-working-record·add-record-words) (With 𝓤 H A at-mem run)
       → Walks 𝓤 H A add.ended stayed (WpFn 𝓤 H C Λ code.function) (add.clauses 𝓤 H A at-mem run)
   add-walks C Λ fm known = walked 𝓤 H A add.ended stayed (add.clauses 𝓤 H A at-mem run) (WpFn 𝓤 H C Λ code.function)
       (λ κs. (ptr-vals, (slice-vals, (uint-vals w64, tt)))) (λ κs. (mut-tells (named 0) (κs .0) row, (shr-slice-tells (named 1) (κs .1 .0) u8, (uint-tells w64, tt))))
@@ -153,7 +153,7 @@ module _ {M : Type 1} (𝓤 : URA M) (H : Heap 𝓤) (A : Atoms 𝓤) (W : Given
   goes = (goes-ref 𝓤 H A W 2 0 tt (plain (λ _. row)), (goes-none-slice 𝓤 H A W 2 (1 ∷ []) tt (plain (λ _. u8)) yes, (goes-none 𝓤 H A W 2 (λ _. u64) yes (λ κs x f. refl), tt)))
 
 add-meets : {M : Type 1} (𝓤 : URA M) (H : Heap 𝓤) (A : Atoms 𝓤) (W : Given 𝓤 H A) (at-mem : Memory → SProp 𝓤) (run : Routine → Fun 𝓤) (𝓣 : Tables 𝓤 H)
-    → Triple 𝓤 (𝓣 .C #exports-working·add-record-words) (With 𝓤 H A at-mem run)
+    → Triple 𝓤 (𝓣 .C #exports-working-record·add-record-words) (With 𝓤 H A at-mem run)
     → Meets 𝓤 H A add.signature (WpFn 𝓤 H (𝓣 .C) (𝓣 .Λ) code.function) (add.spec 𝓤 H A at-mem run)
 add-meets 𝓤 H A W at-mem run 𝓣 known =
     walk-meets 𝓤 H A add.ended stayed W (goes 𝓤 H A W at-mem run) (add.clauses 𝓤 H A at-mem run)
@@ -163,6 +163,6 @@ pub lukaripe-working-add-record-spec : {M : Type 1} → stated.statement M
 unfolding code.routine tablesOf
 lukaripe-working-add-record-spec 𝓤 H 𝓜 𝓖 𝓡 =
     entered 𝓤 H (tripleOf 𝓤 H (𝓖 .A) add.signature (add.spec 𝓤 H (𝓖 .A) (𝓜 .mem) (𝓡 .run)))
-    (tables 𝓤 H 𝓜 𝓡 code.env .C) (tables 𝓤 H 𝓜 𝓡 code.env .Λ) #exports-working·lukaripe-working-add-record code.function (code.unfolded 𝓤 H 𝓜 𝓡)
+    (tables 𝓤 H 𝓜 𝓡 code.env .C) (tables 𝓤 H 𝓜 𝓡 code.env .Λ) #exports-working-record·lukaripe-working-add-record code.function (code.unfolded 𝓤 H 𝓜 𝓡)
     (add-meets 𝓤 H (𝓖 .A) (givenOf 𝓤 H 𝓜 𝓖) (𝓜 .mem) (𝓡 .run) (tablesOf 𝓤 H 𝓜 (tables 𝓤 H 𝓜 𝓡 code.env))
-    (cited 𝓤 H (With 𝓤 H (𝓖 .A) (𝓜 .mem) (𝓡 .run)) 𝓜 𝓡 code.env #exports-working·add-record-words with-def.routine code.calls-exports-working·add-record-words (with-thm.met 𝓤 H 𝓜 𝓖 𝓡)))
+    (cited 𝓤 H (With 𝓤 H (𝓖 .A) (𝓜 .mem) (𝓡 .run)) 𝓜 𝓡 code.env #exports-working-record·add-record-words with-def.routine code.calls-exports-working-record·add-record-words (with-thm.met 𝓤 H 𝓜 𝓖 𝓡)))

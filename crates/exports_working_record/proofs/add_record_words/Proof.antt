@@ -1,15 +1,15 @@
--- `exports_working::add_record_words` meets its contract. Assumes nothing.
+-- `exports_working_record::add_record_words` meets its contract. Assumes nothing.
 use mathlib.Core.Path.{ap, _∙_}
 use Rattle.util_defs.specs.Refusal.{Outcome}
 use Rattle.util_defs.proofs.Tables.{told-by}
 use Rattle.layout_defs.specs.Layout.{Layout}
 use Rattle.layout.specs.View.{layoutSays}
 use Rattle.record_defs.specs.Record.{decodeFor}
 use Rattle.exports_working.specs.Working.{workedOut}
 use Rattle.exports_working.proofs.Given.{words-on, words-off}
 use borrow.Author.Needs.{needs}
-use Rattle.exports_working.proofs.add_record_words.Statement.{statement}
-use Rattle.exports_working.proofs.add_record_words.Tie as tie
+use Rattle.exports_working_record.proofs.add_record_words.Statement.{statement}
+use Rattle.exports_working_record.proofs.add_record_words.Tie as tie
 
 layout-in-requires : tie.Need-layout-in-requires
 layout-in-requires c κs = search needs
