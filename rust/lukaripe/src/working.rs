@@ -73,8 +73,8 @@ impl Working {
         Ok(Working { layout, repr_packed })
     }
 
-    /// Goes on from a layout before its final padding, as [`Working::layout`] gave it. It may be any: each addition
-    /// tests it first.
+    /// Goes on from a layout before its final padding, as [`Working::layout`] gave it, with the packing that it was
+    /// built with. It may be any: each addition tests it first.
     ///
     /// ```
     /// use lukaripe::{Layout, Refusal, Working};
