@@ -4,6 +4,7 @@
 use cast::CastAnswer;
 use cast::CastType;
 use convert::ComputeAnswer;
+use layout::Check;
 use layout::DstLayout;
 use layout::LayoutAnswer;
 use layout::SizeInfo;
@@ -13,6 +14,7 @@ use rounding::RoundingAlignAndPhase;
 use trailing::TrailingSliceLayout;
 use util::Answer;
 use util::Decision;
+use working::Addition;
 
 fn fixed(align: u64) -> DstLayout {
     DstLayout {
@@ -115,6 +117,24 @@ fn extended(l: DstLayout, field: DstLayout) -> u64 {
     of_layout(extend::extend(l, field, 0))
 }
 
+fn of_addition(a: Addition) -> u64 {
+    let answer = a.answer;
+    match answer {
+        Check::Accepted => 0,
+        Check::Refused(number) => number,
+    }
+}
+
+fn added(l: DstLayout, field: DstLayout) -> u64 {
+    of_addition(working::with_member(l, field, 0))
+}
+
+// No record: 20, where the working layout is good.
+fn added_record(l: DstLayout) -> u64 {
+    let bytes = [0u8; 1];
+    of_addition(working::with_record(l, &bytes, 0))
+}
+
 fn computed(src: DstLayout, dst: DstLayout) -> u64 {
     of_params(convert::try_compute(src, dst))
 }
@@ -163,6 +183,29 @@ fn print_layouts() {
     );
 }
 
+fn print_additions() {
+    print_one(
+        b"with_member",
+        added(fixed(4), trailing(5)),
+        added(fixed(0), trailing(5)),
+        added(fixed(3), trailing(5)),
+        added(trailing(0), fixed(4)),
+    );
+    print_second(
+        added(fixed(4), fixed(0)),
+        added(fixed(4), trailing(0)),
+        added(trailing(0), fixed(0)),
+        added(fixed(0), trailing(0)),
+    );
+    print_one(
+        b"with_record",
+        added_record(fixed(4)),
+        added_record(fixed(0)),
+        added_record(fixed(3)),
+        added_record(trailing(0)),
+    );
+}
+
 fn print_converts() {
     print_one(
         b"validate_cast_and_convert_metadata",
@@ -195,5 +238,6 @@ fn print_converts() {
 
 fn main() {
     print_layouts();
+    print_additions();
     print_converts();
 }
