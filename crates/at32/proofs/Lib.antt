@@ -13,3 +13,4 @@ mod OfConvert
 mod OfGuarantee
 mod OfPlaces
 mod OfTyped
+mod OfShort

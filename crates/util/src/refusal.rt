@@ -36,7 +36,7 @@ pub const NO_ROOM: u64 = 16;
 pub const ADVANCE_PASSES_MAX: u64 = 17;
 // The converted count passes the greatest number.
 pub const CONVERTED_COUNT_PASSES_MAX: u64 = 19;
-// A record is not 48 bytes long, or a list no multiple of that.
+// A record has not its length, 48 bytes or 32 of a short one, or a list no multiple of that.
 pub const RECORD_LENGTH: u64 = 20;
 // A record's kind is above the greatest.
 pub const KIND: u64 = 21;
@@ -64,6 +64,12 @@ pub const ELEM_NO_MULTIPLE: u64 = 31;
 pub const NO_SHIFT: u64 = 32;
 // Not even count 0 has a size.
 pub const NO_SIZE_AT_ZERO: u64 = 39;
+// The rounding word of a record needs more bits than a short one has.
+pub const WORD_ABOVE_SHORT: u64 = 40;
+// The output of a move is too short.
+pub const OUTPUT_SHORT: u64 = 41;
+// A short record's spare bytes are not zero, or its power is above the greatest.
+pub const SPARE_OR_POWER: u64 = 42;
 // An alignment and a packing are both asked for.
 pub const ALIGN_AND_PACKED: u64 = 49;
 // A packed composition takes a member with an alignment modifier.

@@ -116,3 +116,13 @@ passed {T} (c ∷ cs) y {z} e = go (c .test) refl e (passed cs y)
 pub passed-both : (cs ds : List Cause) → Passed (cs ++ ds) → Passed cs × Passed ds
 passed-both [] ds x = (tt, x)
 passed-both (c ∷ cs) ds x = let y = passed-both cs ds (x .1) in ((x .0, y .0), y .1)
+
+-- and where no test applies nothing is refused
+pub passes : {T : Type 0} (cs : List Cause) (x : T) → Passed cs → unless cs x ≡ answered x
+unfolding unless
+passes [] x p = refl
+passes (c ∷ cs) x p = ap (λ (b : Bool). cond b (refused (c .number)) (unless cs x)) (p .0) ∙ passes cs x (p .1)
+
+pub both-passed : (cs ds : List Cause) → Passed cs → Passed ds → Passed (cs ++ ds)
+both-passed [] ds x y = y
+both-passed (c ∷ cs) ds x y = (x .0, both-passed cs ds (x .1) y)

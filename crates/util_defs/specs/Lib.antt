@@ -3,3 +3,4 @@ pub mod Power
 pub mod Round
 pub mod Refusal
 pub mod Helpers
+pub mod Placed

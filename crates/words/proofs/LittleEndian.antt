@@ -1,10 +1,10 @@
 -- Little-endian words in bytes, and runs of stores. Assumes nothing.
-use mathlib.Core.Path.{_≡_, refl, _∙_}
+use mathlib.Core.Path.{_≡_, refl, ap, _∙_}
 use mathlib.Core.Bool.{Bool, true, false}
 use mathlib.Core.List.{List, [], _∷_, _++_, append-nil}
 use mathlib.Core.Logic.{_⊎_, inl, inr, ⊎-elim}
 use Prim.Native.Nat.{ℕ, zero, suc, _+_, _*_, _/_, _%_, _^_, _≤_, _<_}
-use native.Mathlib.Nat.{add-zero, pow-suc}
+use native.Mathlib.Nat.{add-zero, mul-comm, mul-assoc, pow-suc}
 use native.Mathlib.Omega.{arith}
 use borrow.Author.Tests.{ltb-true, ltb-false, le-leb, lt-leb}
 use lib.Dec.{ltb}
@@ -94,8 +94,78 @@ part-bytes s n i h j =
     (λ g. let e : getD (take n (drop i s)) j 0 ≡ 0 = List·getD-eq-default (take n (drop i s)) 0 {n = j} (omega (arith, length-take n (drop i s))) in omega arith)
     (lt-or-le j n)
 
+-- the bytes of the number that n bytes hold are those bytes
+pub part-back : (n : ℕ) (s : List ℕ) (i : ℕ) → AllBytes s → i + n ≤ length s → bytesOf n (valueOf (take n (drop i s))) ≡ take n (drop i s)
+part-back n s i h l = bytes-value n (take n (drop i s)) (length-take-le n (drop i s) (omega (arith, length-drop i s))) (part-bytes s n i h)
+
 pub word-back : (s : List ℕ) (i : ℕ) → AllBytes s → i + 8 ≤ length s → wordBytes (wordAt s i) ≡ take 8 (drop i s)
-word-back s i h l = bytes-value 8 (take 8 (drop i s)) (length-take-le 8 (drop i s) (omega (arith, length-drop i s))) (part-bytes s 8 i h)
+word-back s i h l = part-back 8 s i h l
+
+-- such a number is below 256 ^ n
+value-below : (n : ℕ) (s : List ℕ) → length s ≤ n → AllBytes s → valueOf s < 256 ^ n
+unfolding valueOf
+value-below n [] e h = pow-positive n
+  where
+    pow-positive : (n : ℕ) → 0 < 256 ^ n
+    pow-positive zero = omega arith
+    pow-positive (suc n) = let k : 256 ^ suc n ≡ 256 ^ n * 256 = pow-suc 256 n in omega (arith, pow-positive n)
+value-below zero (b ∷ s) e h = absurd (omega arith)
+value-below (suc n) (b ∷ s) e h =
+    let k : 256 ^ suc n ≡ 256 ^ n * 256 = pow-suc 256 n in
+    let lt : b < 256 = h 0 in
+    let r = value-below n s (omega arith) (λ i. h (suc i)) in
+    omega arith
+
+pub part-below : (n : ℕ) (s : List ℕ) (i : ℕ) → AllBytes s → valueOf (take n (drop i s)) < 256 ^ n
+part-below n s i h = value-below n (take n (drop i s)) (omega (arith, length-take n (drop i s))) (part-bytes s n i h)
+
+-- what is written is bytes
+pub bytes-all : (n v : ℕ) → AllBytes (bytesOf n v)
+unfolding bytesOf
+bytes-all zero v i = omega arith
+bytes-all (suc n) v zero = omega arith
+bytes-all (suc n) v (suc i) = bytes-all n (v / 256) i
+
+pub all-append : (s t : List ℕ) → AllBytes s → AllBytes t → AllBytes (s ++ t)
+all-append [] t h g i = g i
+all-append (b ∷ s) t h g zero = h 0
+all-append (b ∷ s) t h g (suc i) = all-append s t (λ j. h (suc j)) g i
+
+pub all-part : (n : ℕ) (s : List ℕ) (i : ℕ) → AllBytes s → AllBytes (take n (drop i s))
+all-part n s i h = part-bytes s n i h
+
+by-256 : (x y : ℕ) → x * 256 * y ≡ 256 * (x * y)
+by-256 x y = ap (λ (z : ℕ). z * y) (mul-comm x 256) ∙ mul-assoc 256 x y
+
+-- a number of m + n bytes is those of its two parts
+pub bytes-parts : (m n a b : ℕ) → a < 256 ^ m → bytesOf (m + n) (a + 256 ^ m * b) ≡ bytesOf m a ++ bytesOf n b
+unfolding bytesOf
+bytes-parts zero n a b h =
+    let z : a ≡ 0 = omega arith in
+    let e : 0 + n ≡ n = omega arith in
+    let f : a + 1 * b ≡ b = omega arith in
+    rw (e, f)
+bytes-parts (suc m) n a b h =
+    let k : 256 ^ suc m ≡ 256 ^ m * 256 = pow-suc 256 m in
+    let e : suc m + n ≡ suc (m + n) = omega arith in
+    let p : 256 ^ suc m * b ≡ 256 * (256 ^ m * b) = rw k (by-256 (256 ^ m) b) in
+    let f : (a + 256 ^ suc m * b) % 256 ≡ a % 256 = omega arith in
+    let g : (a + 256 ^ suc m * b) / 256 ≡ a / 256 + 256 ^ m * b = omega arith in
+    rw (e, f, g, bytes-parts m n (a / 256) b (omega arith))
+
+-- and the number of m + n bytes is made of those of its two parts
+pub value-parts : (s : List ℕ) (m n i j : ℕ) → j ≡ i + m → j ≤ length s → valueOf (take (m + n) (drop i s)) ≡ valueOf (take m (drop i s)) + 256 ^ m * valueOf (take n (drop j s))
+unfolding valueOf
+value-parts s zero n i j e l =
+    let z : 0 + n ≡ n = omega arith in
+    let q : i ≡ j = omega arith in
+    rw (z, q) (omega arith)
+value-parts s (suc m) n i j e l =
+    let z : suc m + n ≡ suc (m + n) = omega arith in
+    let k : 256 ^ suc m ≡ 256 ^ m * 256 = pow-suc 256 m in
+    let x = valueOf (take n (drop j s)) in
+    let p : 256 ^ suc m * x ≡ 256 * (256 ^ m * x) = rw k (by-256 (256 ^ m) x) in
+    rw (z, value-step s (m + n) i (suc i) (omega arith) refl, value-step s m i (suc i) (omega arith) refl, value-parts s m n (suc i) j (omega arith) l) (omega arith)
 
 -- the total forms, of a word that is among the bytes
 pub read-within : (s : List ℕ) (i : ℕ) → i + 8 ≤ length s → readFor s i ≡ wordAt s i

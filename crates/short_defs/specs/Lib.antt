@@ -1,0 +1,3 @@
+pub mod Short
+pub mod Moves
+pub mod Trips

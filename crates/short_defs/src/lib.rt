@@ -1,0 +1,1 @@
+// No code: the definitions of records of layouts, and their laws over any width.
