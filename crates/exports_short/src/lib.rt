@@ -1,5 +1,5 @@
-// Short records for C and Rust, one by one, and how the moves of lists cross: no logic of their own. include/lukaripe.h is their C
-// side. Each move stands in a crate of its own, so that what it calls is called there alone, and inlined.
+// Short records for C and Rust, one by one, and how the moves of lists cross: no logic of their own. include/lukaripe.h is their
+// C side. Each move stands in a crate of its own, so that what it calls is called there alone, and inlined.
 ghost use mathlib.Core.Path.{_≡_};
 ghost use lib.ListN.{length};
 ghost use Rattle.short_defs.specs.Short.{decodeShortFor, encodeShortWordsFor, encodedShortWordsInto};

@@ -1,5 +1,5 @@
-// Lists of records moved from one form to the other, between two lent buffers (document 02, request 6): 48 bytes a record to 32, and
-// back. The whole list is tested first, so that nothing is written where it is refused.
+// Lists of records moved from one form to the other, between two lent buffers (document 02, request 6): 48 bytes a record to 32,
+// and back. The whole list is tested first, so that nothing is written where it is refused.
 ghost use mathlib.Core.Path.{_≡_};
 ghost use Prim.Native.Nat.{_*_, _/_, _%_, _≤_};
 ghost use lib.ListN.{length};

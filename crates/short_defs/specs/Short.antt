@@ -1,6 +1,6 @@
--- Records of 32 bytes, short ones (document 02, request 6): size or base, o and e as 8 bytes each, the rounding word narrowed to 4,
--- the alignment's power 1, the kind 1, two zero bytes, all little-endian. They have no width: numbers are those of 64-bit records.
--- Assumes nothing.
+-- Records of 32 bytes, short ones (document 02, request 6): size or base, o and e as 8 bytes each, the rounding word narrowed to
+-- 4, the alignment's power 1, the kind 1, two zero bytes, all little-endian. They have no width: their numbers are those of
+-- 64-bit records. Assumes nothing.
 use mathlib.Core.Path.{_≡_}
 use mathlib.Core.Bool.{cond, not, _||_}
 use mathlib.Core.List.{List, [], _∷_, _++_}
@@ -49,7 +49,7 @@ shortBytes r =
     wordBytes (r .size) ++ wordBytes (r .offset) ++ wordBytes (r .elem)
     ++ bytesOf 4 (r .word) ++ bytesOf 1 (r .power) ++ bytesOf 1 (r .kind) ++ bytesOf 2 (r .spare)
 
--- the power of an alignment of w bits: the exponent of the one of 2 ^ (w - 1), .., 2, 1 that it is (`power-is`: of a power of two)
+-- the power of an alignment of w bits: the exponent of the one of 2 ^ (w - 1), .., 2, 1 that it is (`power-is`)
 unfoldable pub exponentOf : ℕ → ℕ → ℕ
 exponentOf zero a = 0
 exponentOf (suc k) a = cond (eqb a (2 ^ k)) k (exponentOf k a)
