@@ -2,8 +2,9 @@
  *
  * Every function takes any numbers and any bytes and returns. An answer begins with its refusal: 0 where there is none, and
  * then the members behind it are the answer; else the number of the cause (LUKARIPE_REFUSED_..; lukaripe_refusal_text gives
- * it in words), and the members behind it are 0, except the `place` of a composition, which says where. Each function's
- * comment names the refusals that it can give, in the order in which they are tested: the first that applies is given.
+ * it in words), and the members behind it are 0, except the `place` of a composition or a move, which says where. Each
+ * function's comment names the refusals that it can give, in the order in which they are tested: the first that applies is
+ * given.
  *
  * Words used below:
  *   alignment   a power of two
@@ -24,9 +25,9 @@
  * there are two, the first one is tested first. "Layout refusals" below stands for these four.
  *
  * The library has no state and allocates nothing: every function may be called from any thread at any time. What is lent is
- * only read, but for `out` of lukaripe_encode, for `places` and `gaps` of lukaripe_for_repr_c_struct_places and for `working`
- * of lukaripe_working_add and lukaripe_working_add_record, which overlap nothing else that is lent, and it is not kept. A
- * pointer may be NULL where its length is 0; `working` has none, and may not.
+ * only read, but for `out` of each function that has it, for `places` and `gaps` of lukaripe_for_repr_c_struct_places and for
+ * `working` of lukaripe_working_add and lukaripe_working_add_record, which overlap nothing else that is lent, and it is not
+ * kept. A pointer may be NULL where its length is 0; `working` has none, and may not.
  */
 #ifndef LUKARIPE_H
 #define LUKARIPE_H
@@ -36,9 +37,9 @@
 #include <stdint.h>
 
 #define LUKARIPE_VERSION_MAJOR 0
-#define LUKARIPE_VERSION_MINOR 4
+#define LUKARIPE_VERSION_MINOR 5
 #define LUKARIPE_VERSION_PATCH 0
-#define LUKARIPE_VERSION "0.4.0"
+#define LUKARIPE_VERSION "0.5.0"
 
 /* An answer that is not looked at is a mistake: a refusal would go unseen. */
 #if defined(__GNUC__) || defined(__clang__)
@@ -86,6 +87,9 @@ enum {
     LUKARIPE_REFUSED_ELEM_NO_MULTIPLE = 31,
     LUKARIPE_REFUSED_NO_SHIFT = 32,
     LUKARIPE_REFUSED_NO_SIZE_AT_ZERO = 39,
+    LUKARIPE_REFUSED_WORD_ABOVE_SHORT = 40,
+    LUKARIPE_REFUSED_OUTPUT_SHORT = 41,
+    LUKARIPE_REFUSED_SPARE_OR_POWER = 42,
     LUKARIPE_REFUSED_ALIGN_AND_PACKED = 49,
     LUKARIPE_REFUSED_ALIGN_MODIFIER_IN_PACKED = 50
 };
@@ -132,7 +136,7 @@ static inline const char *lukaripe_refusal_text(uint64_t refusal) {
     case LUKARIPE_REFUSED_CONVERTED_COUNT_PASSES_MAX:
         return "the converted count overflows";
     case LUKARIPE_REFUSED_RECORD_LENGTH:
-        return "a record is not 48 bytes long, or a list no multiple of that";
+        return "a record is not 48 bytes long, or a short one 32, or a list no multiple of that";
     case LUKARIPE_REFUSED_KIND:
         return "the kind of a record is above 7";
     case LUKARIPE_REFUSED_FIXED_RECORD:
@@ -159,6 +163,12 @@ static inline const char *lukaripe_refusal_text(uint64_t refusal) {
         return "no shift lines the sizes of source and target up";
     case LUKARIPE_REFUSED_NO_SIZE_AT_ZERO:
         return "the size without elements overflows";
+    case LUKARIPE_REFUSED_WORD_ABOVE_SHORT:
+        return "the rounding word needs more than the 32 bits of a short record";
+    case LUKARIPE_REFUSED_OUTPUT_SHORT:
+        return "the output is too short";
+    case LUKARIPE_REFUSED_SPARE_OR_POWER:
+        return "the spare bytes of a short record are not 0, or its power is above 63";
     case LUKARIPE_REFUSED_ALIGN_AND_PACKED:
         return "an alignment and a packing are both asked for";
     case LUKARIPE_REFUSED_ALIGN_MODIFIER_IN_PACKED:
@@ -377,6 +387,40 @@ LUKARIPE_USE_RESULT uint64_t lukaripe_working_add(lukaripe_layout *working, luka
  * member; 5, 6, 7, 8, 9. */
 LUKARIPE_USE_RESULT uint64_t lukaripe_working_add_record(lukaripe_layout *working, const uint8_t *member, size_t len,
                                                          uint64_t repr_packed);
+
+/* ---- short records ---- */
+
+/* The bytes of a short record, another form of the record of a layout: size_base, offset and elem_size of 8 bytes each, the
+ * word of 4, the power of two that the alignment is of 1, the kind of 1, and two spare ones, which are 0; little-endian. A
+ * list of them is short records end to end. */
+enum { LUKARIPE_SHORT_RECORD_LENGTH = 32 };
+
+/* The layout of a short record. Refusals: 20 where len is not 32; 21, 42, then 22 (fixed) or 2 (trailing). */
+LUKARIPE_USE_RESULT lukaripe_layout_answer lukaripe_decode_short(const uint8_t *bytes, size_t len);
+
+/* Writes the short record of a layout to 32 lent bytes and gives the refusal; on a refusal no byte of out has changed.
+ * Refusals: 20 where len is not 32, then layout refusals, 40. */
+LUKARIPE_USE_RESULT uint64_t lukaripe_encode_short(lukaripe_layout layout, uint8_t *out, size_t len);
+
+/* A move of records. place, of a refusal: the index of the record at fault, and 0 for the length of the list or of the
+ * output. written: the bytes that were written to the front of the output. */
+typedef struct {
+    uint64_t refusal;
+    uint64_t place;
+    uint64_t written;
+} lukaripe_moved;
+
+/* Writes the short forms of the records of a list to the front of out, which may be longer; behind them no byte has changed,
+ * and on a refusal none has. Refusals: 20 where len is no multiple of 48; 41 where out_len is below 32 for each record; of
+ * each record in turn: layout refusals, 40. */
+LUKARIPE_USE_RESULT lukaripe_moved lukaripe_records_to_short(const uint8_t *records, size_t len, uint8_t *out,
+                                                             size_t out_len);
+
+/* The same back: the records of a list of short ones. What one of the two wrote the other turns into the same bytes again.
+ * Refusals: 20 where len is no multiple of 32; 41 where out_len is below 48 for each record; of each record in turn: 21, 42,
+ * then 22 or 2. */
+LUKARIPE_USE_RESULT lukaripe_moved lukaripe_records_from_short(const uint8_t *records, size_t len, uint8_t *out,
+                                                               size_t out_len);
 
 /* ---- casts ---- */
 

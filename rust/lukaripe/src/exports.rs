@@ -111,6 +111,15 @@ unsafe extern "C" {
         repr_packed: u64,
     ) -> u64;
 
+    // ---- short records: of a move the values are the place and the number of bytes written ----
+
+    pub unsafe fn lukaripe_decode_short(record: *const u8, len: usize) -> Told<6>;
+    pub unsafe fn lukaripe_encode_short(layout: Layout, out: *mut u8, len: usize) -> u64;
+
+    // Either may be NULL where its length is 0.
+    pub unsafe fn lukaripe_records_to_short(records: *const u8, len: usize, out: *mut u8, out_len: usize) -> Told<2>;
+    pub unsafe fn lukaripe_records_from_short(records: *const u8, len: usize, out: *mut u8, out_len: usize) -> Told<2>;
+
     // ---- casts ----
 
     pub safe fn lukaripe_validate_cast_and_convert_metadata(

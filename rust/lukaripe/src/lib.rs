@@ -1,8 +1,8 @@
 //! Layout arithmetic: sizes, padding, casts and conversions of records that end in a run of elements.
 //!
 //! The work is done by proved functions, which have the same names in C. They take any numbers and any bytes, and
-//! refuse what they cannot use: an error is a [`Refusal`], and of a list of members a [`Refused`], which also says
-//! where. All numbers are unsigned and 64 bits wide.
+//! refuse what they cannot use: an error is a [`Refusal`], and of a list of members or records a [`Refused`], which
+//! also says where. All numbers are unsigned and 64 bits wide.
 //!
 //! ```
 //! use lukaripe::{for_repr_c_struct, Cast, CastType, Layout};
@@ -32,7 +32,9 @@
 //! - [`Trailing`]: the run of elements at the end of a layout, its sizes and its padding.
 //! - [`Layout::validate_cast_and_convert_metadata`]: whether bytes hold such a record, and with how many elements.
 //! - [`CastParams`]: whether one record may be read as another, and with how many elements; [`convert_and_cast`].
-//! - [`Layout::to_bytes`] and [`Layout::from_bytes`]: layouts as records of 48 bytes.
+//! - [`Layout::to_bytes`] and [`Layout::from_bytes`]: layouts as records of 48 bytes; [`Layout::to_short_bytes`] and
+//!   [`Layout::from_short_bytes`]: as short records of 32; [`records_to_short`] and [`records_from_short`]: lists of
+//!   either moved to the other form.
 
 #![no_std]
 #![deny(missing_docs)]
@@ -50,6 +52,7 @@ mod record;
 mod refusal;
 mod rounding;
 mod scalar;
+mod short;
 mod trailing;
 mod types;
 mod working;
@@ -65,6 +68,8 @@ pub use record::RECORD_LENGTH;
 pub use refusal::{NoSize, Refusal, Refused, Result, UnknownRefusal};
 pub use rounding::RoundingAlignAndPhase;
 pub use scalar::Scalar;
+pub use short::SHORT_RECORD_LENGTH;
+pub use short::{records_from_short, records_from_short_vec, records_to_short, records_to_short_vec};
 pub use trailing::Trailing;
 pub use types::NoAllocLayout;
 pub use working::Working;

@@ -63,7 +63,7 @@ refusals! {
     NoRoom = 16, "there is less room than the size without elements";
     AdvancePassesMax = 17, "the advance overflows";
     ConvertedCountPassesMax = 19, "the converted count overflows";
-    RecordLength = 20, "a record is not 48 bytes long, or a list no multiple of that";
+    RecordLength = 20, "a record is not 48 bytes long, or a short one 32, or a list no multiple of that";
     Kind = 21, "the kind of a record is above 7";
     FixedRecord = 22, "a record of a fixed size has a later word that is not 0";
     ScalarCode = 23, "the code of a scalar is above 8";
@@ -77,6 +77,9 @@ refusals! {
     ElemNoMultiple = 31, "the size of the source's elements is no whole multiple of the target's";
     NoShift = 32, "no shift lines the sizes of source and target up";
     NoSizeAtZero = 39, "the size without elements overflows";
+    WordAboveShort = 40, "the rounding word needs more than the 32 bits of a short record";
+    OutputShort = 41, "the output is too short";
+    SpareOrPower = 42, "the spare bytes of a short record are not 0, or its power is above 63";
     AlignAndPacked = 49, "an alignment and a packing are both asked for";
     AlignModifierInPacked = 50, "a member of a packed struct has an alignment modifier";
 }
@@ -147,7 +150,7 @@ impl fmt::Display for UnknownRefusal {
 
 impl Error for UnknownRefusal {}
 
-/// Why a list of members is refused, and where.
+/// Why a list of members, or of records to move, is refused, and where.
 ///
 /// A [`Refusal`] becomes one at place 0, so that `?` takes both in a function that composes.
 ///
@@ -171,7 +174,7 @@ impl Error for UnknownRefusal {}
 pub struct Refused {
     /// Why.
     pub refusal: Refusal,
-    /// The index of the member at fault; for the final padding the number of the members; else 0.
+    /// The index of the member or record at fault; for the final padding the number of the members; else 0.
     pub place: u64,
 }
 

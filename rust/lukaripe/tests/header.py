@@ -26,6 +26,7 @@ STRUCTS = {
     "Layout": "lukaripe_layout",
     "LayoutOut": "lukaripe_layout_answer",
     "ComposedOut": "lukaripe_composed",
+    "MovedOut": "lukaripe_moved",
     "CastOut": "lukaripe_cast",
     "CastParams": "lukaripe_cast_params",
     "CastParamsOut": "lukaripe_cast_params_answer",
@@ -129,15 +130,17 @@ def crate_fields(body):
 
 
 def crate_parameters(text):
-    """The C parameters of those of a function: a slice is a pointer and a length, which of numbers has its name; a
-    struct that is lent is a pointer alone."""
+    """The C parameters of those of a function: a slice is a pointer and a length, which has its name but for the first
+    slice of bytes; a struct that is lent is a pointer alone."""
+    first_bytes = True
     for name, kind in re.findall(r"(\w+): ([^,]+)", text):
         slice_of = re.fullmatch(r"&(mut )?\[(u8|u64)\]\s*", kind)
         lent = re.fullmatch(r"&(mut )?(\w+)\s*", kind)
         if slice_of:
             mutable, element = slice_of.groups()
             yield ("" if mutable else "const ") + {"u8": "uint8_t *", "u64": "uint64_t *"}[element], name
-            yield "size_t", "len" if element == "u8" else f"{name}_len"
+            yield "size_t", "len" if element == "u8" and first_bytes else f"{name}_len"
+            first_bytes &= element != "u8"
         elif lent:
             mutable, struct = lent.groups()
             yield ("" if mutable else "const ") + in_c(struct) + " *", name
@@ -202,8 +205,10 @@ static char line[4096];
 static char *at;
 static bool missing;
 
-/* Bytes to lend; what those that are written to hold before. Of numbers, how many at most. */
+/* Bytes to lend, and an area whose front is lent as the output of short records and moves; what those that are written
+   to hold before. Of numbers, how many at most. */
 static uint8_t lent[1024];
+static uint8_t area[512];
 enum { BEFORE = 0xa5, NUMBERS = 64 };
 
 static uint64_t next(void) {
@@ -239,6 +244,21 @@ static bool untouched(const void *bytes, size_t len) {
         if (((const uint8_t *)bytes)[i] != BEFORE)
             return false;
     return true;
+}
+
+/* The length that is lent of the area. */
+static size_t next_output(void) {
+    uint64_t len = next();
+    memset(area, BEFORE, sizeof area);
+    missing |= len > sizeof area;
+    return missing ? 0 : (size_t)len;
+}
+
+/* From which word on so many of the area are looked at. */
+static const uint8_t *next_seen(size_t words) {
+    uint64_t from = next();
+    missing |= from > sizeof area / 8 - words;
+    return area + (missing ? 0 : 8 * from);
 }
 
 /* Numbers to lend: their bytes are as those of `lent` before, also those of the numbers behind them. */
@@ -325,13 +345,29 @@ def altered(parameters, structs):
     return {name: kind[:-2] for kind, name in parameters if kind.endswith(" *") and kind[:-2] in structs}
 
 
-def take(parameters, structs):
-    """The statements that take the parameters from the line: in their order, but bytes come last, and before them the
-    index of the member whose numbers are looked at."""
+# The words of the area that an answer has: of one short record, and of a move.
+SEEN_OF_ONE, SEEN = 5, 10
+
+
+def output(function, parameters):
+    """Of a function that writes to the area: what it is handed as the length, and whether it is a move. The record of
+    48 bytes, which came before there were others, is written to `lent`."""
+    kinds = [kind for kind, _ in parameters]
+    if "uint8_t *" not in kinds or function == "lukaripe_encode":
+        return None
+    moves = "const uint8_t *" in kinds
+    return "out_len" if moves else "len", moves
+
+
+def take(function, parameters, structs):
+    """The statements that take the parameters from the line: in their order, but bytes that are read come last. Before
+    them come the length of those that are written, and the index of the member whose numbers are looked at or of the
+    word from which on the output is."""
     if writes_numbers(parameters):
         parameters = [*parameters, ("uint64_t", "member")]
     lent_structs = altered(parameters, structs)
-    for kind, name in sorted(parameters, key=lambda parameter: parameter[0].endswith("8_t *")):
+    order = {"uint8_t *": 1, "const uint8_t *": 2}
+    for kind, name in sorted(parameters, key=lambda parameter: order.get(parameter[0], 0)):
         if kind == "size_t":
             continue
         if name in lent_structs:
@@ -345,6 +381,10 @@ def take(parameters, structs):
         elif kind == "const uint8_t *":
             yield "size_t len = next_length();"
             yield "take_bytes(len);"
+        elif kind == "uint8_t *" and output(function, parameters):
+            length, moves = output(function, parameters)
+            yield f"size_t {length} = next_output();"
+            yield f"const uint8_t *seen = {f'next_seen({SEEN})' if moves else 'area'};"
         elif kind == "uint8_t *":
             yield "size_t len = next_length();"
             yield "memset(lent, BEFORE, len);"
@@ -355,9 +395,12 @@ def take(parameters, structs):
             yield f"{kind} {name} = next();"
 
 
-def answer(result, writes, numbers, lent_structs, structs):
-    """The numbers of the answer, in what was returned or written. Of a lent struct they are those that it holds, on a
-    refusal too."""
+def answer(result, writes, written, numbers, lent_structs, structs):
+    """The numbers of the answer, in what was returned or written. Of a lent struct they are those that it holds, and of
+    the area those that stand in it, on a refusal too."""
+    if written:
+        words = SEEN if written[1] else SEEN_OF_ONE
+        return numbers_of(result, "r", structs) + [f"word_at(seen + {8 * word})" for word in range(words)]
     if lent_structs:
         held = [numbers_of(kind, f"{name}[1]", structs) for name, kind in lent_structs.items()]
         return sum(held, numbers_of(result, "r", structs))
@@ -373,15 +416,24 @@ def answer(result, writes, numbers, lent_structs, structs):
 def statements(function, result, parameters, structs):
     """What calls a function on a line."""
     writes = any(kind == "uint8_t *" for kind, _ in parameters)
+    written = output(function, parameters)
     numbers = writes_numbers(parameters)
     lent_structs = altered(parameters, structs)
-    handed = [
-        "lent" if kind.endswith("8_t *") else f"{name} + 1" if name in lent_structs else name
-        for kind, name in parameters
-    ]
-    yield from take(parameters, structs)
-    yield f"{result} r = {function}({', '.join(handed)});"
-    if writes:
+
+    def handed(kind, name):
+        if kind == "uint8_t *" and written:
+            return "area"
+        if kind.endswith("8_t *"):
+            return "lent"
+        return f"{name} + 1" if name in lent_structs else name
+
+    yield from take(function, parameters, structs)
+    yield f"{result} r = {function}({', '.join(handed(*parameter) for parameter in parameters)});"
+    if written:
+        count = "r.written" if written[1] else "(r ? 0u : LUKARIPE_SHORT_RECORD_LENGTH)"
+        yield f"if ({count} > {written[0]} || !untouched(area + {count}, sizeof area - {count}))"
+        yield "    return false;"
+    elif writes:
         yield "if (r != 0 && !untouched(lent, len))"
         yield "    return false;"
     for name in numbers:
@@ -390,7 +442,7 @@ def statements(function, result, parameters, structs):
     for name in lent_structs:
         yield f"if (!untouched({name}, sizeof *{name}) || !untouched({name} + 2, sizeof *{name}))"
         yield "    return false;"
-    yield f"uint64_t answer[] = {{{', '.join(answer(result, writes, numbers, lent_structs, structs))}}};"
+    yield f"uint64_t answer[] = {{{', '.join(answer(result, writes, written, numbers, lent_structs, structs))}}};"
     yield "return same(answer, sizeof answer / sizeof *answer);"
 
 

@@ -7,7 +7,7 @@
 mod exports;
 
 use exports::{Told, Trailing};
-use lukaripe::{Refusal, Scalar, RECORD_LENGTH};
+use lukaripe::{Refusal, Scalar, RECORD_LENGTH, SHORT_RECORD_LENGTH};
 use std::collections::BTreeSet;
 use std::fmt::Debug;
 use std::mem::{align_of, size_of};
@@ -42,6 +42,7 @@ fn structs() -> Vec<String> {
         of_struct::<exports::Layout>("layout"),
         of_struct::<Told<6>>("layout_answer"),
         of_struct::<Told<7>>("composed"),
+        of_struct::<Told<2>>("moved"),
         of_struct::<Told<2>>("cast"),
         of_struct::<exports::CastParams>("cast_params"),
         of_struct::<Told<4>>("cast_params_answer"),
@@ -61,6 +62,7 @@ fn constants() -> Vec<String> {
         of_constant("FIXED_TO_TRAILING", 1),
         of_constant("TRAILING_TO_TRAILING", 2),
         of_constant("RECORD_LENGTH", RECORD_LENGTH as u64),
+        of_constant("SHORT_RECORD_LENGTH", SHORT_RECORD_LENGTH as u64),
     ];
     constants.extend(Refusal::all().map(|refusal| of_case("REFUSED", refusal, refusal.number())));
     constants.extend(Scalar::all().map(|scalar| of_case("SCALAR", scalar, scalar.code())));

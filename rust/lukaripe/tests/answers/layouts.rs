@@ -1,6 +1,6 @@
 //! Whole layouts, records, casts and conversions.
 
-use super::{decision, number, told, Inputs};
+use super::{decision, number, shorts, told, Inputs};
 use lukaripe::*;
 use std::num::NonZeroU64;
 
@@ -17,7 +17,7 @@ fn layout_of([align, kind, size_base, offset, elem_size, word]: [u64; 6]) -> Opt
     Some(Layout { align, size_info, statically_shallow_unpadded: kind % 2 == 1, align_modifier: kind > 3 })
 }
 
-fn words_of(layout: Layout) -> [u64; 6] {
+pub fn words_of(layout: Layout) -> [u64; 6] {
     let marks = u64::from(layout.statically_shallow_unpadded) + 4 * u64::from(layout.has_align_modifier());
     match layout.size_info {
         SizeInfo::Sized { size } => [layout.align, marks, size, 0, 0, 0],
@@ -44,7 +44,7 @@ fn members(list: &[u8]) -> Option<Vec<Layout>> {
 }
 
 impl Inputs<'_> {
-    fn layout(&mut self) -> Option<Layout> {
+    pub fn layout(&mut self) -> Option<Layout> {
         layout_of(std::array::from_fn(|_| self.number()))
     }
 
@@ -53,7 +53,7 @@ impl Inputs<'_> {
     }
 
     /// The length, and then words of 8 bytes, the last one of what is left.
-    fn bytes(&mut self) -> Vec<u8> {
+    pub fn bytes(&mut self) -> Vec<u8> {
         let len = self.number() as usize;
         let words: Vec<[u8; 8]> = (0..len.div_ceil(8)).map(|_| self.number().to_le_bytes()).collect();
         words.concat()[..len].to_vec()
@@ -228,6 +228,7 @@ pub fn call(function: u64, i: &mut Inputs) -> Option<Vec<u64>> {
         36 => worked_by_value(i)?,
         37 => worked_by_record(i)?,
         38 => begun(i.asked()),
+        39..=42 => shorts::call(function, i)?,
         _ => panic!("no function {function}"),
     })
 }

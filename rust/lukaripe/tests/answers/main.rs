@@ -4,13 +4,14 @@
 //! rust/differential/recorded.rs.
 
 mod layouts;
+mod shorts;
 
 use lukaripe::*;
 use std::collections::BTreeSet;
 use std::{env, fs};
 
 /// The functions have the numbers from 1 to this.
-const FUNCTIONS: u64 = 38;
+const FUNCTIONS: u64 = 42;
 
 /// The inputs of a line that are left.
 struct Inputs<'a>(std::slice::Iter<'a, u64>);
