@@ -6,8 +6,8 @@ use crate::exports::{Carried, Told};
 const MOST: usize = 12;
 
 /// The refusal number, 0 where there is none, and the numbers of the answer. Those not used are 0, and on a refusal all
-/// of them but a list's place, the count that comes with 15, the words of a lent layout and the other answers of a
-/// chain, so that a refusal that hands back anything else is a difference.
+/// of them but a list's place, the count that comes with 15, the words of a lent layout or of lent output and the other
+/// answers of a chain, so that a refusal that hands back anything else is a difference.
 #[derive(Clone, Copy, PartialEq, Eq)]
 pub struct Answer {
     pub refusal: u64,
@@ -53,6 +53,18 @@ impl Answer {
         let place = if refusal == 0 { 0 } else { accepted as u64 };
         let [align, kind, size_base, offset, elem_size, word] = words;
         Answer::new(refusal, [place, align, kind, size_base, offset, elem_size, word])
+    }
+
+    /// What came of one that writes bytes: words of the output, on a refusal too.
+    pub fn written<const N: usize>(refusal: u64, words: [u64; N]) -> Answer {
+        Answer::new(refusal, words)
+    }
+
+    /// What came of a move: the place and the number of bytes written, then words of the output, on a refusal too.
+    pub fn moved(refusal: u64, told: [u64; 2], words: [u64; 10]) -> Answer {
+        let mut answer = Answer::new(refusal, told);
+        answer.values[2..].copy_from_slice(&words);
+        answer
     }
 
     /// The refusal and as many of the other numbers.

@@ -3,8 +3,10 @@
 use crate::inputs::Input;
 use crate::layouts;
 use crate::lists;
+use crate::moves::{FROM, TO};
 use crate::random::Random;
 use crate::runs;
+use crate::shorts;
 
 pub struct Kind {
     /// The names of its numbers, where it has several and always as many.
@@ -129,6 +131,16 @@ const LENGTH: Kind = Kind {
     ..NUMBER
 };
 
+/// The same of a short record.
+const SHORT_LENGTH: Kind = Kind {
+    good: &[32],
+    bad: &[&[0], &[31], &[33], &[48], &[64]],
+    small: |_| vec![vec![0], vec![31], vec![32], vec![33]],
+    boundaries: Boundaries::Listed(&[0, 1, 31, 32, 33, 48, 64]),
+    draw: |random, case| case.push(if random.one_in(8) { random.below(128) } else { 32 }),
+    ..NUMBER
+};
+
 const LAYOUT: Kind = Kind {
     names: &["align", "kind", "size_base", "offset", "elem_size", "word"],
     good: &[8, 1, 16, 0, 0, 0],
@@ -217,6 +229,44 @@ const RUN: Kind = Kind {
     ..LIST
 };
 
+/// The bytes of a short record. The last word has the rounding word, the power, the kind and two bytes more.
+const SHORT_RECORD: Kind = Kind {
+    good: &[32, 16, 9, 9, 0x303_0000_000c],
+    bad: &[],
+    small: shorts::small_records,
+    boundaries: Boundaries::Drawn(|random, case| case.extend(shorts::record_at_boundaries(random))),
+    draw: |random, case| case.extend(shorts::draw_record(random)),
+    ..LIST
+};
+
+/// The length of the output, the word from which on it is looked at, and the bytes of records to move. They come
+/// together, since the length is mostly the one that the records take.
+const RECORDS_TO_MOVE: Kind = Kind {
+    good: &[64, 0, 96, 8, 1, 16, 0, 0, 0, 1, 3, 0, 0, 1, 1],
+    bad: &[
+        &[64, 0, 95, 8, 1, 16, 0, 0, 0, 1, 3, 0, 0, 1, 1],
+        &[63, 0, 96, 8, 1, 16, 0, 0, 0, 1, 3, 0, 0, 1, 1],
+        &[64, 0, 96, 8, 1, 16, 0, 0, 0, 1, 3, 0, 0, 1, 1 << 32],
+    ],
+    small: |level| shorts::small(&TO, level),
+    boundaries: Boundaries::Drawn(|random, case| case.extend(shorts::at_boundaries(random, &TO))),
+    draw: |random, case| case.extend(shorts::draw(random, &TO)),
+    ..LIST
+};
+
+const SHORTS_TO_MOVE: Kind = Kind {
+    good: &[96, 0, 64, 16, 0, 0, 0x103_0000_0000, 0, 0, 1, 0x300_0000_0001],
+    bad: &[
+        &[96, 0, 63, 16, 0, 0, 0x103_0000_0000, 0, 0, 1, 0x300_0000_0001],
+        &[95, 0, 64, 16, 0, 0, 0x103_0000_0000, 0, 0, 1, 0x300_0000_0001],
+        &[96, 0, 64, 16, 0, 0, 0x103_0000_0000, 0, 0, 1, 0x340_0000_0001],
+    ],
+    small: |level| shorts::small(&FROM, level),
+    boundaries: Boundaries::Drawn(|random, case| case.extend(shorts::at_boundaries(random, &FROM))),
+    draw: |random, case| case.extend(shorts::draw(random, &FROM)),
+    ..LIST
+};
+
 pub const fn number(name: &'static str) -> Input {
     Input { name, kind: &NUMBER }
 }
@@ -267,6 +317,22 @@ pub const fn lent_list(name: &'static str) -> Input {
 
 pub const fn additions(name: &'static str) -> Input {
     Input { name, kind: &RUN }
+}
+
+pub const fn short_length(name: &'static str) -> Input {
+    Input { name, kind: &SHORT_LENGTH }
+}
+
+pub const fn short_record(name: &'static str) -> Input {
+    Input { name, kind: &SHORT_RECORD }
+}
+
+pub const fn records_to_move(name: &'static str) -> Input {
+    Input { name, kind: &RECORDS_TO_MOVE }
+}
+
+pub const fn shorts_to_move(name: &'static str) -> Input {
+    Input { name, kind: &SHORTS_TO_MOVE }
 }
 
 /// The numbers from 0 up.

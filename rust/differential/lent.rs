@@ -36,7 +36,7 @@ pub fn records(held: &[u64]) -> Option<Vec<[u64; 6]>> {
 /// As many other bytes stand before the lent ones and after them. Odd, so that no word of them starts at a multiple of
 /// 8: the C interface asks for no alignment.
 const AROUND: usize = 49;
-const OTHER: u8 = 0xa5;
+pub const OTHER: u8 = 0xa5;
 
 /// Lends the bytes: what the call gave, the lent bytes after it, and how many of those around them changed.
 fn lend<T>(lent: &[u8], call: impl FnOnce(*mut u8, usize) -> T) -> (T, Vec<u8>, usize) {
@@ -73,6 +73,27 @@ pub fn writes(len: usize, call: impl FnOnce(*mut u8, usize) -> u64) -> Answer {
         return Answer { broken: stray(strays), ..Answer::of(words) };
     }
     Answer { broken: stray(strays + changed(&after, &lent)), ..Answer::refused(refusal) }
+}
+
+/// The bytes of an area whose front is lent to be written.
+pub const AREA: usize = 512;
+
+/// A call that writes to the front of an area, of which so many bytes are lent: what it gave, the area afterwards, and
+/// what it broke around that.
+pub fn fills<T>(len: usize, call: impl FnOnce(*mut u8, usize) -> T) -> (T, Vec<u8>, Option<&'static str>) {
+    let (gave, area, strays) = lend(&[OTHER; AREA], |out, _| call(out, len));
+    (gave, area, stray(strays))
+}
+
+/// The same of a call that reads other bytes.
+pub fn moves<T>(
+    lent: &[u8],
+    out_len: usize,
+    call: impl FnOnce(*const u8, usize, *mut u8, usize) -> T,
+) -> (T, Vec<u8>, Option<&'static str>) {
+    let ((gave, area, broken), after, strays) =
+        lend(lent, |from, len| fills(out_len, |out, out_len| call(from, len, out, out_len)));
+    (gave, area, broken.or(stray(strays + changed(&after, lent))))
 }
 
 /// Numbers that are lent to be written, and as many others before them and after them.

@@ -12,11 +12,14 @@ mod kinds;
 mod layouts;
 mod lent;
 mod lists;
+mod moves;
 mod plain_places;
+mod plain_short;
 mod random;
 mod recorded;
 mod rows;
 mod runs;
+mod shorts;
 mod table;
 
 use answer::Answer;
@@ -170,7 +173,14 @@ impl Tried<'_> {
             let of_steps = runs::counted().into_iter().filter(|(_, count, _)| *count == 0);
             empty.extend(of_steps.map(|(outcome, ..)| format!("{}, each step {outcome}", self.row.name)));
         }
+        let of_moves = self.moves().into_iter().filter(|(_, count)| *count == 0);
+        empty.extend(of_moves.map(|(outcome, _)| format!("{}: {outcome}", self.row.name)));
         empty
+    }
+
+    /// What is counted of a move besides: how long its output was, and its records.
+    fn moves(&self) -> Vec<(String, u64)> {
+        [&moves::TO, &moves::FROM].into_iter().find(|way| way.name == self.row.name).map_or(Vec::new(), moves::counted)
     }
 
     /// Whether its inputs are runs of additions, of which each step is counted too.
@@ -226,6 +236,11 @@ fn report(tried: &[Tried], seed: u64, progress: &Progress) {
     println!("{compared} inputs compared with the Rust, and apart {apart} checked against the documents' table");
     if tried.iter().any(Tried::is_runs) {
         report_steps();
+    }
+    for one in tried {
+        for (outcome, count) in one.moves() {
+            line(&format!("{}, besides", one.row.name), &outcome, "-", &count.to_string());
+        }
     }
     println!("seed {seed}, {:.1} million inputs a second", progress.rate());
 }

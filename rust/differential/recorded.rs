@@ -4,7 +4,7 @@
 //!
 //! A line is decimal numbers with single spaces between: the function's number (its row has it), the inputs in the
 //! order of the C parameters, bytes last, the refusal number (0: none), and the numbers of the answer, which are 0 on a
-//! refusal.
+//! refusal, but for those below that stay.
 //!
 //! A layout is the six words of its record; a trailing layout is the last four of them, size_base, offset, elem_size,
 //! word; parameters of a conversion are kind, offset_delta_elems, elem_multiple, dst_meta; a bool is 0 or 1. Bytes that
@@ -14,7 +14,11 @@
 //! refusal. Of one that writes places and gaps the inputs are repr_align, repr_packed, the lengths of the two slices,
 //! an index and the members' bytes, and behind the six words come the place and the gap of the member at that index
 //! modulo the count, 0 where there are no members. That of an addition to a lent layout is the six words that it holds
-//! afterwards; on a refusal they are those that were lent. That of a conversion with casts after it is the parameters,
+//! afterwards; on a refusal they are those that were lent. Of what writes short records or moves records the output is
+//! the front of an area of 512 bytes, which are 0xa5 before; the answer has words of that area afterwards, on a refusal
+//! too. Of a short record it is the first five, and the input is the length that is lent. Of a move the inputs are that
+//! length, the index of a word of the area, at most 54, and the records' bytes, and the answer is the place, the number
+//! of bytes written and ten words from that one on. That of a conversion with casts after it is the parameters,
 //! and then of the count and of either cast the refusal number and the numbers; those of the casts stay where the
 //! conversion is refused. So all lines of a function have the same length, where it reads no bytes.
 
@@ -80,7 +84,7 @@ fn print<'a>(file: &str, lines: impl IntoIterator<Item = &'a Vec<u64>>) {
 }
 
 /// Lines with one number of the answer changed: of an accepted one each, and of a refused one each that is not 0, which
-/// are the refusal, a list's place, the words of a lent layout and the other answers of a chain.
+/// are the refusal, a list's place, the words of a lent layout or of output and the other answers of a chain.
 fn wrong(row: &Row, lines: &BTreeSet<Vec<u64>>) -> Vec<Vec<u64>> {
     let start = |line: &[u64]| line.len() - 1 - row.values;
     let zeros = |line: &[u64]| line[start(line)..].iter().filter(|number| **number == 0).count();

@@ -5,6 +5,7 @@ mod convert;
 mod layout;
 mod record;
 mod rounding;
+mod short;
 mod trailing;
 mod util;
 mod working;
@@ -16,8 +17,17 @@ use crate::random::Random;
 use crate::table::{has_modifier, is_fixed};
 use std::fmt;
 
-pub const LAYERS: &[&[Row]] =
-    &[util::ROWS, rounding::ROWS, trailing::ROWS, layout::ROWS, record::ROWS, working::ROWS, cast::ROWS, convert::ROWS];
+pub const LAYERS: &[&[Row]] = &[
+    util::ROWS,
+    rounding::ROWS,
+    trailing::ROWS,
+    layout::ROWS,
+    record::ROWS,
+    working::ROWS,
+    short::ROWS,
+    cast::ROWS,
+    convert::ROWS,
+];
 
 pub struct Row {
     /// The function's number in recorded answers. It never changes and is not given to another. 0: it is not recorded,
