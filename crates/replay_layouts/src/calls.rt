@@ -1,11 +1,13 @@
 // A function for each recorded function: it takes the inputs from the line and tells the answer as a line has it.
 // The number of a function and the order of its inputs are those of rust/differential/recorded.rs and its rows; so is the way
 // bytes stand in a line, their length and then words.
-ghost use Prim.Native.Nat.{_<_};
+ghost use Prim.Native.Nat.{_≤_, _<_};
+ghost use lib.ListN.{length};
 use exports_layouts::ComposedOut;
 use exports_layouts::Layout;
 use exports_layouts::LayoutOut;
 use exports_numbers::Number;
+use exports_short::MovedOut;
 use exports_working::Worked;
 use recorded::LENGTH;
 use recorded::Told;
@@ -16,6 +18,12 @@ const BYTES: usize = 384;
 
 // The greatest length of a lent slice, more than there are members.
 const SLICE: usize = 16;
+
+// The output of short records and of moves is the front of these bytes, which are 165 before. No line agrees with a longer
+// output, nor with one that is looked at from a later word on.
+const AREA: usize = 512;
+
+const LAST_SEEN: usize = 54;
 
 // No call: no line agrees with it.
 fn tell_none() -> Told {
@@ -277,6 +285,129 @@ fn worked_by_record(line: &[u64; WIDTH]) -> Told {
     tell_worked(8 + (length + 7) / 8, answer)
 }
 
+fn decode_short(line: &[u64; WIDTH]) -> Told {
+    let length = line[1] as usize;
+    if length > BYTES {
+        return tell_none();
+    }
+    let bytes = bytes_from(line, 2);
+    let answer = exports_short::lukaripe_decode_short(&bytes[..length]);
+    tell_layout(1 + (length + 7) / 8, answer)
+}
+
+// The first words of the area, on a refusal too.
+fn tell_short(inputs: usize, refusal: u64, area: &[u8]) -> Told {
+    Told {
+        inputs,
+        length: 6,
+        numbers: [
+            refusal,
+            words::read_word(area, 0),
+            words::read_word(area, 8),
+            words::read_word(area, 16),
+            words::read_word(area, 24),
+            words::read_word(area, 32),
+            0,
+            0,
+            0,
+            0,
+            0,
+            0,
+            0,
+        ],
+    }
+}
+
+// The short record into the front of the area.
+fn encoded_short(l: Layout, area: &mut [u8], room: usize) -> Told
+    requires { ⌜ room ≤ length (now area) ⌝ }
+{
+    let refusal = exports_short::lukaripe_encode_short(l, &mut area[..room]);
+    tell_short(7, refusal, area)
+}
+
+fn encode_short(line: &[u64; WIDTH]) -> Told {
+    let length = line[7] as usize;
+    if length > AREA {
+        return tell_none();
+    }
+    let mut area = [165u8; AREA];
+    encoded_short(first(line), &mut area, length)
+}
+
+// Ten words of the area, from this byte on, on a refusal too.
+fn tell_moved(inputs: usize, a: MovedOut, area: &[u8], at: usize) -> Told
+    requires { ⌜ at ≤ 432 ⌝ }
+{
+    Told {
+        inputs,
+        length: 13,
+        numbers: [
+            a.refusal,
+            a.place,
+            a.written,
+            words::read_word(area, at),
+            words::read_word(area, at + 8),
+            words::read_word(area, at + 16),
+            words::read_word(area, at + 24),
+            words::read_word(area, at + 32),
+            words::read_word(area, at + 40),
+            words::read_word(area, at + 48),
+            words::read_word(area, at + 56),
+            words::read_word(area, at + 64),
+            words::read_word(area, at + 72),
+        ],
+    }
+}
+
+fn movement(number: u64, records: &[u8], out: &mut [u8]) -> MovedOut {
+    match number {
+        41 => exports_to_short::lukaripe_records_to_short(records, out),
+        _ => exports_from_short::lukaripe_records_from_short(records, out),
+    }
+}
+
+// The records into the front of the area, which is looked at from this byte on.
+fn moved_into(
+    inputs: usize,
+    number: u64,
+    records: &[u8],
+    area: &mut [u8],
+    room: usize,
+    at: usize,
+) -> Told
+    requires { ⌜ (room ≤ length (now area)) × (at ≤ 432) ⌝ }
+{
+    let answer = movement(number, records, &mut area[..room]);
+    tell_moved(inputs, answer, area, at)
+}
+
+fn moved(line: &[u64; WIDTH]) -> Told {
+    let out_length = line[1] as usize;
+    let from = line[2] as usize;
+    let length = line[3] as usize;
+    if length > BYTES {
+        return tell_none();
+    }
+    if out_length > AREA {
+        return tell_none();
+    }
+    if from > LAST_SEEN {
+        return tell_none();
+    }
+    let bytes = bytes_from(line, 4);
+    let mut area = [165u8; AREA];
+    let inputs = 3 + (length + 7) / 8;
+    moved_into(
+        inputs,
+        line[0],
+        &bytes[..length],
+        &mut area,
+        out_length,
+        from * 8,
+    )
+}
+
 fn made(line: &[u64; WIDTH]) -> Told {
     match line[0] {
         15 => tell_layout(1, exports_layouts::lukaripe_new_zst(line[1])),
@@ -300,6 +431,9 @@ fn listed(line: &[u64; WIDTH]) -> Told {
         35 => placed(line),
         36 => worked(line),
         37 => worked_by_record(line),
+        39 => decode_short(line),
+        40 => encode_short(line),
+        41 | 42 => moved(line),
         _ => made(line),
     }
 }
