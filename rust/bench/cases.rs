@@ -89,6 +89,15 @@ pub struct Case {
     pub member: Vec<u8>,
     pub record: Vec<u8>,
     pub room: usize,
+    /// The whole layout's short record, and the room for one.
+    pub short: Vec<u8>,
+    pub short_room: usize,
+    /// Records to be moved, in both forms. The room for them in the other form is lent, and stands here as the numbers
+    /// below do.
+    pub records: Vec<u8>,
+    pub shorts: Vec<u8>,
+    pub shorts_room: Vec<Cell<u8>>,
+    pub records_room: Vec<Cell<u8>>,
     /// Numbers to lend, as many as there are members. They stand here, since to make them anew for each call would take
     /// longer than some calls.
     pub places: Vec<Cell<u64>>,
@@ -100,12 +109,14 @@ impl Case {
         CastParams { inner: self.params_n }
     }
 
-    /// What a call gives, and the lent numbers after it, which no call before it wrote.
-    pub fn with_numbers<T>(&self, call: impl FnOnce(&Case) -> T) -> (T, Vec<u64>) {
-        let lent = || self.places.iter().chain(&self.gaps);
-        lent().for_each(|number| number.set(u64::MAX));
+    /// What a call gives, and the lent numbers and bytes after it, which no call before it wrote.
+    pub fn with_lent<T>(&self, call: impl FnOnce(&Case) -> T) -> (T, Vec<u64>, Vec<u8>) {
+        let numbers = || self.places.iter().chain(&self.gaps);
+        let bytes = || self.shorts_room.iter().chain(&self.records_room);
+        numbers().for_each(|number| number.set(u64::MAX));
+        bytes().for_each(|byte| byte.set(u8::MAX));
         let given = call(self);
-        (given, lent().map(Cell::get).collect())
+        (given, numbers().map(Cell::get).collect(), bytes().map(Cell::get).collect())
     }
 }
 
@@ -113,14 +124,39 @@ pub fn bytes(words: &[u64]) -> Vec<u8> {
     words.iter().flat_map(|word| word.to_le_bytes()).collect()
 }
 
+/// The short record of a layout.
+pub fn short_bytes([align, kind, size_base, offset, elem_size, word]: [u64; 6]) -> Vec<u8> {
+    bytes(&[size_base, offset, elem_size, word + ((align.ilog2() as u64) << 32) + (kind << 40)])
+}
+
 pub fn cases(set: Set) -> Vec<Case> {
     drawn(set, CASES, 0)
 }
 
-/// Cases with lists of as many members; fewer of long ones, but one for each refusal.
+/// Cases with lists of as many members.
 pub fn lists(set: Set, members: usize) -> Vec<Case> {
+    drawn(set, fewer(set, members), members)
+}
+
+/// Fewer cases of long lists, but one for each refusal.
+fn fewer(set: Set, members: usize) -> usize {
     let least = if set == Set::Refused { 14 } else { 1 };
-    drawn(set, CASES.div_ceil(4 * members).max(least), members)
+    CASES.div_ceil(4 * members).max(least)
+}
+
+/// Cases with as many records to move, fixed and trailing ones mixed.
+pub fn moves(set: Set, records: usize) -> Vec<Case> {
+    let mut random = Random::new(set as u64);
+    let layouts: Vec<[u64; 6]> = cases(set).iter().flat_map(|case| [case.fixed.0, case.whole.0]).collect();
+    let mut cases = drawn(set, fewer(set, records), 0);
+    for case in &mut cases {
+        let drawn: Vec<[u64; 6]> = (0..records).map(|_| layouts[random.below(layouts.len() as u64) as usize]).collect();
+        case.records = bytes(&drawn.concat());
+        case.shorts = drawn.into_iter().flat_map(short_bytes).collect();
+        case.records_room = vec![Cell::new(0); case.records.len()];
+        case.shorts_room = vec![Cell::new(0); case.shorts.len()];
+    }
+    cases
 }
 
 fn drawn(set: Set, cases: usize, members: usize) -> Vec<Case> {
@@ -271,6 +307,12 @@ fn draw(random: &mut Random, set: Set, members: usize) -> Option<Case> {
         shift,
         record: bytes(&whole),
         room: 48,
+        short: short_bytes(whole),
+        short_room: 32,
+        records: Vec::new(),
+        shorts: Vec::new(),
+        shorts_room: Vec::new(),
+        records_room: Vec::new(),
         own_align: 0,
         list: bytes(&list.concat()),
         members: list.iter().copied().map(Words).collect(),

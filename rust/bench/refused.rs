@@ -1,6 +1,6 @@
 //! How a typical case is spoilt, so that a function refuses it: each function's refusals by number.
 
-use super::cases::{bytes, Case};
+use super::cases::{bytes, short_bytes, Case};
 use super::exports::Words;
 
 /// The number, and what makes the case one that is refused by it.
@@ -266,3 +266,54 @@ pub const STRICT: &[Spoil] = &[
     ALIGNED_FINAL_8,
 ];
 pub const STRUCT_OF_ONE: &[Spoil] = &[UNEVEN, OWN_ALIGN, PACKING, LAST_21, LAST_1, LAST_22, LAST_2, LAST_6, FINAL_8];
+
+// ---- short records ----
+
+/// Of the record of a trailing layout in its short form: kind, spare bytes and power, then that of a fixed one with a
+/// later word, and one without its word.
+pub const DECODE_SHORT: &[Spoil] = &[
+    (20, |c| c.short.truncate(31)),
+    (21, |c| c.short[29] = 8 + c.code as u8),
+    (42, |c| c.short[30] = 1),
+    (42, |c| c.short[31] = 128),
+    (42, |c| c.short[28] = 64),
+    (22, |c| c.short[29] &= 1),
+    (2, |c| c.short[24..28].fill(0)),
+];
+pub const ENCODE_SHORT: &[Spoil] = layouts![whole;
+    (20, |c| c.short_room = 31),
+    (40, |c| c.whole.0[5] += 1 << 32)
+];
+
+/// Puts a record where the last one is.
+fn put_record(case: &mut Case, record: [u64; 6]) {
+    let at = case.records.len() - 48;
+    case.records[at..].copy_from_slice(&bytes(&record));
+}
+
+/// Puts a short record there, with one byte changed.
+fn put_short(case: &mut Case, record: [u64; 6], at: usize, byte: u8) {
+    let from = case.shorts.len() - 32;
+    case.shorts[from..].copy_from_slice(&short_bytes(record));
+    case.shorts[from + at] = byte;
+}
+
+/// Of moves: the lengths, then the last record.
+pub const TO_SHORT: &[Spoil] = &[
+    (20, |c| c.records.truncate(c.records.len() - 1)),
+    (41, |c| drop(c.shorts_room.pop())),
+    (21, |c| put_record(c, [1, 8, 0, 0, 0, 0])),
+    (1, |c| put_record(c, [3, 1, 3, 0, 0, 0])),
+    (22, |c| put_record(c, [1, 1, 1, 0, 1, 0])),
+    (2, |c| put_record(c, [1, 3, 1, 0, 1, 0])),
+    (40, |c| put_record(c, [1, 3, 1, 0, 1, 1 << 32])),
+];
+pub const FROM_SHORT: &[Spoil] = &[
+    (20, |c| c.shorts.truncate(c.shorts.len() - 1)),
+    (41, |c| drop(c.records_room.pop())),
+    (21, |c| put_short(c, [1, 3, 1, 0, 1, 1], 29, 8)),
+    (42, |c| put_short(c, [1, 3, 1, 0, 1, 1], 30, 1)),
+    (42, |c| put_short(c, [1, 3, 1, 0, 1, 1], 28, 64)),
+    (22, |c| put_short(c, [1, 1, 1, 0, 0, 0], 24, 1)),
+    (2, |c| put_short(c, [1, 3, 1, 0, 1, 1], 24, 0)),
+];

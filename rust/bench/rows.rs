@@ -1,6 +1,6 @@
 //! The table of functions: how each side of one is called on a case.
 
-use super::cases::{cases, lists, Case, Set};
+use super::cases::{cases, lists, moves, Case, Set};
 use super::exports::*;
 use super::refused::*;
 use super::{go_through, plain, tested};
@@ -17,7 +17,7 @@ pub struct Row {
     pub spoils: &'static [Spoil],
     /// The export, the Rust as it is, and the Rust with the refusals tested; None where the Rust has nothing like it.
     pub sides: [Option<Side>; 3],
-    /// What the first and the last of them give, as the refusal or 0; None where they differ, or the lent numbers do.
+    /// What the first and the last of them give, as the refusal or 0; None where they differ, or what was lent does.
     pub refusal: Box<dyn Fn(&Case) -> Option<u64>>,
 }
 
@@ -36,8 +36,8 @@ impl Row {
             spoils,
             sides: [side(export), None, side(tested)],
             refusal: Box::new(move |case| {
-                let given = case.with_numbers(|case| call(export, case));
-                (given == case.with_numbers(|case| call(tested, case))).then(|| given.0.refusal())
+                let given = case.with_lent(|case| call(export, case));
+                (given == case.with_lent(|case| call(tested, case))).then(|| given.0.refusal())
             }),
         }
     }
@@ -76,7 +76,7 @@ impl Refusal for u8 {
     }
 }
 
-impl Refusal for (u64, [u8; 48]) {
+impl<const N: usize> Refusal for (u64, [u8; N]) {
     fn refusal(&self) -> u64 {
         self.0
     }
@@ -160,7 +160,8 @@ pub fn rows() -> Vec<Row> {
         row!("decode", cases, DECODE, f, c =>
             [lukaripe_decode, tested::decode], unsafe { f(c.record.as_ptr(), c.record.len()) };),
         row!("encode", cases, ENCODE, f, c =>
-            [lukaripe_encode, tested::encode], written(c, |out| unsafe { f(c.whole, out.as_mut_ptr(), out.len()) });),
+            [lukaripe_encode, tested::encode],
+            written::<48>(c.room, |out| unsafe { f(c.whole, out.as_mut_ptr(), out.len()) });),
         row!("scalar", cases, SCALAR, f, c =>
             [lukaripe_scalar, tested::scalar], f(c.code);
             plain::scalar as fn(_) -> _, f(c.code)),
@@ -213,6 +214,19 @@ pub fn rows() -> Vec<Row> {
                 f(lent, record.as_ptr(), record.len(), c.packing)
             }));
             plain::compose as fn(_, _, &[_]) -> _, f(None, c.packing_n, &c.list_n)),
+        row!("decode_short", cases, DECODE_SHORT, f, c =>
+            [lukaripe_decode_short, tested::decode_short], unsafe { f(c.short.as_ptr(), c.short.len()) };),
+        row!("encode_short", cases, ENCODE_SHORT, f, c =>
+            [lukaripe_encode_short, tested::encode_short],
+            written::<32>(c.short_room, |out| unsafe { f(c.whole, out.as_mut_ptr(), out.len()) });),
+        row!("records_to_short, 10 records", |set| moves(set, 10), TO_SHORT, f, c =>
+            [lukaripe_records_to_short, tested::records_to_short], moved(&c.records, &c.shorts_room, f);),
+        row!("records_to_short, 100000 records", |set| moves(set, 100_000), TO_SHORT, f, c =>
+            [lukaripe_records_to_short, tested::records_to_short], moved(&c.records, &c.shorts_room, f);),
+        row!("records_from_short, 10 records", |set| moves(set, 10), FROM_SHORT, f, c =>
+            [lukaripe_records_from_short, tested::records_from_short], moved(&c.shorts, &c.records_room, f);),
+        row!("records_from_short, 100000 records", |set| moves(set, 100_000), FROM_SHORT, f, c =>
+            [lukaripe_records_from_short, tested::records_from_short], moved(&c.shorts, &c.records_room, f);),
         row!("validate_cast_and_convert_metadata", cases, CAST, f, c =>
             [lukaripe_validate_cast_and_convert_metadata, tested::validate_cast_and_convert_metadata],
             f(c.whole, c.addr, c.len, c.suffix);
@@ -239,9 +253,17 @@ fn word(case: &Case) -> RoundingAlignAndPhase {
 
 /// What is given and what is written.
 #[inline(always)]
-fn written(case: &Case, write: impl FnOnce(&mut [u8]) -> u64) -> (u64, [u8; 48]) {
-    let mut out = [0; 48];
-    (write(&mut out[..case.room]), out)
+fn written<const N: usize>(room: usize, write: impl FnOnce(&mut [u8]) -> u64) -> (u64, [u8; N]) {
+    let mut out = [0; N];
+    (write(&mut out[..room]), out)
+}
+
+type Move = unsafe extern "C" fn(*const u8, usize, *mut u8, usize) -> Told<2>;
+
+#[inline(always)]
+fn moved(records: &[u8], room: &[Cell<u8>], by: Move) -> Told<2> {
+    // SAFETY: the bytes are as many as said, and cells may be written.
+    unsafe { by(records.as_ptr(), records.len(), room.as_ptr() as *mut u8, room.len()) }
 }
 
 type Places = unsafe extern "C" fn(u64, u64, *const u8, usize, *mut u64, usize, *mut u64, usize) -> Told<7>;

@@ -470,3 +470,129 @@ pub unsafe extern "C" fn working_add_record(
     let next = extended(*working, member, repr_packed);
     altered(working, next)
 }
+
+// ---- short records ----
+
+type ShortRecord = [u8; 32];
+
+/// The record of a layout that is accepted, in its short form.
+#[inline]
+fn put_short(Words([align, kind, size_base, offset, elem_size, word]): Layout, out: &mut ShortRecord) {
+    out[..8].copy_from_slice(&size_base.to_le_bytes());
+    out[8..16].copy_from_slice(&offset.to_le_bytes());
+    out[16..24].copy_from_slice(&elem_size.to_le_bytes());
+    out[24..28].copy_from_slice(&(word as u32).to_le_bytes());
+    out[28..].copy_from_slice(&[align.trailing_zeros() as u8, kind as u8, 0, 0]);
+}
+
+/// The words that are put into a short record, where they are accepted.
+#[inline]
+fn check_to_short(words: Layout) -> Result<(), u64> {
+    layout(words)?;
+    if words.0[5] > u32::MAX.into() {
+        return Err(40);
+    }
+    Ok(())
+}
+
+#[inline]
+fn short_word_at(record: &ShortRecord, at: usize) -> u64 {
+    u64::from_le_bytes(record[at..at + 8].try_into().unwrap())
+}
+
+/// The words of a short record whose power is at most 63.
+#[inline]
+fn words_of_short(record: &ShortRecord) -> Layout {
+    let word = u32::from_le_bytes(record[24..28].try_into().unwrap());
+    Words([
+        1 << (record[28] & 63),
+        record[29].into(),
+        short_word_at(record, 0),
+        short_word_at(record, 8),
+        short_word_at(record, 16),
+        word.into(),
+    ])
+}
+
+#[inline]
+fn check_short(record: &ShortRecord) -> Result<(), u64> {
+    if record[29] > 7 {
+        return Err(21);
+    }
+    if record[30..] != [0, 0] || record[28] > 63 {
+        return Err(42);
+    }
+    let Words([_, kind, _, offset, elem_size, word]) = words_of_short(record);
+    match kind & 2 {
+        0 if (offset | elem_size | word) != 0 => Err(22),
+        2 if word == 0 => Err(2),
+        _ => Ok(()),
+    }
+}
+
+fn decoded_short(record: &[u8]) -> Says<6> {
+    let record = record.try_into().map_err(|_| 20u64)?;
+    check_short(record)?;
+    Ok(words_of_short(record).0)
+}
+
+fn encoded_short(own: Layout, out: &mut [u8]) -> Result<(), u64> {
+    let out = out.try_into().map_err(|_| 20u64)?;
+    check_to_short(own)?;
+    put_short(own, out);
+    Ok(())
+}
+
+pub unsafe extern "C" fn decode_short(record: *const u8, len: usize) -> Told<6> {
+    told(decoded_short(unsafe { slice::from_raw_parts(record, len) }))
+}
+
+pub unsafe extern "C" fn encode_short(own: Layout, out: *mut u8, len: usize) -> u64 {
+    match encoded_short(own, unsafe { slice::from_raw_parts_mut(out, len) }) {
+        Ok(()) => 0,
+        Err(refusal) => refusal,
+    }
+}
+
+/// A move: all records are tested in a first pass and written in a second.
+#[inline(always)]
+fn moved<const FROM: usize, const TO: usize>(
+    records: &[u8],
+    out: &mut [u8],
+    check: impl Fn(&[u8; FROM]) -> Result<(), u64>,
+    put: impl Fn(&[u8; FROM], &mut [u8; TO]),
+) -> Told<2> {
+    let refused = |refusal, place| Told { refusal, values: [place as u64, 0] };
+    if records.len() % FROM != 0 {
+        return refused(20, 0);
+    }
+    let count = records.len() / FROM;
+    if out.len() / TO < count {
+        return refused(41, 0);
+    }
+    for (place, record) in records.chunks_exact(FROM).enumerate() {
+        if let Err(refusal) = check(record.try_into().unwrap()) {
+            return refused(refusal, place);
+        }
+    }
+    for (record, out) in records.chunks_exact(FROM).zip(out.chunks_exact_mut(TO)) {
+        put(record.try_into().unwrap(), out.try_into().unwrap());
+    }
+    Told { refusal: 0, values: [0, (count * TO) as u64] }
+}
+
+pub unsafe extern "C" fn records_to_short(records: *const u8, len: usize, out: *mut u8, out_len: usize) -> Told<2> {
+    let (records, out) = unsafe { (slice::from_raw_parts(records, len), slice::from_raw_parts_mut(out, out_len)) };
+    moved(records, out, |record| check_to_short(words(record)), |record, out| put_short(words(record), out))
+}
+
+fn put_words(words: Layout, out: &mut [u8; 48]) {
+    for (bytes, word) in out.chunks_exact_mut(8).zip(words.0) {
+        bytes.copy_from_slice(&word.to_le_bytes());
+    }
+}
+
+pub unsafe extern "C" fn records_from_short(records: *const u8, len: usize, out: *mut u8, out_len: usize) -> Told<2> {
+    let (records, out) = unsafe { (slice::from_raw_parts(records, len), slice::from_raw_parts_mut(out, out_len)) };
+    moved(records, out, check_short, |record, out| put_words(words_of_short(record), out))
+}
