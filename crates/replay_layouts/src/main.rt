@@ -35,8 +35,8 @@ fn report(name: &[u8]) {
 }
 
 // The answers of working layouts and of short records stand in files of their own: one with all of them would be longer than
-// there is room for. The lines of `wrong` are wrong on purpose, in one number or in shape: a replay that misses one writes another
-// count.
+// there is room for. The lines of `wrong` are wrong on purpose, in one number or in shape: a replay that misses one writes
+// another count.
 fn main() {
     report(b"answers");
     report(b"working");

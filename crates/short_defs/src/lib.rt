@@ -1,1 +1,1 @@
-// No code: the definitions of records of layouts, and their laws over any width.
+// No code: the definitions of short records and of moves between the two forms of a record, and their laws.
