@@ -70,6 +70,8 @@ pub const WORD_ABOVE_SHORT: u64 = 40;
 pub const OUTPUT_SHORT: u64 = 41;
 // A short record's spare bytes are not zero, or its power is above the greatest.
 pub const SPARE_OR_POWER: u64 = 42;
+// The base of a layout's normal form passes the greatest number.
+pub const FORM_BASE_PASSES_MAX: u64 = 46;
 // An alignment and a packing are both asked for.
 pub const ALIGN_AND_PACKED: u64 = 49;
 // A packed composition takes a member with an alignment modifier.

@@ -1,0 +1,1 @@
+// No code: the definitions of the full comparison of sizes and of the normal form, and their laws, at any width.
