@@ -1,7 +1,7 @@
 -- Sequences of sizes and the line below them: equal sequences have the same line and meet it at the same counts. Assumes nothing.
 use mathlib.Core.Path.{_≡_, refl, sym, ap, ap₂, _∙_, subst}
 use Prim.Native.Nat.{ℕ, suc, _+_, _-_, _*_, _/_, _%_, _^_, _≤_, _<_}
-use native.Mathlib.Nat.{le-antisymm, mod-add-mod, mod-self, mul-mod-left, mul-add-mod-self-right, mod-eq-of-lt, mul-le-mul-left, mul-assoc, add-mul-mod-self-right}
+use native.Mathlib.Nat.{le-antisymm, mod-add-mod, mod-self, mul-mod-left, mul-le-mul-left, mul-assoc, add-mul-mod-self-right}
 use native.Mathlib.Omega.{arith}
 use native.Mathlib.Decide.{decLe}
 use Rattle.util_defs.specs.Power.{PowerOfTwo}
@@ -10,7 +10,7 @@ use Rattle.util_defs.proofs.Powers.{positive, power-divides, through}
 use Rattle.util_defs.proofs.Rounding.{multiple, sum-multiple, up-multiple, up-ge, up-near, up-is, up-least, up-shift, up-whole}
 use Rattle.trailing_defs.specs.Size.{sizeWith}
 use Rattle.full_defs.specs.Form.{Parts, sizeOf, SoundParts}
-use Rattle.full_defs.proofs.Lowest.{LowestBit, exponents-lt, doublings, twice-power, twice-le, low-divides, low-below, low-under, reach}
+use Rattle.full_defs.proofs.Lowest.{LowestBit, exponents-lt, doublings, twice-power, twice-le, low-divides, low-below, low-under, odd-rest, reach}
 
 -- elements of whole blocks are whole blocks
 pub whole-times : (n e A : ℕ) → e % A ≡ 0 → n * e % A ≡ 0
@@ -138,7 +138,6 @@ power-le {A} {B} {e} {g} x y l d h = go (decLe B A)
     go : Dec (B ≤ A) → B ≤ A
     go (yes j) = j
     go (no j) =
-        let pos : 0 < A = positive x in
         let less : A < B = omega arith in
         let o = l .odd in
         let m = A / g in
@@ -146,10 +145,7 @@ power-le {A} {B} {e} {g} x y l d h = go (decLe B A)
         let u : m * e ≡ (o + o + 1) * A = ap (λ (z : ℕ). m * z) (l .is) ∙ (omega arith ∙ ap (λ (z : ℕ). (o + o + 1) * z) q) in
         let t : m * e % B ≡ 0 = h m (ap (λ (z : ℕ). z % A) u ∙ mul-mod-left (o + o + 1) A) in
         let w : m * e % (A + A) ≡ 0 = through (A + A) B (m * e) (power-divides (twice-power x) y (twice-le x y less)) t in
-        let v : m * e ≡ o * (A + A) + A = omega arith in
-        let z : A % (A + A) ≡ 0 = sym (mul-add-mod-self-right o (A + A) A) ∙ ap (λ (n : ℕ). n % (A + A)) (sym v) ∙ w in
-        let r : A % (A + A) ≡ A = mod-eq-of-lt (omega arith) in
-        absurd (omega arith)
+        absurd (odd-rest o A (positive x) (subst (λ (z : ℕ). z % (A + A) ≡ 0) u w))
 
 -- a sequence tells its element size
 elem-le : (s t : Parts) → SoundParts s → SoundParts t → ((n : ℕ) → sizeOf s n ≡ sizeOf t n) → t .elem ≤ s .elem

@@ -5,7 +5,7 @@ use mathlib.Core.Bool.{Bool, cond}
 use mathlib.Core.Logic.{_⊎_, inl, inr}
 use Prim.Native.Nat.{ℕ, _+_, _-_, _*_, _%_, _^_, _≤_, _<_}
 use lib.Dec.{ltb}
-use native.Mathlib.Nat.{pos-of-ne-zero, le-of-dvd, dvd-of-mod-eq-zero, le-antisymm, mod-self, mod-eq-of-lt, eq-or-lt-of-le, zero-mod}
+use native.Mathlib.Nat.{le-antisymm, mod-self, mod-eq-of-lt, eq-or-lt-of-le}
 use native.Mathlib.Omega.{arith}
 use Rattle.util_defs.specs.Width.{M}
 use Rattle.util_defs.specs.Round.{up}
@@ -20,9 +20,10 @@ use Rattle.trailing_defs.specs.Sequence.{EqualSizes}
 use Rattle.trailing_defs.proofs.Sizes.{size-zero, rounded-zero}
 use Rattle.trailing_defs.proofs.Sequences.{whole-blocks}
 use Rattle.full_defs.specs.Full.{lowestBit, seenPhase}
-use Rattle.full_defs.specs.Form.{Form, Parts, sizeOf, SoundParts, Choice, NoLater, NormalForm, form, formOf, PastM, formCauses, formFor}
+use Rattle.full_defs.specs.Form.{Form, Parts, sizeOf, SoundParts, Choice, NoLater, IsNormal, form, formOf, PastM, formCauses, formFor}
 use Rattle.full_defs.specs.Laws.{FormsAgree, layoutIn, MadeTwice}
 use Rattle.full_defs.proofs.Lowest.{LowestBit, low-divides, low-under}
+use Rattle.full_defs.proofs.Masks.{unit-le}
 use Rattle.full_defs.proofs.Floors.{up-unit, whole-times, same-elem}
 use Rattle.full_defs.proofs.Full.{Alike, sees, sizes-alike, partsOf, sound-parts, lowest-of}
 
@@ -65,7 +66,7 @@ module _ (w : ℕ) (t : Trailing) (pt : 0 < t .word) (ht : t .word < 2 ^ w) wher
       go (inr r) = r .1
 
   -- A divides e: A 1 and phase 0, of the size at 0
-  whole-normal : t .elem % A w t ≡ 0 → NormalForm w t (form (sizeAt w t 0) 1 0 (t .elem))
+  whole-normal : t .elem % A w t ≡ 0 → IsNormal w t (form (sizeAt w t 0) 1 (t .elem))
   unfolding sizeWith
   whole-normal d = record {
     parts = record { base = sizeAt w t 0; align = 1; phase = 0; elem = t .elem };
@@ -87,12 +88,12 @@ module _ (w : ℕ) (t : Trailing) (pt : 0 < t .word) (ht : t .word < 2 ^ w) wher
       go c (inr l) = inl l
 
   -- it does not, and the phase is seen as 0
-  zero-normal : (t .elem % A w t ≡ 0 → ⊥) → seenPhase w (t .elem) (A w t) (p w t) ≡ 0 → NormalForm w t (form (sizeAt w t 0) (A w t) 0 (t .elem))
+  zero-normal : (t .elem % A w t ≡ 0 → ⊥) → seenPhase w (t .elem) (A w t) (p w t) ≡ 0 → IsNormal w t (form (sizeAt w t 0) (A w t) (t .elem))
   unfolding sizeWith
   zero-normal d z = record {
     parts = record { base = sizeAt w t 0; align = A w t; phase = 0; elem = t .elem };
     base = refl;
-    word = record { power = sound .power; below = positive (sound .power); sum = refl };
+    word = record { power = sound .power; below = positive (sound .power); sum = omega arith };
     elem = refl;
     choice = record {
       sound = record { power = sound .power; below = positive (sound .power) };
@@ -109,7 +110,7 @@ module _ (w : ℕ) (t : Trailing) (pt : 0 < t .word) (ht : t .word < 2 ^ w) wher
 
   -- it is seen as another: the least that is seen alike
   least-normal : (t .elem % A w t ≡ 0 → ⊥) → (seenPhase w (t .elem) (A w t) (p w t) ≡ 0 → ⊥)
-      → NormalForm w t (form (t .base) (A w t) (up (p w t) (lowestBit w (t .elem)) - lowestBit w (t .elem) + 1) (t .elem))
+      → IsNormal w t (form (t .base) (A w t + (up (p w t) (lowestBit w (t .elem)) - lowestBit w (t .elem) + 1)) (t .elem))
   unfolding sizeWith
   least-normal d z = record {
     parts = record { base = t .base; align = A w t; phase = P - g + 1; elem = t .elem };
@@ -155,21 +156,21 @@ module _ (w : ℕ) (t : Trailing) (pt : 0 < t .word) (ht : t .word < 2 ^ w) wher
       under = rounded-lt g-pos (sound .below) divides z
 
       g-le : g ≤ P
-      g-le = le-of-dvd (pos-of-ne-zero (λ e. z (ap (λ (a : ℕ). a % A w t) e ∙ zero-mod (A w t)))) (dvd-of-mod-eq-zero g (up-multiple (p w t) g))
+      g-le = unit-le g (A w t) (p w t) z
 
       again : up (P - g + 1) g ≡ P
       again = sym (up-is (P - g + 1) g P g-pos (up-multiple (p w t) g) (omega (arith, g-le, g-pos)) (omega (arith, g-le, g-pos)))
 
   -- what is computed is the normal form
-  pub is-normal : NormalForm w t (formOf w t)
+  pub is-normal : IsNormal w t (formOf w t)
   unfolding formOf
   is-normal = go (tells-eq (t .elem % A w t) 0) (tells-eq (seenPhase w (t .elem) (A w t) (p w t)) 0)
     where
       go : {a b : Bool} → Tells (t .elem % A w t ≡ 0) a → Tells (seenPhase w (t .elem) (A w t) (p w t) ≡ 0) b
-          → NormalForm w t (
-          cond a (form (sizeAt w t 0) 1 0 (t .elem))
-          (cond b (form (sizeAt w t 0) (A w t) 0 (t .elem))
-          (form (t .base) (A w t) (up (p w t) (lowestBit w (t .elem)) - lowestBit w (t .elem) + 1) (t .elem)))
+          → IsNormal w t (
+          cond a (form (sizeAt w t 0) 1 (t .elem))
+          (cond b (form (sizeAt w t 0) (A w t) (t .elem))
+          (form (t .base) (A w t + (up (p w t) (lowestBit w (t .elem)) - lowestBit w (t .elem) + 1)) (t .elem)))
           )
       go (holds d) _ = whole-normal d
       go (fails d) (holds z) = zero-normal d z
@@ -183,7 +184,7 @@ both-least c d (inr h) (inl g) = absurd (omega (arith, h .0))
 both-least c d (inr h) (inr g) = (h .0, le-antisymm (h .1) (g .1))
 
 -- a layout has one normal form
-pub one-form : {w : ℕ} {t : Trailing} (f g : Form) → NormalForm w t f → NormalForm w t g → f ≡ g
+pub one-form : {w : ℕ} {t : Trailing} (f g : Form) → IsNormal w t f → IsNormal w t g → f ≡ g
 unfolding sizeWith
 one-form {w} {t} f g x y =
     let r = both-least (x .parts) (y .parts) (x .least 0 (y .parts) (y .choice)) (y .least 0 (x .parts) (x .choice)) in
@@ -194,7 +195,7 @@ one-form {w} {t} f g x y =
     λ i. record { base = (x .base ∙ b ∙ sym (y .base)) i; word = s i; elem = (x .elem ∙ e ∙ sym (y .elem)) i }
 
 -- equal sizes have the same normal form, and one form is of equal sizes
-pub form-carried : {w : ℕ} {s t : Trailing} {f : Form} → s .elem ≡ t .elem → EqualSizes w s t → NormalForm w s f → NormalForm w t f
+pub form-carried : {w : ℕ} {s t : Trailing} {f : Form} → s .elem ≡ t .elem → EqualSizes w s t → IsNormal w s f → IsNormal w t f
 form-carried {w} {s} {t} e h x = record {
   parts = x .parts;
   base = x .base;
@@ -205,14 +206,14 @@ form-carried {w} {s} {t} e h x = record {
       x .least less c (record { sound = y .sound; elem = y .elem ∙ sym e; sizes = λ n. y .sizes n ∙ ap (λ (a : ℕ). less + a) (sym (h n)) });
 }
 
-pub form-sizes : {w : ℕ} {s t : Trailing} {f : Form} → NormalForm w s f → NormalForm w t f → EqualSizes w s t
+pub form-sizes : {w : ℕ} {s t : Trailing} {f : Form} → IsNormal w s f → IsNormal w t f → EqualSizes w s t
 form-sizes {w} {s} {t} x y n =
     let c : sizeOf (x .parts) n ≡ sizeOf (y .parts) n =
     λ i. sizeWith ((sym (x .base) ∙ y .base) i) (same-align (x .word) (y .word) i) (same-phase (x .word) (y .word) i) (n * (sym (x .elem) ∙ y .elem) i) in
     omega (arith, x .choice .sizes n, y .choice .sizes n)
 
 -- its word is no wider than the layout's
-pub form-word-lt : {w : ℕ} {t : Trailing} {f : Form} → 0 < t .word → t .word < 2 ^ w → NormalForm w t f → f .word < 2 ^ w
+pub form-word-lt : {w : ℕ} {t : Trailing} {f : Form} → 0 < t .word → t .word < 2 ^ w → IsNormal w t f → f .word < 2 ^ w
 form-word-lt {w} {t} {f} pt ht x = go (x .least 0 (partsOf w t) (record { sound = sound-parts w t pt ht; elem = refl; sizes = λ n. omega arith }))
   where
     a : A w t + A w t ≤ 2 ^ w
@@ -223,7 +224,7 @@ form-word-lt {w} {t} {f} pt ht x = go (x .least 0 (partsOf w t) (record { sound 
     go (inr e) = omega (arith, a, e .0, x .word .sum, x .word .below)
 
 -- 46 is decided by the form that is computed
-pub form-meets : (w : ℕ) (t : Trailing) → t .word < 2 ^ w → Meets (formCauses w t) (NormalForm w t) (formFor w t)
+pub form-meets : (w : ℕ) (t : Trailing) → t .word < 2 ^ w → Meets (formCauses w t) (IsNormal w t) (formFor w t)
 unfolding formFor
 form-meets w t ht =
     meets (formCauses w t) (formOf w t) (tells-eq (t .word) 0, λ n. (past (omega (arith, n)), λ _. tt))
@@ -236,8 +237,8 @@ form-meets w t ht =
         (tells-lt (M w) (formOf w t .base))
 
 -- what is answered is the normal form, no cause of refusal holding
-form-told : {w : ℕ} {t : Trailing} {f : Form} → t .word < 2 ^ w → formFor w t ≡ answered f → None (formCauses w t) × NormalForm w t f
-form-told {w} {t} ht e = answered-means (subst (Meets (formCauses w t) (NormalForm w t)) e (form-meets w t ht))
+form-told : {w : ℕ} {t : Trailing} {f : Form} → t .word < 2 ^ w → formFor w t ≡ answered f → None (formCauses w t) × IsNormal w t f
+form-told {w} {t} ht e = answered-means (subst (Meets (formCauses w t) (IsNormal w t)) e (form-meets w t ht))
 
 -- request 9: two layouts that have forms have equal ones exactly when their sizes agree at every count
 pub forms-agree : (w : ℕ) → FormsAgree w
@@ -245,7 +246,7 @@ forms-agree w s t f g hs ht ef eg =
     let x = form-told hs ef in
     let y = form-told ht eg in
     record {
-      there = λ e. form-sizes (x .1) (subst (NormalForm w t) (sym e) (y .1));
+      there = λ e. form-sizes (x .1) (subst (IsNormal w t) (sym e) (y .1));
       back = λ h.
           let ps : 0 < s .word = omega (arith, x .0 .0) in
           let pt : 0 < t .word = omega (arith, y .0 .0) in
@@ -263,8 +264,8 @@ made-twice w t f o ht e =
     ap₂ (λ (b e : ℕ). sizeWith b (x .1 .parts .align) (x .1 .parts .phase) (n * e)) (sym (x .1 .base)) (sym (x .1 .elem))
     ∙ sym (at-parts w (λ a q. sizeWith (f .base) a q (n * f .elem)) (x .1 .word) hf) in
     omega (arith, x .1 .choice .sizes n) in
-    let y : NormalForm w (layoutIn o f) f = form-carried (sym (x .1 .elem ∙ x .1 .choice .elem)) h (x .1) in
-    one-outcome (formCauses w (layoutIn o f)) (NormalForm w (layoutIn o f)) one-form (form-meets w (layoutIn o f) hf)
+    let y : IsNormal w (layoutIn o f) f = form-carried (sym (x .1 .elem ∙ x .1 .choice .elem)) h (x .1) in
+    one-outcome (formCauses w (layoutIn o f)) (IsNormal w (layoutIn o f)) one-form (form-meets w (layoutIn o f) hf)
     (answers (
       (λ z. omega (arith, not-zero (x .1 .word))),
       (

@@ -3,4 +3,6 @@ pub mod Lowest
 pub mod Floors
 pub mod Full
 pub mod Forms
+pub mod Masks
+pub mod Told
 pub mod Rows

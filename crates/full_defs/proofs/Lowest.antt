@@ -3,7 +3,7 @@ use mathlib.Core.Path.{_≡_, refl, sym, ap, ap₂, _∙_, subst}
 use mathlib.Core.Bool.{Bool, true, false, cond}
 use mathlib.Core.Logic.{_⊎_, inl, inr}
 use Prim.Native.Nat.{ℕ, zero, suc, _+_, _-_, _*_, _/_, _%_, _^_, _≤_, _<_, max}
-use native.Mathlib.Nat.{lt-of-not-le, mul-mod-left, two-pow-succ, max-eq-left, max-eq-right, le-max-left, le-max-right}
+use native.Mathlib.Nat.{le-antisymm, lt-of-not-le, mod-eq-of-lt, mul-add-mod-self-right, mul-mod-left, two-pow-succ, max-eq-left, max-eq-right, le-max-left, le-max-right}
 use native.Mathlib.Omega.{arith}
 use native.Mathlib.Decide.{decLe}
 use lib.Pow.{pow-mono, pow-add}
@@ -106,6 +106,26 @@ pub low-under : {e g a : ℕ} → LowestBit e g → PowerOfTwo a → (e % a ≡ 
 low-under {e} {g} {a} l x h =
     let j : g < a = low-below l x h in
     power-divides (l .power) x (omega arith)
+
+-- an odd multiple of A is none of 2·A, so that no number has two lowest one bits
+pub odd-rest : (o A : ℕ) → 0 < A → (o + o + 1) * A % (A + A) ≡ 0 → ⊥
+odd-rest o A pos e =
+    let v : (o + o + 1) * A ≡ o * (A + A) + A = omega arith in
+    let z : A % (A + A) ≡ 0 = sym (mul-add-mod-self-right o (A + A) A) ∙ ap (λ (n : ℕ). n % (A + A)) (sym v) ∙ e in
+    let r : A % (A + A) ≡ A = mod-eq-of-lt (omega arith) in
+    omega arith
+
+lowest-le : {v g h : ℕ} → LowestBit v g → LowestBit v h → h ≤ g
+lowest-le {v} {g} {h} x y = go (decLe h g)
+  where
+    go : Dec (h ≤ g) → h ≤ g
+    go (yes j) = j
+    go (no j) =
+        let d : h % (g + g) ≡ 0 = power-divides (twice-power (x .power)) (y .power) (twice-le (x .power) (y .power) (omega arith)) in
+        absurd (odd-rest (x .odd) g (positive (x .power)) (subst (λ (z : ℕ). z % (g + g) ≡ 0) (x .is) (through (g + g) h v d (low-divides y))))
+
+pub one-lowest : {v g h : ℕ} → LowestBit v g → LowestBit v h → g ≡ h
+one-lowest x y = le-antisymm (lowest-le y x) (lowest-le x y)
 
 -- odd multiples of g reach every multiple of g, modulo a power of two
 abbrev Reached : ℕ → ℕ → ℕ → ℕ → Type 0

@@ -29,14 +29,14 @@ agreements = (refl, (refl, refl))
 
 -- phase 2 is 1; phase 5 goes to the base; A that divides e is 1, for e 0 too
 forms :
-    (formFor 64 (layout 0 8 2 4) ≡ answered (form 0 8 1 4))
-    × ((formFor 64 (layout 0 8 5 4) ≡ answered (form 8 8 0 4))
-    × ((formFor 64 (layout 0 8 5 16) ≡ answered (form 8 1 0 16)) × (formFor 64 (layout 3 8 7 0) ≡ answered (form 11 1 0 0))))
+    (formFor 64 (layout 0 8 2 4) ≡ answered (form 0 9 4))
+    × ((formFor 64 (layout 0 8 5 4) ≡ answered (form 8 8 4))
+    × ((formFor 64 (layout 0 8 5 16) ≡ answered (form 8 1 16)) × (formFor 64 (layout 3 8 7 0) ≡ answered (form 11 1 0))))
 unfolding formFor formOf unless lowestBit highestBit sizeWith up
 forms = (refl, (refl, (refl, refl)))
 
 -- neither layout has a size at 0: the first has a form, and 46 refuses the second
 past-M :
-    (formFor 64 (layout (2 ^ 64 - 8) 8 1 1) ≡ answered (form (2 ^ 64 - 8) 8 1 1)) × (formFor 64 (layout (2 ^ 64 - 8) 8 1 8) ≡ refused 46)
+    (formFor 64 (layout (2 ^ 64 - 8) 8 1 1) ≡ answered (form (2 ^ 64 - 8) 9 1)) × (formFor 64 (layout (2 ^ 64 - 8) 8 1 8) ≡ refused 46)
 unfolding formFor formOf unless lowestBit highestBit sizeWith up
 past-M = (refl, refl)

@@ -46,7 +46,7 @@ abbrev pub NoLater : Parts → Parts → Type 0
 NoLater c d = (c .align < d .align) ⊎ ((c .align ≡ d .align) × (c .phase ≤ d .phase))
 
 -- f is the normal form of t: it is such a choice, and among all of them the one with the least A, then the least phase
-pub record NormalForm (w : ℕ) (t : Trailing) (f : Form) : Type 0 where
+pub record IsNormal (w : ℕ) (t : Trailing) (f : Form) : Type 0 where
   pub parts : Parts
   pub base : f .base ≡ parts .base
   pub word : IsWord (f .word) (parts .align) (parts .phase)
@@ -54,22 +54,21 @@ pub record NormalForm (w : ℕ) (t : Trailing) (f : Form) : Type 0 where
   pub choice : Choice w t 0 parts
   pub least : (less : ℕ) (c : Parts) → Choice w t less c → NoLater parts c
 
--- a form of base, A, phase and element size
-abbrev pub form : (b A p e : ℕ) → Form
-form b A p e = record { base = b; word = A + p; elem = e }
+abbrev pub form : (b word e : ℕ) → Form
+form b n e = record { base = b; word = n; elem = e }
 
 -- it, computed (`is-normal`): A is 1 where A divides e, e 0 too. Else A stays; a phase seen as 0 is 0, and the base is the size
 -- at 0; any other phase is the least that is seen alike
 unfoldable pub formOf : ℕ → Trailing → Form
 formOf w t =
-    cond (eqb (t .elem % A w t) 0) (form (sizeAt w t 0) 1 0 (t .elem))
-    (cond (eqb (seenPhase w (t .elem) (A w t) (p w t)) 0) (form (sizeAt w t 0) (A w t) 0 (t .elem))
-    (form (t .base) (A w t) (up (p w t) (lowestBit w (t .elem)) - lowestBit w (t .elem) + 1) (t .elem)))
+    cond (eqb (t .elem % A w t) 0) (form (sizeAt w t 0) 1 (t .elem))
+    (cond (eqb (seenPhase w (t .elem) (A w t) (p w t)) 0) (form (sizeAt w t 0) (A w t) (t .elem))
+    (form (t .base) (A w t + (up (p w t) (lowestBit w (t .elem)) - lowestBit w (t .elem) + 1)) (t .elem)))
 
 -- 46: the normal form's base passes M
 pub record PastM (w : ℕ) (t : Trailing) : Type 0 where
   pub normal : Form
-  pub isNormal : NormalForm w t normal
+  pub isNormal : IsNormal w t normal
   pub past : M w < normal .base
 
 abbrev pub basePasses : ℕ → Trailing → Cause
