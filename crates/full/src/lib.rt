@@ -1,6 +1,6 @@
-// The full comparison of the sizes of two trailing layouts, and the normal form of one (document 02, request 9). zerocopy has neither.
-// Both take a phase as the sizes see it: elements step by multiples of the lowest one bit of their size, so that phases between two
-// such multiples give the same sizes.
+// The full comparison of the sizes of two trailing layouts, and the normal form of one (document 02, request 9). zerocopy has
+// neither. Both take a phase as the sizes see it: elements step by multiples of the lowest one bit of their size, so that
+// phases between two such multiples give the same sizes.
 ghost use mathlib.Core.Path.{_≡_};
 ghost use Prim.Native.Nat.{_+_, _-_, _%_, _^_, _<_};
 ghost use Rattle.util_defs.specs.Power.{PowerOfTwo};
@@ -203,8 +203,8 @@ fn normal_form_at(layout: TrailingSliceLayout, align: u64, phase: u64) -> FormAn
     })
 }
 
-// The normal form: of all bases, alignments and phases that give the layout's sizes, the one with the least alignment, then the least
-// phase.
+// The normal form: of all bases, alignments and phases that give the layout's sizes, the one with the least alignment, then
+// the least phase.
 pub fn normal_form(layout: TrailingSliceLayout) -> FormAnswer
     ensures answer { λ r. ⌜ formSays r ≡ formFor 64 (trailingOf layout) ⌝ }
     ensures meaning { λ r. ⌜

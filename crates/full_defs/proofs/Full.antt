@@ -103,7 +103,16 @@ align-lt w t n h = omega (arith, parts-of w (t .word) n h .sum)
 pub lowest-of : (w : ℕ) (t : Trailing) (e : ℕ) → 0 < t .word → t .word < 2 ^ w → (e % A w t ≡ 0 → ⊥) → LowestBit e (lowestBit w e)
 lowest-of w t e n h = lowest-under w e (parts-of w (t .word) n h .power) (align-lt w t n h)
 
--- the strides by the phases as the sizes see them are that
+-- the tests decide the condition of the comparison
+pub tells-agree : (w : ℕ) (s t : Trailing)
+    → Tells ((s .elem ≡ t .elem) × ((sizeAt w s 0 ≡ sizeAt w t 0)
+    × SameStride (s .elem) (A w s) (seenPhase w (s .elem) (A w s) (p w s)) (A w t) (seenPhase w (s .elem) (A w t) (p w t)))) (sizesAgree w s t)
+unfolding sizesAgree
+tells-agree w s t =
+    tells-and (tells-eq (s .elem) (t .elem)) (tells-and (tells-eq (sizeAt w s 0) (sizeAt w t 0))
+    (tells-stride (s .elem) (A w s) (seenPhase w (s .elem) (A w s) (p w s)) (A w t) (seenPhase w (s .elem) (A w t) (p w t))))
+
+-- which is how the parts stand where the sizes are equal
 module _ (w : ℕ) (s t : Trailing) (ps : 0 < s .word) (hs : s .word < 2 ^ w) (pt : 0 < t .word) (ht : t .word < 2 ^ w) where
   abbrev Strides : Type 0
   Strides = SameStride (s .elem) (A w s) (seenPhase w (s .elem) (A w s) (p w s)) (A w t) (seenPhase w (s .elem) (A w t) (p w t))
@@ -122,7 +131,6 @@ module _ (w : ℕ) (s t : Trailing) (ps : 0 < s .word) (hs : s .word < 2 ^ w) (p
 
   -- request 9: yes exactly when the sizes are equal at every count
   pub tells-sizes : Tells (EqualSizes w s t) (sizesAgree w s t)
-  unfolding sizesAgree
   tells-sizes =
       let x = sound-parts w s ps hs in
       let y = sound-parts w t pt ht in
@@ -132,8 +140,7 @@ module _ (w : ℕ) (s t : Trailing) (ps : 0 < s .word) (hs : s .word < 2 ^ w) (p
         same-elem (partsOf w s) (partsOf w t) x y h,
         (h 0, alike-strides (sizes-alike g (partsOf w s) (partsOf w t) x y ls (lowest-of w t (s .elem) pt ht) h)),
       ))
-      (tells-and (tells-eq (s .elem) (t .elem)) (tells-and (tells-eq (sizeAt w s 0) (sizeAt w t 0))
-      (tells-stride (s .elem) (A w s) (seenPhase w (s .elem) (A w s) (p w s)) (A w t) (seenPhase w (s .elem) (A w t) (p w t)))))
+      (tells-agree w s t)
 
 pub agree-meets : (w : ℕ) (s t : Trailing) → s .word < 2 ^ w → t .word < 2 ^ w → Meets (sameCauses s t) (FoundEqual w s t) (agreeFor w s t)
 unfolding agreeFor

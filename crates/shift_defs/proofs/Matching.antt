@@ -1,22 +1,34 @@
 -- Two layouts that match at a shift, over any width and comparison. Assumes nothing.
 use mathlib.Core.Path.{_≡_, sym, ap, _∙_}
+use mathlib.Core.Bool.{true}
 use Prim.Native.Nat.{ℕ, _+_, _-_, _*_, _^_, _<_}
 use native.Mathlib.Omega.{arith}
 use Rattle.util_defs.specs.Width.{M}
 use Rattle.util_defs.specs.Refusal.{Tells, Meets}
-use Rattle.util_defs.proofs.Refusals.{yes, tells-true, tells-eq, tells-le, tells-and, tells-as, meets}
+use Rattle.util_defs.proofs.Refusals.{yes, agree, tells-true, tells-eq, tells-le, tells-and, tells-as, meets}
 use Rattle.rounding.proofs.Words.{not-zero}
-use Rattle.trailing_defs.specs.Size.{Trailing, A, p, sizeWith, sizeAt, sizeOffset}
+use Rattle.trailing_defs.specs.Size.{Trailing, A, p, sizeWith, sizeAt, HasSize, sizeOffset}
 use Rattle.trailing_defs.specs.Sequence.{EqualSizes, sameSequence}
 use Rattle.trailing_defs.specs.Calls.{sameCauses}
 use Rattle.trailing_defs.proofs.Sequences.{tells-same, same-sizes}
 use Rattle.trailing_defs.proofs.Calls.{advanced-word, advanced-word-lt, advanced-sizes}
-use Rattle.shift_defs.specs.Match.{Comparison, Sound, shifted, Matches, matchTest, matchFor, FoundMatch}
+use Rattle.full_defs.proofs.Full.{tells-sizes}
+use Rattle.shift_defs.specs.Mode.{Mode, ported, full, comparisonOf}
+use Rattle.shift_defs.specs.Match.{Comparison, Sound, shifted, Matches, sameFrom, matchTest, matchFor, FoundMatch}
 use Rattle.shift_defs.specs.Shift.{IsMultiple}
 
--- the ported comparison is sound
-pub same-sound : (w : ℕ) → Sound w (sameSequence w)
-same-sound w s t ps hs pt ht e = same-sizes w s t ps hs pt ht (yes (tells-same w s t) e)
+-- the comparison of each mode is sound
+pub mode-sound : (w : ℕ) (m : Mode) → Sound w (comparisonOf w m)
+mode-sound w ported s t ps hs pt ht e = same-sizes w s t ps hs pt ht (yes (tells-same w s t) e)
+mode-sound w full s t ps hs pt ht e = yes (tells-sizes w s t ps hs pt ht) e
+
+-- what is left of a match once the target is advanced; the ported comparison asks for the size at 0 itself
+pub tells-from : (w : ℕ) (same : Comparison) (s u : Trailing) → Tells (HasSize w s 0 × (same s u ≡ true)) (sameFrom w same s u)
+tells-from w same s u = tells-and (tells-le (sizeAt w s 0) (M w)) (tells-true (same s u))
+
+pub same-from : (w : ℕ) (s u : Trailing) → sameSequence w s u ≡ sameFrom w (sameSequence w) s u
+same-from w s u =
+    agree (tells-as (λ e. (yes (tells-same w s u) e .start .0, e)) (λ x. x .1) (tells-true (sameSequence w s u))) (tells-from w (sameSequence w) s u)
 
 pub tells-matches : (w : ℕ) (same : Comparison) (s t : Trailing) (d : ℕ) → Tells (Matches w same s t d) (matchTest w same s t d)
 unfolding matchTest

@@ -29,6 +29,10 @@ pub record Matches (w : ℕ) (same : Comparison) (s t : Trailing) (d : ℕ) : Ty
   pub advance : sizeOffset w t + d * t .elem ≤ M w
   pub equal : same s (shifted w s t d) ≡ true
 
+-- the part of it that is left once the target is advanced to u
+abbrev pub sameFrom : ℕ → Comparison → Trailing → Trailing → Bool
+sameFrom w same s u = leb (sizeAt w s 0) (M w) && same s u
+
 unfoldable pub matchTest : ℕ → Comparison → Trailing → Trailing → ℕ → Bool
 matchTest w same s t d = leb (sizeAt w s 0) (M w) && (leb (sizeOffset w t + d * t .elem) (M w) && same s (shifted w s t d))
 

@@ -2,13 +2,14 @@
 use mathlib.Core.Path.{refl, sym, ap₂, _∙_, subst}
 use native.Mathlib.Omega.{arith}
 use borrow.Author.Tests.{eq-eqb, ne-eqb}
-use Rattle.trailing_defs.specs.Sequence.{sameSequence}
 use Rattle.trailing.specs.View.{trailingOf}
 use Rattle.layout_defs.specs.Layout.{noWord}
 use Rattle.layout.specs.declared.SizeInfo.{SizeInfo}
 use Rattle.layout.specs.View.{infoOf, layoutOf}
 use Rattle.shift_defs.specs.Shift.{shiftBetween}
 use borrow.Author.Needs.{needs}
+use Rattle.shift_defs.specs.Mode.{comparisonOf}
+use Rattle.shift.specs.View.{modeOf}
 use Rattle.shift.proofs.checked_delta_elems.Statement.{statement}
 use Rattle.shift.proofs.checked_delta_elems.Tie as tie
 
@@ -42,7 +43,7 @@ returns-3 c =
     let k = c .before .before .before .before .before .before .before .before in
     let t = trailingOf (c .before .before .before .dst-info .given .0 .0) in
     simp (eq-eqb (t .elem) 0 (c .if1 .taken)) refl
-    ∙ ap₂ (λ (i j : SizeInfo). shiftBetween 64 (sameSequence 64) (infoOf i) (layoutOf (k .args .dst-layout)) (infoOf j)) (sym (c .before .before .before .before .before .before .src-info .given .1)) (sym (c .before .before .before .dst-info .given .1))
+    ∙ ap₂ (λ (i j : SizeInfo). shiftBetween 64 (comparisonOf 64 (modeOf (k .args .mode))) (infoOf i) (layoutOf (k .args .dst-layout)) (infoOf j)) (sym (c .before .before .before .before .before .before .src-info .given .1)) (sym (c .before .before .before .dst-info .given .1))
 
 returns-4 : tie.Need-returns-4
 returns-4 c =
@@ -50,7 +51,7 @@ returns-4 c =
     let t = trailingOf (c .before .before .before .before .dst-info .given .0 .0) in
     c .matching-delta-elems .ensures
     ∙ simp (ne-eqb (t .elem) 0 (c .before .if1 .left)) refl
-    ∙ ap₂ (λ (i j : SizeInfo). shiftBetween 64 (sameSequence 64) (infoOf i) (layoutOf (k .args .dst-layout)) (infoOf j)) (sym (c .before .before .before .before .before .before .before .src-info .given .1)) (sym (c .before .before .before .before .dst-info .given .1))
+    ∙ ap₂ (λ (i j : SizeInfo). shiftBetween 64 (comparisonOf 64 (modeOf (k .args .mode))) (infoOf i) (layoutOf (k .args .dst-layout)) (infoOf j)) (sym (c .before .before .before .before .before .before .before .src-info .given .1)) (sym (c .before .before .before .before .dst-info .given .1))
 
 pub checked-delta-elems-spec : {M : Type 1} → statement M
 checked-delta-elems-spec =

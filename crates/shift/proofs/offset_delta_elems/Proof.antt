@@ -5,13 +5,14 @@ use native.Mathlib.Omega.{arith}
 use Rattle.util_defs.specs.Refusal.{answered}
 use Rattle.util_defs.proofs.Refusals.{told}
 use Rattle.util_defs.proofs.Tables.{told-by, refused-as, accepted-as, refused-first, accepted-first, accepted-none}
-use Rattle.trailing_defs.specs.Sequence.{sameSequence}
 use Rattle.layout_defs.specs.Layout.{layoutCauses, checkFor}
 use Rattle.layout.specs.View.{layoutOf, checkSays}
 use Rattle.layout_defs.proofs.Layouts.{layout-decided}
 use Rattle.shift_defs.specs.Shift.{shiftBetween, shiftFor}
 use Rattle.shift_defs.proofs.Shifts.{shift-meets}
 use borrow.Author.Needs.{needs}
+use Rattle.shift_defs.specs.Mode.{comparisonOf}
+use Rattle.shift.specs.View.{modeOf}
 use Rattle.shift.proofs.offset_delta_elems.Statement.{statement}
 use Rattle.shift.proofs.offset_delta_elems.Tie as tie
 
@@ -49,8 +50,8 @@ returns c =
     let k = c .before .before .before .before .before .before .before in
     let s = layoutOf (k .args .src-layout) in
     let t = layoutOf (k .args .dst-layout) in
-    let d = shiftBetween 64 (sameSequence 64) (s .info) t (t .info) in
-    told (shift-meets 64 (sameSequence 64) s t (omega arith) (omega arith) (lit< tt))
+    let d = shiftBetween 64 (comparisonOf 64 (modeOf (k .args .mode))) (s .info) t (t .info) in
+    told (shift-meets 64 (comparisonOf 64 (modeOf (k .args .mode))) s t (omega arith) (omega arith) (lit< tt))
     (ap answered (c .checked-delta-elems .ensures)
     ∙ sym (accepted-first (layoutCauses 64 s) (layoutCauses 64 t) tt d (told-by checkSays (c .before .before .before .before .before .before .check .ensures .0) (c .before .before .before .before .enum-told .given .1)) ∙ accepted-as (layoutCauses 64 t) tt d (told-by checkSays (c .before .before .before .check2 .ensures .0) (c .before .enum-told2 .given .1))))
 
@@ -60,8 +61,8 @@ returns-2 c =
     let k = c .before .before .before .before .before .before .before in
     let s = layoutOf (k .args .src-layout) in
     let t = layoutOf (k .args .dst-layout) in
-    let d = shiftBetween 64 (sameSequence 64) (s .info) t (t .info) in
-    told (shift-meets 64 (sameSequence 64) s t (omega arith) (omega arith) (lit< tt))
+    let d = shiftBetween 64 (comparisonOf 64 (modeOf (k .args .mode))) (s .info) t (t .info) in
+    told (shift-meets 64 (comparisonOf 64 (modeOf (k .args .mode))) s t (omega arith) (omega arith) (lit< tt))
     (sym (accepted-first (layoutCauses 64 s) (layoutCauses 64 t) tt d (told-by checkSays (c .before .before .before .before .before .before .check .ensures .0) (c .before .before .before .before .enum-told .given .1)) ∙ refused-as (layoutCauses 64 t) tt d (told-by checkSays (c .before .before .before .check2 .ensures .0) (c .before .number .given .1))))
 
 returns-3 : tie.Need-returns-3
@@ -70,8 +71,8 @@ returns-3 c =
     let k = c .before .before .before .before in
     let s = layoutOf (k .args .src-layout) in
     let t = layoutOf (k .args .dst-layout) in
-    let d = shiftBetween 64 (sameSequence 64) (s .info) t (t .info) in
-    told (shift-meets 64 (sameSequence 64) s t (omega arith) (omega arith) (lit< tt))
+    let d = shiftBetween 64 (comparisonOf 64 (modeOf (k .args .mode))) (s .info) t (t .info) in
+    told (shift-meets 64 (comparisonOf 64 (modeOf (k .args .mode))) s t (omega arith) (omega arith) (lit< tt))
     (sym (refused-first (layoutCauses 64 s) (layoutCauses 64 t) tt d (told-by checkSays (c .before .before .before .check .ensures .0) (c .before .number2 .given .1))))
 
 pub offset-delta-elems-spec : {M : Type 1} → statement M

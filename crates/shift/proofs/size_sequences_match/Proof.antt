@@ -4,11 +4,12 @@ use native.Mathlib.Omega.{arith}
 use borrow.Author.Tests.{eq-eqb, ne-eqb}
 use Rattle.util_defs.specs.Refusal.{answered, unless}
 use Rattle.util_defs.proofs.Refusals.{told}
-use Rattle.trailing_defs.specs.Sequence.{sameSequence}
 use Rattle.trailing.specs.View.{trailingOf}
 use Rattle.shift_defs.specs.Match.{matchFor}
-use Rattle.shift_defs.proofs.Matching.{same-sound, match-meets}
+use Rattle.shift_defs.proofs.Matching.{mode-sound, match-meets}
 use borrow.Author.Needs.{needs}
+use Rattle.shift_defs.specs.Mode.{comparisonOf}
+use Rattle.shift.specs.View.{modeOf}
 use Rattle.shift.proofs.size_sequences_match.Statement.{statement}
 use Rattle.shift.proofs.size_sequences_match.Tie as tie
 
@@ -19,7 +20,7 @@ returns c =
     let s = trailingOf (k .args .src) in
     let t = trailingOf (k .args .dst) in
     let d = k .args .dst-base in
-    told (match-meets 64 (sameSequence 64) s t d (same-sound 64) (omega arith) (omega arith)) (simp (eq-eqb (s .word) 0 (c .if1 .taken)))
+    told (match-meets 64 (comparisonOf 64 (modeOf (k .args .mode))) s t d (mode-sound 64 (modeOf (k .args .mode))) (omega arith) (omega arith)) (simp (eq-eqb (s .word) 0 (c .if1 .taken)))
 
 returns-2 : tie.Need-returns-2
 unfolding matchFor unless
@@ -28,7 +29,7 @@ returns-2 c =
     let s = trailingOf (k .args .src) in
     let t = trailingOf (k .args .dst) in
     let d = k .args .dst-base in
-    told (match-meets 64 (sameSequence 64) s t d (same-sound 64) (omega arith) (omega arith)) (simp (ne-eqb (s .word) 0 (c .before .before .before .if1 .left), eq-eqb (t .word) 0 (c .if2 .taken)))
+    told (match-meets 64 (comparisonOf 64 (modeOf (k .args .mode))) s t d (mode-sound 64 (modeOf (k .args .mode))) (omega arith) (omega arith)) (simp (ne-eqb (s .word) 0 (c .before .before .before .if1 .left), eq-eqb (t .word) 0 (c .if2 .taken)))
 
 sequences-match-requires : tie.Need-sequences-match-requires
 sequences-match-requires c κs = search needs
@@ -40,7 +41,7 @@ returns-3 c =
     let s = trailingOf (k .args .src) in
     let t = trailingOf (k .args .dst) in
     let d = k .args .dst-base in
-    told (match-meets 64 (sameSequence 64) s t d (same-sound 64) (omega arith) (omega arith)) (ap answered (c .sequences-match .ensures) ∙ simp (ne-eqb (s .word) 0 (c .before .before .before .before .if1 .left), ne-eqb (t .word) 0 (c .before .if2 .left)))
+    told (match-meets 64 (comparisonOf 64 (modeOf (k .args .mode))) s t d (mode-sound 64 (modeOf (k .args .mode))) (omega arith) (omega arith)) (ap answered (c .sequences-match .ensures) ∙ simp (ne-eqb (s .word) 0 (c .before .before .before .before .if1 .left), ne-eqb (t .word) 0 (c .before .if2 .left)))
 
 pub size-sequences-match-spec : {M : Type 1} → statement M
 size-sequences-match-spec =
