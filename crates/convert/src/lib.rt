@@ -2,10 +2,12 @@
 // converted.
 ghost use mathlib.Core.Path.{_≡_};
 ghost use Rattle.util_defs.specs.Refusal.{answered, None, Meets, unless};
-ghost use Rattle.trailing_defs.specs.Sequence.{sameSequence};
 ghost use Rattle.trailing.specs.View.{trailingOf};
 ghost use Rattle.layout_defs.specs.Layout.{fixed, trailing, layoutCauses, FitsWidth};
 ghost use Rattle.layout.specs.View.{infoOf, layoutOf};
+ghost use Rattle.shift_defs.specs.Mode as Modes;
+ghost use Rattle.shift_defs.specs.Mode.{comparisonOf};
+ghost use Rattle.shift.specs.View.{modeOf};
 ghost use Rattle.convert_defs.specs.Reasons.{conversionCauses};
 ghost use Rattle.convert_defs.specs.Convert.{Params, paramsOf, byKinds};
 ghost use Rattle.convert_defs.specs.Convert.{Converts, computeCauses, computeFor};
@@ -13,6 +15,7 @@ ghost use Rattle.convert.specs.View.{reasonSays, computedSays, computeSa
 use layout::Check;
 use layout::DstLayout;
 use layout::SizeInfo;
+use shift::Mode;
 use shift::Shift;
 use shift::ShiftAnswer;
 use trailing::TrailingSliceLayout;
@@ -63,13 +66,14 @@ fn compute_unsized(
     src: TrailingSliceLayout,
     dst_layout: DstLayout,
     dst: TrailingSliceLayout,
+    mode: Mode,
 ) -> Computed
     requires { ⌜
         None (layoutCauses 64 (layoutOf «src_layout»)) × (infoOf («src_layout» .«size_info») ≡ trailing (trailingOf src))
         × None (layoutCauses 64 (layoutOf «dst_layout»)) × (infoOf («dst_layout» .«size_info») ≡ trailing (trailingOf dst))
         ⌝ }
     ensures { λ r. ⌜
-        computedSays r ≡ byKinds 64 (sameSequence 64) (trailing (trailingOf src)) (layoutOf «dst_layout»)
+        computedSays r ≡ byKinds 64 (comparisonOf 64 (modeOf mode)) (trailing (trailingOf src)) (layoutOf «dst_layout»)
         (trailing (trailingOf dst))
         ⌝ }
 {
@@ -84,7 +88,7 @@ fn compute_unsized(
     if src_elem_size % dst_elem_size != 0 {
         return Computed::None(Reason::NoWholeMultiple);
     }
-    let ShiftAnswer::Shift(shift) = shift::offset_delta_elems(src_layout, dst_layout) else {
+    let ShiftAnswer::Shift(shift) = shift::offset_delta_elems(src_layout, dst_layout, mode) else {
         return Computed::None(Reason::NoShift);
     };
     match shift {
@@ -96,10 +100,11 @@ fn compute_unsized(
     }
 }
 
+// From a fixed source, which is the same in every mode.
 fn compute_from_sized(src_size: u64, dst_layout: DstLayout) -> Computed
     ensures { λ r. ⌜
-        computedSays r ≡ byKinds 64 (sameSequence 64) (fixed «src_size») (layoutOf «dst_layout»)
-        (infoOf («dst_layout» .«size_info»))
+        ((m : Modes.Mode) → computedSays r ≡ byKinds 64 (comparisonOf 64 m) (fixed «src_size») (layoutOf «dst_layout»)
+        (infoOf («dst_layout» .«size_info»)))
         ⌝ }
 {
     let size_info = dst_layout.size_info;
@@ -124,29 +129,32 @@ fn compute_from_unsized(
     src_layout: DstLayout,
     src: TrailingSliceLayout,
     dst_layout: DstLayout,
+    mode: Mode,
 ) -> Computed
     requires { ⌜
         None (layoutCauses 64 (layoutOf «src_layout»)) × (infoOf («src_layout» .«size_info») ≡ trailing (trailingOf src))
         × None (layoutCauses 64 (layoutOf «dst_layout»))
         ⌝ }
     ensures { λ r. ⌜
-        computedSays r ≡ byKinds 64 (sameSequence 64) (trailing (trailingOf src)) (layoutOf «dst_layout»)
+        computedSays r ≡ byKinds 64 (comparisonOf 64 (modeOf mode)) (trailing (trailingOf src)) (layoutOf «dst_layout»)
         (infoOf («dst_layout» .«size_info»))
         ⌝ }
 {
     let size_info = dst_layout.size_info;
     match size_info {
         SizeInfo::Sized { size: _ } => Computed::None(Reason::TrailingToFixed),
-        SizeInfo::SliceDst(dst) => compute_unsized(src_layout, src, dst_layout, dst),
+        SizeInfo::SliceDst(dst) => compute_unsized(src_layout, src, dst_layout, dst, mode),
     }
 }
 
 // The conversion between two layouts that passed their checks.
-fn compute(src_layout: DstLayout, dst_layout: DstLayout) -> Computed
+fn compute(src_layout: DstLayout, dst_layout: DstLayout, mode: Mode) -> Computed
     requires { ⌜ None (layoutCauses 64 (layoutOf «src_layout»)) × None (layoutCauses 64 (layoutOf «dst_layout»)) ⌝ }
     ensures { λ r. ⌜
-        computedSays r ≡ unless (conversionCauses 64 (sameSequence 64) (layoutOf «src_layout») (layoutOf «dst_layout»))
-        (paramsOf 64 (sameSequence 64) (layoutOf «src_layout» .info) (layoutOf «dst_layout») (layoutOf «dst_layout» .info))
+        computedSays r
+        ≡ unless (conversionCauses 64 (comparisonOf 64 (modeOf mode)) (layoutOf «src_layout») (layoutOf «dst_layout»))
+        (paramsOf 64 (comparisonOf 64 (modeOf mode)) (layoutOf «src_layout» .info) (layoutOf «dst_layout»)
+        (layoutOf «dst_layout» .info))
         ⌝ }
 {
     if src_layout.align < dst_layout.align {
@@ -155,7 +163,7 @@ fn compute(src_layout: DstLayout, dst_layout: DstLayout) -> Computed
     let size_info = src_layout.size_info;
     match size_info {
         SizeInfo::Sized { size } => compute_from_sized(size, dst_layout),
-        SizeInfo::SliceDst(src) => compute_from_unsized(src_layout, src, dst_layout),
+        SizeInfo::SliceDst(src) => compute_from_unsized(src_layout, src, dst_layout, mode),
     }
 }
 
@@ -175,26 +183,30 @@ fn reason_number(reason: Reason) -> u64
     }
 }
 
-fn compute_answer(src_layout: DstLayout, dst_layout: DstLayout) -> ComputeAnswer
+fn compute_answer(src_layout: DstLayout, dst_layout: DstLayout, mode: Mode) -> ComputeAnswer
     requires { ⌜ None (layoutCauses 64 (layoutOf «src_layout»)) × None (layoutCauses 64 (layoutOf «dst_layout»)) ⌝ }
     ensures { λ r. ⌜
-        computeSays r ≡ unless (conversionCauses 64 (sameSequence 64) (layoutOf «src_layout») (layoutOf «dst_layout»))
-        (paramsOf 64 (sameSequence 64) (layoutOf «src_layout» .info) (layoutOf «dst_layout») (layoutOf «dst_layout» .info))
+        computeSays r
+        ≡ unless (conversionCauses 64 (comparisonOf 64 (modeOf mode)) (layoutOf «src_layout») (layoutOf «dst_layout»))
+        (paramsOf 64 (comparisonOf 64 (modeOf mode)) (layoutOf «src_layout» .info) (layoutOf «dst_layout»)
+        (layoutOf «dst_layout» .info))
         ⌝ }
 {
-    match compute(src_layout, dst_layout) {
+    match compute(src_layout, dst_layout, mode) {
         Computed::Accepted(params) => ComputeAnswer::Params(params),
         Computed::None(reason) => ComputeAnswer::Refused(reason_number(reason)),
     }
 }
 
-// How counts of the first layout are converted to the second, where a value of the first may be read as the second. What `fits`
-// says is known of every u64 inside a function; a caller's proof, which needs it for the conversion guarantee, has it from here.
-pub fn try_compute(src_layout: DstLayout, dst_layout: DstLayout) -> ComputeAnswer
-    ensures answer { λ r. ⌜ computeSays r ≡ computeFor 64 (sameSequence 64) (layoutOf «src_layout») (layoutOf «dst_layout») ⌝ }
+// How counts of the first layout are converted to the second, where a value of the first may be read as the second, the sizes
+// being compared as the mode says. What `fits` says is known of every u64 inside a function; a caller's proof, which needs it for the conversion guarantee, has it from here.
+pub fn try_compute(src_layout: DstLayout, dst_layout: DstLayout, mode: Mode) -> ComputeAnswer
+    ensures answer { λ r. ⌜
+        computeSays r ≡ computeFor 64 (comparisonOf 64 (modeOf mode)) (layoutOf «src_layout») (layoutOf «dst_layout»)
+        ⌝ }
     ensures meaning { λ r. ⌜
-        Meets (computeCauses 64 (sameSequence 64) (layoutOf «src_layout») (layoutOf «dst_layout»))
-        (Converts 64 (sameSequence 64) (layoutOf «src_layout») (layoutOf «dst_layout»)) (computeSays r)
+        Meets (computeCauses 64 (comparisonOf 64 (modeOf mode)) (layoutOf «src_layout») (layoutOf «dst_layout»))
+        (Converts 64 (comparisonOf 64 (modeOf mode)) (layoutOf «src_layout») (layoutOf «dst_layout»)) (computeSays r)
         ⌝ }
     ensures fits { λ r. ⌜
         ((q : Params) → computeSays r ≡ answered q → FitsWidth 64 (layoutOf «src_layout») × FitsWidth 64
@@ -203,7 +215,7 @@ pub fn try_compute(src_layout: DstLayout, dst_layout: DstLayout) -> ComputeAnswe
 {
     match src_layout.check() {
         Check::Accepted => match dst_layout.check() {
-            Check::Accepted => compute_answer(src_layout, dst_layout),
+            Check::Accepted => compute_answer(src_layout, dst_layout, mode),
             Check::Refused(number) => ComputeAnswer::Refused(number),
         },
         Check::Refused(number) => ComputeAnswer::Refused(number),

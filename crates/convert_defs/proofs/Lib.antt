@@ -4,3 +4,4 @@ pub mod Conversions
 pub mod Refused
 pub mod Counts
 pub mod Numbers
+pub mod Modes

@@ -9,13 +9,13 @@ use Rattle.util_defs.specs.Refusal.{Outcome, answered, unless, None}
 use Rattle.util_defs.proofs.Refusals.{clear}
 use Rattle.util_defs.proofs.Tables.{both-none}
 use Rattle.trailing_defs.specs.Size.{A, p}
-use Rattle.trailing_defs.specs.Sequence.{sameSequence}
 use Rattle.layout_defs.specs.Layout.{Marks, marks, Info, fixed, trailing, Layout, IsCount, sizeIn, noWord, layoutCauses}
 use Rattle.cast_defs.specs.Cast.{prefix, Grant, countIn, IsElemZero, bytesCauses, castCauses, castFor}
 use Rattle.cast_defs.proofs.Grants.{align-pos, greatest-in, cast-decided}
 use Rattle.trailing_defs.proofs.Sizes.{count-mono}
 use Rattle.shift_defs.specs.Match.{Comparison, Sound}
-use Rattle.shift_defs.proofs.Matching.{same-sound}
+use Rattle.shift_defs.specs.Mode.{Mode, comparisonOf}
+use Rattle.shift_defs.proofs.Matching.{mode-sound}
 use Rattle.convert_defs.specs.Convert.{Params}
 use Rattle.convert_defs.specs.Convert.{computeFor, converted, metadataFor}
 use Rattle.convert_defs.proofs.Conversions.{compute-accepts}
@@ -70,12 +70,12 @@ demand-3 w same pos sound s t n addr len more hs ht q acc is fits =
     let c = count-kept w same (s .align) (t .align) (marks s) (marks t) n pos sound hs ht (acc .source) (acc .target) (acc .converts .kinds) fits in
     kept w same s t q n addr len more pos (ht .align) (acc .target) e (c .elem) (c .fits) (c .count) (c .size)
 
--- demand 3 of the ported comparison, closed
-pub demand-3-ported : (w : ℕ) → 0 < w → Demand3 w (sameSequence w)
-demand-3-ported w pos = demand-3 w (sameSequence w) pos (same-sound w)
+-- demand 3 of every mode, each with its own match
+pub demand-3-modes : (w : ℕ) → 0 < w → (m : Mode) → Demand3 w (comparisonOf w m)
+demand-3-modes w pos m = demand-3 w (comparisonOf w m) pos (mode-sound w m)
 
-pub demand-3-at-64 : Demand3 64 (sameSequence 64)
-demand-3-at-64 = demand-3-ported 64 (lit< tt)
+pub demand-3-at-64 : (m : Mode) → Demand3 64 (comparisonOf 64 m)
+demand-3-at-64 = demand-3-modes 64 (lit< tt)
 
 pub same-answers : {a b : Outcome Params} {m n : Outcome ℕ} {f g h k : Outcome Grant} → a ≡ b → m ≡ n → f ≡ g → h ≡ k
     → _≡_ {A = Answers} (record { computed = a; count = m; first = f; second = h }) (record { computed = b; count = n; first = g; second = k })

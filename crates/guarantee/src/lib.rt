@@ -1,8 +1,9 @@
 // The conversion guarantee, of what the calls of a conversion and of the casts after it return.
 ghost use mathlib.Core.Path.{_≡_};
 ghost use Rattle.util.specs.View.{numberSays};
-ghost use Rattle.trailing_defs.specs.Sequence.{sameSequence};
 ghost use Rattle.layout.specs.View.{layoutOf};
+ghost use Rattle.shift_defs.specs.Mode.{comparisonOf};
+ghost use Rattle.shift.specs.View.{modeOf};
 ghost use Rattle.convert.specs.View.{computeSays};
 ghost use Rattle.guarantee.specs.Demand.{countAfter, answersOf, Demand3Of};
 ghost use Rattle.guarantee.specs.View.{answersIn};
@@ -10,6 +11,7 @@ use cast::CastAnswer;
 use cast::CastType;
 use convert::ComputeAnswer;
 use layout::DstLayout;
+use shift::Mode;
 use util::Answer;
 
 // The answers of a conversion of src_meta elements and of two prefix casts of its target.
@@ -30,8 +32,8 @@ fn converted_count(computed: ComputeAnswer, src_meta: u64) -> Answer
     }
 }
 
-// Converts src_meta elements of the first layout to the second, and casts bytes at addr to the second over two lengths.
-// What it promises of the four answers is the conversion guarantee.
+// Converts src_meta elements of the first layout to the second, in one of the modes, and casts bytes at addr to the second over two
+// lengths. What it promises of the four answers is the conversion guarantee of that mode.
 pub fn convert_and_cast(
     src_layout: DstLayout,
     dst_layout: DstLayout,
@@ -39,17 +41,18 @@ pub fn convert_and_cast(
     addr: u64,
     bytes_len: u64,
     more_len: u64,
+    mode: Mode,
 ) -> Carried
     ensures answer { λ r. ⌜
-        answersIn r ≡ answersOf 64 (sameSequence 64) (layoutOf «src_layout») (layoutOf «dst_layout»)
+        answersIn r ≡ answersOf 64 (comparisonOf 64 (modeOf mode)) (layoutOf «src_layout») (layoutOf «dst_layout»)
         «src_meta» addr «bytes_len» «more_len»
         ⌝ }
     ensures meaning { λ r. ⌜
-        Demand3Of 64 (sameSequence 64) (layoutOf «src_layout») (layoutOf «dst_layout»)
+        Demand3Of 64 (comparisonOf 64 (modeOf mode)) (layoutOf «src_layout») (layoutOf «dst_layout»)
         «src_meta» addr «bytes_len» «more_len» (answersIn r)
         ⌝ }
 {
-    let computed = convert::try_compute(src_layout, dst_layout);
+    let computed = convert::try_compute(src_layout, dst_layout, mode);
     let count = converted_count(computed, src_meta);
     let first = cast::validate_cast_and_convert_metadata(
         dst_layout,

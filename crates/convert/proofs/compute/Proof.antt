@@ -1,7 +1,8 @@
 -- `convert::compute` meets its contract. Assumes nothing.
 use mathlib.Core.Path.{sym, ap, _∙_}
 use borrow.Author.Tests.{lt-ltb, le-ltb}
-use Rattle.trailing_defs.specs.Sequence.{sameSequence}
+use Rattle.shift_defs.specs.Mode.{comparisonOf}
+use Rattle.shift.specs.View.{modeOf}
 use Rattle.layout.specs.declared.SizeInfo.{SizeInfo}
 use Rattle.layout.specs.View.{infoOf, layoutOf}
 use Rattle.convert_defs.specs.Convert.{byKinds}
@@ -38,7 +39,7 @@ returns-2 c =
     let k = c .before .before .before .before .before .before .before in
     let s = layoutOf (k .args .src-layout) in
     let t = layoutOf (k .args .dst-layout) in
-    c .compute-from-sized .ensures ∙ ap (λ (i : SizeInfo). byKinds 64 (sameSequence 64) (infoOf i) t (t .info)) (sym (c .before .before .size-info .given .1)) ∙ simp (le-ltb (s .align) (t .align) (c .before .before .before .before .if1 .left))
+    c .compute-from-sized .ensures (modeOf (k .args .mode)) ∙ ap (λ (i : SizeInfo). byKinds 64 (comparisonOf 64 (modeOf (k .args .mode))) (infoOf i) t (t .info)) (sym (c .before .before .size-info .given .1)) ∙ simp (le-ltb (s .align) (t .align) (c .before .before .before .before .if1 .left))
 
 returns-3 : tie.Need-returns-3
 unfolding unless
@@ -46,7 +47,7 @@ returns-3 c =
     let k = c .before .before .before .before .before .before .before in
     let s = layoutOf (k .args .src-layout) in
     let t = layoutOf (k .args .dst-layout) in
-    c .compute-from-unsized .ensures ∙ ap (λ (i : SizeInfo). byKinds 64 (sameSequence 64) (infoOf i) t (t .info)) (sym (c .before .before .size-info2 .given .1)) ∙ simp (le-ltb (s .align) (t .align) (c .before .before .before .before .if1 .left))
+    c .compute-from-unsized .ensures ∙ ap (λ (i : SizeInfo). byKinds 64 (comparisonOf 64 (modeOf (k .args .mode))) (infoOf i) t (t .info)) (sym (c .before .before .size-info2 .given .1)) ∙ simp (le-ltb (s .align) (t .align) (c .before .before .before .before .if1 .left))
 
 pub compute-spec : {M : Type 1} → statement M
 compute-spec =

@@ -3,7 +3,7 @@ use mathlib.Core.Path.{refl, sym, ap, _∙_}
 use borrow.Author.Tests.{eq-eqb, ne-eqb}
 use Rattle.util.specs.View.{numberSays}
 use Rattle.util_defs.proofs.Tables.{told-by}
-use Rattle.trailing_defs.specs.Sequence.{sameSequence}
+use Rattle.shift_defs.specs.Mode.{comparisonOf}
 use Rattle.layout_defs.specs.Layout.{fixed}
 use Rattle.layout.specs.declared.SizeInfo.{SizeInfo}
 use Rattle.layout.specs.View.{infoOf, layoutOf}
@@ -37,27 +37,27 @@ enum-told-2 c = search needs
 
 returns : tie.Need-returns
 unfolding unless
-returns c =
+returns c = λ m.
     let k = c .before .before .before .before in
-    simp (eq-eqb (k .args .src-size) (c .before .before .size-info .given .0 .0) (c .if1 .taken)) refl ∙ ap (λ (i : SizeInfo). byKinds 64 (sameSequence 64) (fixed (k .args .src-size)) (layoutOf (k .args .dst-layout)) (infoOf i)) (sym (c .before .before .size-info .given .1))
+    simp (eq-eqb (k .args .src-size) (c .before .before .size-info .given .0 .0) (c .if1 .taken)) refl ∙ ap (λ (i : SizeInfo). byKinds 64 (comparisonOf 64 m) (fixed (k .args .src-size)) (layoutOf (k .args .dst-layout)) (infoOf i)) (sym (c .before .before .size-info .given .1))
 
 returns-2 : tie.Need-returns-2
 unfolding unless
-returns-2 c =
+returns-2 c = λ m.
     let k = c .before .before .before .before in
-    simp (ne-eqb (k .args .src-size) (c .before .before .size-info .given .0 .0) (c .if1 .left)) refl ∙ ap (λ (i : SizeInfo). byKinds 64 (sameSequence 64) (fixed (k .args .src-size)) (layoutOf (k .args .dst-layout)) (infoOf i)) (sym (c .before .before .size-info .given .1))
+    simp (ne-eqb (k .args .src-size) (c .before .before .size-info .given .0 .0) (c .if1 .left)) refl ∙ ap (λ (i : SizeInfo). byKinds 64 (comparisonOf 64 m) (fixed (k .args .src-size)) (layoutOf (k .args .dst-layout)) (infoOf i)) (sym (c .before .before .size-info .given .1))
 
 returns-3 : tie.Need-returns-3
 unfolding unless
-returns-3 c =
+returns-3 c = λ m.
     let k = c .before .before .before .before .before .before in
-    ap by-count (sym (told-by numberSays (c .before .before .before .metadata-for-exact-size .ensures .0) (c .before .dst-meta .given .1))) ∙ ap (λ (i : SizeInfo). byKinds 64 (sameSequence 64) (fixed (k .args .src-size)) (layoutOf (k .args .dst-layout)) (infoOf i)) (sym (c .before .before .before .before .enum-told .given .1))
+    ap by-count (sym (told-by numberSays (c .before .before .before .metadata-for-exact-size .ensures .0) (c .before .dst-meta .given .1))) ∙ ap (λ (i : SizeInfo). byKinds 64 (comparisonOf 64 m) (fixed (k .args .src-size)) (layoutOf (k .args .dst-layout)) (infoOf i)) (sym (c .before .before .before .before .enum-told .given .1))
 
 returns-4 : tie.Need-returns-4
 unfolding unless
-returns-4 c =
+returns-4 c = λ m.
     let k = c .before .before .before .before .before in
-    ap by-count (sym (told-by numberSays (c .before .before .metadata-for-exact-size .ensures .0) (c .enum-told2 .given .1))) ∙ ap (λ (i : SizeInfo). byKinds 64 (sameSequence 64) (fixed (k .args .src-size)) (layoutOf (k .args .dst-layout)) (infoOf i)) (sym (c .before .before .before .enum-told .given .1))
+    ap by-count (sym (told-by numberSays (c .before .before .metadata-for-exact-size .ensures .0) (c .enum-told2 .given .1))) ∙ ap (λ (i : SizeInfo). byKinds 64 (comparisonOf 64 m) (fixed (k .args .src-size)) (layoutOf (k .args .dst-layout)) (infoOf i)) (sym (c .before .before .before .enum-told .given .1))
 
 pub compute-from-sized-spec : {M : Type 1} → statement M
 compute-from-sized-spec =

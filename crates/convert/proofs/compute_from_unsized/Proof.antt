@@ -1,6 +1,7 @@
 -- `convert::compute_from_unsized` meets its contract. Assumes nothing.
 use mathlib.Core.Path.{sym, ap, _∙_}
-use Rattle.trailing_defs.specs.Sequence.{sameSequence}
+use Rattle.shift_defs.specs.Mode.{comparisonOf}
+use Rattle.shift.specs.View.{modeOf}
 use Rattle.trailing.specs.View.{trailingOf}
 use Rattle.layout_defs.specs.Layout.{trailing}
 use Rattle.layout.specs.declared.SizeInfo.{SizeInfo}
@@ -24,10 +25,10 @@ compute-unsized-requires c κs =
 
 returns : tie.Need-returns
 unfolding unless
-returns c = let k = c .before .before in ap (λ (i : SizeInfo). byKinds 64 (sameSequence 64) (trailing (trailingOf (k .args .src))) (layoutOf (k .args .dst-layout)) (infoOf i)) (sym (c .enum-told .given .1))
+returns c = let k = c .before .before in ap (λ (i : SizeInfo). byKinds 64 (comparisonOf 64 (modeOf (k .args .mode))) (trailing (trailingOf (k .args .src))) (layoutOf (k .args .dst-layout)) (infoOf i)) (sym (c .enum-told .given .1))
 
 returns-2 : tie.Need-returns-2
-returns-2 c = let k = c .before .before .before .before in c .compute-unsized .ensures ∙ ap (λ (i : SizeInfo). byKinds 64 (sameSequence 64) (trailing (trailingOf (k .args .src))) (layoutOf (k .args .dst-layout)) (infoOf i)) (sym (c .before .before .size-info .given .1))
+returns-2 c = let k = c .before .before .before .before in c .compute-unsized .ensures ∙ ap (λ (i : SizeInfo). byKinds 64 (comparisonOf 64 (modeOf (k .args .mode))) (trailing (trailingOf (k .args .src))) (layoutOf (k .args .dst-layout)) (infoOf i)) (sym (c .before .before .size-info .given .1))
 
 pub compute-from-unsized-spec : {M : Type 1} → statement M
 compute-from-unsized-spec =

@@ -3,10 +3,10 @@ use mathlib.Core.Path.{sym, ap, _∙_}
 use Prim.Native.Nat.{ℕ, _/_, _%_}
 use borrow.Author.Tests.{eq-eqb, ne-eqb, lt-ltb, le-ltb}
 use native.Mathlib.Omega.{arith}
-use Rattle.trailing_defs.specs.Sequence.{sameSequence}
+use Rattle.shift_defs.specs.Mode.{comparisonOf}
 use Rattle.trailing.specs.View.{trailingOf}
 use Rattle.layout.specs.View.{layoutOf}
-use Rattle.shift.specs.View.{shiftIn}
+use Rattle.shift.specs.View.{modeOf, shiftIn}
 use Rattle.shift.proofs.Told.{shift-told, shift-kept}
 use Rattle.convert_defs.specs.Convert.{Params, withShift}
 use Rattle.convert_defs.specs.Reasons.{isMissing}
@@ -63,13 +63,13 @@ returns-4 c =
     let k = c .before .before .before .before .before .before in
     let s = trailingOf (k .args .src) in
     let t = trailingOf (k .args .dst) in
-    absurd (shift-kept 64 (sameSequence 64) (layoutOf (k .args .src-layout)) (layoutOf (k .args .dst-layout)) s t (c .before .before .offset-delta-elems .result) (omega arith) (omega arith) (k .pre .0) (k .pre .2) (k .pre .1) (k .pre .3) (omega arith) (c .before .before .offset-delta-elems .ensures .0) (c .enum-told .given .1))
+    absurd (shift-kept 64 (comparisonOf 64 (modeOf (k .args .mode))) (layoutOf (k .args .src-layout)) (layoutOf (k .args .dst-layout)) s t (c .before .before .offset-delta-elems .result) (omega arith) (omega arith) (k .pre .0) (k .pre .2) (k .pre .1) (k .pre .3) (omega arith) (c .before .before .offset-delta-elems .ensures .0) (c .enum-told .given .1))
 
 enum-known-shift-2 : tie.Need-enum-known-shift-2
 enum-known-shift-2 c = search needs
 
-div-t17 : tie.Need-div-t17
-div-t17 c = search needs
+div-t18 : tie.Need-div-t18
+div-t18 c = search needs
 
 enum-told-2 : tie.Need-enum-told-2
 enum-told-2 c = search needs
@@ -81,7 +81,7 @@ returns-5 c =
     let s = trailingOf (k .args .src) in
     let t = trailingOf (k .args .dst) in
     simp (ne-eqb (t .elem) 0 (c .before .before .before .before .before .before .before .before .before .if1 .left), le-ltb (s .elem) (t .elem) (c .before .before .before .before .before .before .before .before .if2 .left), eq-eqb (s .elem % t .elem) 0 (c .before .before .before .before .before .before .before .if3 .left))
-    (ap (by-shift (s .elem / t .elem)) (sym (ap shiftIn (c .before .shift2 .given .1)) ∙ shift-told 64 (sameSequence 64) (layoutOf (k .args .src-layout)) (layoutOf (k .args .dst-layout)) s t (c .before .before .before .before .before .before .offset-delta-elems .result) (omega arith) (omega arith) (k .pre .0) (k .pre .2) (k .pre .1) (k .pre .3) (omega arith) (c .before .before .before .before .before .before .offset-delta-elems .ensures .0) (c .before .before .before .before .shift .given .1)))
+    (ap (by-shift (s .elem / t .elem)) (sym (ap shiftIn (c .before .shift2 .given .1)) ∙ shift-told 64 (comparisonOf 64 (modeOf (k .args .mode))) (layoutOf (k .args .src-layout)) (layoutOf (k .args .dst-layout)) s t (c .before .before .before .before .before .before .offset-delta-elems .result) (omega arith) (omega arith) (k .pre .0) (k .pre .2) (k .pre .1) (k .pre .3) (omega arith) (c .before .before .before .before .before .before .offset-delta-elems .ensures .0) (c .before .before .before .before .shift .given .1)))
 
 returns-6 : tie.Need-returns-6
 unfolding unless
@@ -90,7 +90,7 @@ returns-6 c =
     let s = trailingOf (k .args .src) in
     let t = trailingOf (k .args .dst) in
     simp (ne-eqb (t .elem) 0 (c .before .before .before .before .before .before .before .before .if1 .left), le-ltb (s .elem) (t .elem) (c .before .before .before .before .before .before .before .if2 .left), eq-eqb (s .elem % t .elem) 0 (c .before .before .before .before .before .before .if3 .left))
-    (ap (by-shift (s .elem / t .elem)) (sym (ap shiftIn (c .enum-told2 .given .1)) ∙ shift-told 64 (sameSequence 64) (layoutOf (k .args .src-layout)) (layoutOf (k .args .dst-layout)) s t (c .before .before .before .before .before .offset-delta-elems .result) (omega arith) (omega arith) (k .pre .0) (k .pre .2) (k .pre .1) (k .pre .3) (omega arith) (c .before .before .before .before .before .offset-delta-elems .ensures .0) (c .before .before .before .shift .given .1)))
+    (ap (by-shift (s .elem / t .elem)) (sym (ap shiftIn (c .enum-told2 .given .1)) ∙ shift-told 64 (comparisonOf 64 (modeOf (k .args .mode))) (layoutOf (k .args .src-layout)) (layoutOf (k .args .dst-layout)) s t (c .before .before .before .before .before .offset-delta-elems .result) (omega arith) (omega arith) (k .pre .0) (k .pre .2) (k .pre .1) (k .pre .3) (omega arith) (c .before .before .before .before .before .offset-delta-elems .ensures .0) (c .before .before .before .shift .given .1)))
 
 pub compute-unsized-spec : {M : Type 1} → statement M
 compute-unsized-spec =
@@ -105,7 +105,7 @@ compute-unsized-spec =
     enum-told
     returns-4
     enum-known-shift-2
-    div-t17
+    div-t18
     enum-told-2
     returns-5
     returns-6)

@@ -5,7 +5,8 @@ use lib.Dec.{lit<}
 use native.Mathlib.Omega.{arith}
 use Rattle.util_defs.proofs.Refusals.{told-also}
 use Rattle.util_defs.proofs.Tables.{told-by, apart, refused-first, accepted-first, accepted-none}
-use Rattle.trailing_defs.specs.Sequence.{sameSequence}
+use Rattle.shift_defs.specs.Mode.{comparisonOf}
+use Rattle.shift.specs.View.{modeOf}
 use Rattle.layout_defs.specs.Layout.{layoutCauses, checkFor}
 use Rattle.layout.specs.View.{layoutOf, checkSays}
 use Rattle.layout_defs.proofs.Layouts.{layout-decided}
@@ -51,9 +52,9 @@ returns c =
     let k = c .before .before .before .before .before .before .before in
     let s = layoutOf (k .args .src-layout) in
     let t = layoutOf (k .args .dst-layout) in
-    let ds = conversionCauses 64 (sameSequence 64) s t in
-    let q = paramsOf 64 (sameSequence 64) (s .info) t (t .info) in
-    let m = compute-meets 64 (sameSequence 64) s t (omega arith) (omega arith) (lit< tt) in
+    let ds = conversionCauses 64 (comparisonOf 64 (modeOf (k .args .mode))) s t in
+    let q = paramsOf 64 (comparisonOf 64 (modeOf (k .args .mode))) (s .info) t (t .info) in
+    let m = compute-meets 64 (comparisonOf 64 (modeOf (k .args .mode))) s t (omega arith) (omega arith) (lit< tt) in
     told-also m
     (c .compute-answer .ensures
     ∙ sym (accepted-first (layoutCauses 64 s) (layoutCauses 64 t ++ ds) tt q (told-by checkSays (c .before .before .before .before .before .before .check .ensures .0) (c .before .before .before .before .enum-told .given .1)) ∙ accepted-first (layoutCauses 64 t) ds tt q (told-by checkSays (c .before .before .before .check2 .ensures .0) (c .before .enum-told2 .given .1))))
@@ -65,9 +66,9 @@ returns-2 c =
     let k = c .before .before .before .before .before .before .before in
     let s = layoutOf (k .args .src-layout) in
     let t = layoutOf (k .args .dst-layout) in
-    let ds = conversionCauses 64 (sameSequence 64) s t in
-    let q = paramsOf 64 (sameSequence 64) (s .info) t (t .info) in
-    let m = compute-meets 64 (sameSequence 64) s t (omega arith) (omega arith) (lit< tt) in
+    let ds = conversionCauses 64 (comparisonOf 64 (modeOf (k .args .mode))) s t in
+    let q = paramsOf 64 (comparisonOf 64 (modeOf (k .args .mode))) (s .info) t (t .info) in
+    let m = compute-meets 64 (comparisonOf 64 (modeOf (k .args .mode))) s t (omega arith) (omega arith) (lit< tt) in
     told-also m (sym (accepted-first (layoutCauses 64 s) (layoutCauses 64 t ++ ds) tt q (told-by checkSays (c .before .before .before .before .before .before .check .ensures .0) (c .before .before .before .before .enum-told .given .1)) ∙ refused-first (layoutCauses 64 t) ds tt q (told-by checkSays (c .before .before .before .check2 .ensures .0) (c .before .number .given .1))))
     (λ q e. absurd (apart e))
 
@@ -77,9 +78,9 @@ returns-3 c =
     let k = c .before .before .before .before in
     let s = layoutOf (k .args .src-layout) in
     let t = layoutOf (k .args .dst-layout) in
-    let ds = conversionCauses 64 (sameSequence 64) s t in
-    let q = paramsOf 64 (sameSequence 64) (s .info) t (t .info) in
-    let m = compute-meets 64 (sameSequence 64) s t (omega arith) (omega arith) (lit< tt) in
+    let ds = conversionCauses 64 (comparisonOf 64 (modeOf (k .args .mode))) s t in
+    let q = paramsOf 64 (comparisonOf 64 (modeOf (k .args .mode))) (s .info) t (t .info) in
+    let m = compute-meets 64 (comparisonOf 64 (modeOf (k .args .mode))) s t (omega arith) (omega arith) (lit< tt) in
     told-also m (sym (refused-first (layoutCauses 64 s) (layoutCauses 64 t ++ ds) tt q (told-by checkSays (c .before .before .before .check .ensures .0) (c .before .number2 .given .1))))
     (λ q e. absurd (apart e))
 

@@ -3,7 +3,8 @@ use mathlib.Core.Path.{sym, ap, _∙_, subst}
 use lib.Dec.{lit<}
 use native.Mathlib.Omega.{arith}
 use Rattle.util_defs.specs.Refusal.{Outcome}
-use Rattle.trailing_defs.specs.Sequence.{sameSequence}
+use Rattle.shift_defs.specs.Mode.{comparisonOf}
+use Rattle.shift.specs.View.{modeOf}
 use Rattle.layout.specs.View.{layoutOf}
 use Rattle.convert_defs.specs.Convert.{Params}
 use Rattle.guarantee.specs.Demand.{countAfter, Demand3Of}
@@ -36,11 +37,11 @@ returns c =
     let first = c .before .validate-cast-and-convert-metadata .ensures .0 in
     let e = same-answers computed count first (c .validate-cast-and-convert-metadata2 .ensures .0) in (
       e,
-      subst (Demand3Of 64 (sameSequence 64) s t (a .src-meta) (a .addr) (a .bytes-len) (a .more-len)) (sym e)
+      subst (Demand3Of 64 (comparisonOf 64 (modeOf (a .mode))) s t (a .src-meta) (a .addr) (a .bytes-len) (a .more-len)) (sym e)
           (λ q acc.
-          let f = compute-accepts 64 (sameSequence 64) s t q (omega arith) (omega arith) (lit< tt) (acc .source) (acc .target) (acc .converts) in
+          let f = compute-accepts 64 (comparisonOf 64 (modeOf (a .mode))) s t q (omega arith) (omega arith) (lit< tt) (acc .source) (acc .target) (acc .converts) in
           let h = c .before .before .before .try-compute .ensures .1 .1 q (computed ∙ f) in
-          demand-3-at-64 s t (a .src-meta) (a .addr) (a .bytes-len) (a .more-len) (h .0) (h .1) q acc),
+          demand-3-at-64 (modeOf (a .mode)) s t (a .src-meta) (a .addr) (a .bytes-len) (a .more-len) (h .0) (h .1) q acc),
     )
 
 pub convert-and-cast-spec : {M : Type 1} → statement M
