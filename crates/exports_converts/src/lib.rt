@@ -17,6 +17,7 @@ use convert::ComputeAnswer;
 use exports_layouts::Layout;
 use exports_numbers::Number;
 use layout::LayoutAnswer;
+use shift::Mode;
 use util::Answer;
 
 #[repr(C)]
@@ -180,7 +181,7 @@ pub extern "C" fn lukaripe_try_compute(src: Layout, dst: Layout) -> CastParamsOu
 {
     match exports_layouts::layout_in(src) {
         LayoutAnswer::Layout(l) => match exports_layouts::layout_in(dst) {
-            LayoutAnswer::Layout(m) => params_out(convert::try_compute(l, m)),
+            LayoutAnswer::Layout(m) => params_out(convert::try_compute(l, m, Mode::Ported)),
             LayoutAnswer::Refused(refusal) => params_out(ComputeAnswer::Refused(refusal)),
         },
         LayoutAnswer::Refused(refusal) => params_out(ComputeAnswer::Refused(refusal)),

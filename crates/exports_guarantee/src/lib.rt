@@ -15,6 +15,7 @@ use exports_layouts::Layout;
 use exports_numbers::Number;
 use guarantee::Carried;
 use layout::LayoutAnswer;
+use shift::Mode;
 use util::Answer;
 
 #[repr(C)]
@@ -26,7 +27,7 @@ pub struct CarriedOut {
 }
 
 // What the four calls of a conversion and of two casts gave.
-fn carried_out(r: Carried) -> CarriedOut
+pub fn carried_out(r: Carried) -> CarriedOut
     ensures { λ c. ⌜ c ≡ carriedOut (answered (answersIn r)) ⌝ }
 {
     let computed = r.computed;
@@ -42,7 +43,7 @@ fn carried_out(r: Carried) -> CarriedOut
 }
 
 // A layout that is refused refuses all four.
-fn none_carried(refusal: u64) -> CarriedOut
+pub fn none_carried(refusal: u64) -> CarriedOut
     ensures { λ c. ⌜ c ≡ carriedOut (refused refusal) ⌝ }
 {
     CarriedOut {
@@ -71,7 +72,15 @@ pub extern "C" fn lukaripe_convert_and_cast(
     match exports_layouts::layout_in(src) {
         LayoutAnswer::Layout(l) => match exports_layouts::layout_in(dst) {
             LayoutAnswer::Layout(m) => {
-                carried_out(guarantee::convert_and_cast(l, m, src_meta, addr, bytes_len, more_len))
+                carried_out(guarantee::convert_and_cast(
+                    l,
+                    m,
+                    src_meta,
+                    addr,
+                    bytes_len,
+                    more_len,
+                    Mode::Ported,
+                ))
             }
             LayoutAnswer::Refused(refusal) => none_carried(refusal),
         },

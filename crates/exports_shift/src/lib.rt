@@ -1,12 +1,12 @@
 // The match of two trailing layouts for C and Rust: no logic of its own. include/lukaripe.h is its C side. It stands apart,
-// so that
-// what it calls is called once here, and inlined.
+// so that what it calls is called once here, and inlined.
 ghost use mathlib.Core.Path.{_≡_};
 ghost use Rattle.trailing_defs.specs.Sequence.{sameSequence};
 ghost use Rattle.shift_defs.specs.Match.{matchFor};
 ghost use Rattle.exports_numbers.specs.Numbers.{decisionOut, trailingIn};
 use exports_numbers::Number;
 use exports_numbers::Trailing;
+use shift::Mode;
 
 // Whether the target, shifted, is found to have the sizes of the source.
 #[no_mangle]
@@ -21,5 +21,6 @@ pub extern "C" fn lukaripe_size_sequences_match(
         exports_numbers::trailing_in(src),
         exports_numbers::trailing_in(dst),
         dst_base,
+        Mode::Ported,
     ))
 }

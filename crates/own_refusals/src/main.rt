@@ -11,6 +11,7 @@ use layout::SizeInfo;
 use libc::STDOUT_FILENO;
 use record::EncodeAnswer;
 use rounding::RoundingAlignAndPhase;
+use shift::Mode;
 use trailing::TrailingSliceLayout;
 use util::Answer;
 use util::Decision;
@@ -136,7 +137,7 @@ fn added_record(l: DstLayout) -> u64 {
 }
 
 fn computed(src: DstLayout, dst: DstLayout) -> u64 {
-    of_params(convert::try_compute(src, dst))
+    of_params(convert::try_compute(src, dst, Mode::Ported))
 }
 
 fn print_layouts() {
