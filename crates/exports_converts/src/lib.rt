@@ -4,6 +4,8 @@ ghost use Rattle.trailing_defs.specs.Sequence.{sameSequence};
 ghost use Rattle.cast_defs.specs.Cast.{castFor};
 ghost use Rattle.cast_defs.specs.Exact.{exactFor};
 ghost use Rattle.cast.specs.View.{sideOf, castSays};
+ghost use Rattle.shift_defs.specs.Mode.{comparisonOf};
+ghost use Rattle.shift.specs.View.{modeOf};
 ghost use Rattle.convert_defs.specs.Convert.{computeFor, metadataFor};
 ghost use Rattle.convert.specs.View.{paramsIn, computeSays};
 ghost use Rattle.exports_numbers.specs.Numbers.{numberOut};
@@ -174,18 +176,27 @@ pub extern "C" fn lukaripe_metadata_for_exact_size(layout: Layout, size: u64) ->
     }
 }
 
+// The conversion in a mode. An export has its mode as a constant, which the compiler then drops.
+pub fn compute_out(src: Layout, dst: Layout, mode: Mode) -> CastParamsOut
+    ensures { λ r. ⌜
+        r ≡ paramsOut (withLayout 64 src (λ l. withLayout 64 dst (λ m. computeFor 64 (comparisonOf 64 (modeOf mode)) l m)))
+        ⌝ }
+{
+    match exports_layouts::layout_in(src) {
+        LayoutAnswer::Layout(l) => match exports_layouts::layout_in(dst) {
+            LayoutAnswer::Layout(m) => params_out(convert::try_compute(l, m, mode)),
+            LayoutAnswer::Refused(refusal) => params_out(ComputeAnswer::Refused(refusal)),
+        },
+        LayoutAnswer::Refused(refusal) => params_out(ComputeAnswer::Refused(refusal)),
+    }
+}
+
 // How counts of one layout are converted to another.
 #[no_mangle]
 pub extern "C" fn lukaripe_try_compute(src: Layout, dst: Layout) -> CastParamsOut
     ensures { λ r. ⌜ r ≡ paramsOut (withLayout 64 src (λ l. withLayout 64 dst (λ m. computeFor 64 (sameSequence 64) l m))) ⌝ }
 {
-    match exports_layouts::layout_in(src) {
-        LayoutAnswer::Layout(l) => match exports_layouts::layout_in(dst) {
-            LayoutAnswer::Layout(m) => params_out(convert::try_compute(l, m, Mode::Ported)),
-            LayoutAnswer::Refused(refusal) => params_out(ComputeAnswer::Refused(refusal)),
-        },
-        LayoutAnswer::Refused(refusal) => params_out(ComputeAnswer::Refused(refusal)),
-    }
+    compute_out(src, dst, Mode::Ported)
 }
 
 // The converted count.

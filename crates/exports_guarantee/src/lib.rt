@@ -3,6 +3,8 @@
 ghost use mathlib.Core.Path.{_≡_};
 ghost use Rattle.util_defs.specs.Refusal.{answered, refused};
 ghost use Rattle.trailing_defs.specs.Sequence.{sameSequence};
+ghost use Rattle.shift_defs.specs.Mode.{comparisonOf};
+ghost use Rattle.shift.specs.View.{modeOf};
 ghost use Rattle.guarantee.specs.Demand.{answersOf};
 ghost use Rattle.guarantee.specs.View.{answersIn};
 ghost use Rattle.exports_layouts.specs.Layouts.{withLayout};
@@ -27,7 +29,7 @@ pub struct CarriedOut {
 }
 
 // What the four calls of a conversion and of two casts gave.
-pub fn carried_out(r: Carried) -> CarriedOut
+fn carried_out(r: Carried) -> CarriedOut
     ensures { λ c. ⌜ c ≡ carriedOut (answered (answersIn r)) ⌝ }
 {
     let computed = r.computed;
@@ -43,7 +45,7 @@ pub fn carried_out(r: Carried) -> CarriedOut
 }
 
 // A layout that is refused refuses all four.
-pub fn none_carried(refusal: u64) -> CarriedOut
+fn none_carried(refusal: u64) -> CarriedOut
     ensures { λ c. ⌜ c ≡ carriedOut (refused refusal) ⌝ }
 {
     CarriedOut {
@@ -51,6 +53,40 @@ pub fn none_carried(refusal: u64) -> CarriedOut
         count: exports_numbers::number_out(Answer::Refused(refusal)),
         first: exports_converts::cast_out(CastAnswer::Refused(refusal)),
         second: exports_converts::cast_out(CastAnswer::Refused(refusal)),
+    }
+}
+
+// Those in a mode. An export has its mode as a constant, which the compiler then drops.
+pub fn convert_and_cast_out(
+    src: Layout,
+    dst: Layout,
+    src_meta: u64,
+    addr: u64,
+    bytes_len: u64,
+    more_len: u64,
+    mode: Mode,
+) -> CarriedOut
+    ensures { λ r. ⌜
+        r ≡ carriedOut (withLayout 64 src (λ l. withLayout 64 dst (λ m.
+        answered (answersOf 64 (comparisonOf 64 (modeOf mode)) l m «src_meta» addr «bytes_len» «more_len»))))
+        ⌝ }
+{
+    match exports_layouts::layout_in(src) {
+        LayoutAnswer::Layout(l) => match exports_layouts::layout_in(dst) {
+            LayoutAnswer::Layout(m) => {
+                carried_out(guarantee::convert_and_cast(
+                    l,
+                    m,
+                    src_meta,
+                    addr,
+                    bytes_len,
+                    more_len,
+                    mode,
+                ))
+            }
+            LayoutAnswer::Refused(refusal) => none_carried(refusal),
+        },
+        LayoutAnswer::Refused(refusal) => none_carried(refusal),
     }
 }
 
@@ -69,21 +105,5 @@ pub extern "C" fn lukaripe_convert_and_cast(
         answered (answersOf 64 (sameSequence 64) l m «src_meta» addr «bytes_len» «more_len»))))
         ⌝ }
 {
-    match exports_layouts::layout_in(src) {
-        LayoutAnswer::Layout(l) => match exports_layouts::layout_in(dst) {
-            LayoutAnswer::Layout(m) => {
-                carried_out(guarantee::convert_and_cast(
-                    l,
-                    m,
-                    src_meta,
-                    addr,
-                    bytes_len,
-                    more_len,
-                    Mode::Ported,
-                ))
-            }
-            LayoutAnswer::Refused(refusal) => none_carried(refusal),
-        },
-        LayoutAnswer::Refused(refusal) => none_carried(refusal),
-    }
+    convert_and_cast_out(src, dst, src_meta, addr, bytes_len, more_len, Mode::Ported)
 }

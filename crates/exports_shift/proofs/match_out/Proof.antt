@@ -1,12 +1,13 @@
--- `exports_shift::lukaripe_size_sequences_match` meets its contract. Assumes nothing.
+-- `exports_shift::match_out` meets its contract. Assumes nothing.
 use mathlib.Core.Path.{ap, ap₂, _∙_}
 use Rattle.trailing_defs.specs.Size.{Trailing}
-use Rattle.trailing_defs.specs.Sequence.{sameSequence}
 use Rattle.shift_defs.specs.Match.{matchFor}
+use Rattle.shift_defs.specs.Mode.{comparisonOf}
+use Rattle.shift.specs.View.{modeOf}
 use Rattle.exports_numbers.specs.Numbers.{decisionOut}
 use borrow.Author.Needs.{needs}
-use Rattle.exports_shift.proofs.lukaripe_size_sequences_match.Statement.{statement}
-use Rattle.exports_shift.proofs.lukaripe_size_sequences_match.Tie as tie
+use Rattle.exports_shift.proofs.match_out.Statement.{statement}
+use Rattle.exports_shift.proofs.match_out.Tie as tie
 
 trailing-in-requires : tie.Need-trailing-in-requires
 trailing-in-requires c κs = search needs
@@ -22,12 +23,12 @@ decision-out-requires c κs = search needs
 
 returns : tie.Need-returns
 returns c =
-    let d = c .before .before .before .before .args .dst-base in
+    let a = c .before .before .before .before .args in
     c .decision-out .ensures
-    ∙ ap decisionOut (c .before .size-sequences-match .ensures .0 ∙ ap₂ (λ (s t : Trailing). matchFor 64 (sameSequence 64) s t d) (c .before .before .before .trailing-in .ensures) (c .before .before .trailing-in2 .ensures))
+    ∙ ap decisionOut (c .before .size-sequences-match .ensures .0 ∙ ap₂ (λ (s t : Trailing). matchFor 64 (comparisonOf 64 (modeOf (a .mode))) s t (a .dst-base)) (c .before .before .before .trailing-in .ensures) (c .before .before .trailing-in2 .ensures))
 
-pub lukaripe-size-sequences-match-spec : {M : Type 1} → statement M
-lukaripe-size-sequences-match-spec =
+pub match-out-spec : {M : Type 1} → statement M
+match-out-spec =
     tie.close
     (tie.spec
     trailing-in-requires

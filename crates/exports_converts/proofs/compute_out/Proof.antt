@@ -1,15 +1,16 @@
--- `exports_converts::lukaripe_try_compute` meets its contract. Assumes nothing.
+-- `exports_converts::compute_out` meets its contract. Assumes nothing.
 use mathlib.Core.Path.{ap, _∙_}
 use Rattle.layout_defs.specs.Layout.{Layout}
 use Rattle.layout.specs.View.{layoutOf}
-use Rattle.trailing_defs.specs.Sequence.{sameSequence}
+use Rattle.shift_defs.specs.Mode.{comparisonOf}
+use Rattle.shift.specs.View.{modeOf}
 use Rattle.convert_defs.specs.Convert.{computeFor}
 use Rattle.exports_converts.specs.Converts.{paramsOut}
 use Rattle.exports_layouts.specs.Layouts.{withLayout}
 use Rattle.exports_layouts.proofs.Given.{with-layout, with-refused}
 use borrow.Author.Needs.{needs}
-use Rattle.exports_converts.proofs.lukaripe_try_compute.Statement.{statement}
-use Rattle.exports_converts.proofs.lukaripe_try_compute.Tie as tie
+use Rattle.exports_converts.proofs.compute_out.Statement.{statement}
+use Rattle.exports_converts.proofs.compute_out.Tie as tie
 
 layout-in-requires : tie.Need-layout-in-requires
 layout-in-requires c κs = search needs
@@ -47,24 +48,24 @@ returns c =
     let x = layoutOf (c .before .before .before .before .before .before .before .l .given .0 .0) in
     c .params-out .ensures
     ∙ ap paramsOut (c .before .try-compute .ensures .0
-    ∙ with-layout 64 (a .dst) (λ (m : Layout). computeFor 64 (sameSequence 64) x m) (c .before .before .before .before .before .layout-in2 .result) (c .before .before .before .before .before .layout-in2 .ensures) (c .before .before .before .m .given .1)
-    ∙ with-layout 64 (a .src) (λ (l : Layout). withLayout 64 (a .dst) (λ (m : Layout). computeFor 64 (sameSequence 64) l m)) (c .before .before .before .before .before .before .before .before .before .layout-in .result) (c .before .before .before .before .before .before .before .before .before .layout-in .ensures) (c .before .before .before .before .before .before .before .l .given .1))
+    ∙ with-layout 64 (a .dst) (λ (m : Layout). computeFor 64 (comparisonOf 64 (modeOf (a .mode))) x m) (c .before .before .before .before .before .layout-in2 .result) (c .before .before .before .before .before .layout-in2 .ensures) (c .before .before .before .m .given .1)
+    ∙ with-layout 64 (a .src) (λ (l : Layout). withLayout 64 (a .dst) (λ (m : Layout). computeFor 64 (comparisonOf 64 (modeOf (a .mode))) l m)) (c .before .before .before .before .before .before .before .before .before .layout-in .result) (c .before .before .before .before .before .before .before .before .before .layout-in .ensures) (c .before .before .before .before .before .before .before .l .given .1))
 
 returns-2 : tie.Need-returns-2
 returns-2 c =
     let a = c .before .before .before .before .before .before .before .before .before .args in
     let x = layoutOf (c .before .before .before .before .before .before .l .given .0 .0) in
     c .params-out2 .ensures
-    ∙ ap paramsOut (with-refused 64 (a .dst) (λ (m : Layout). computeFor 64 (sameSequence 64) x m) (c .before .before .before .before .layout-in2 .result) (c .before .before .before .before .layout-in2 .ensures) (c .before .before .refusal .given .1)
-    ∙ with-layout 64 (a .src) (λ (l : Layout). withLayout 64 (a .dst) (λ (m : Layout). computeFor 64 (sameSequence 64) l m)) (c .before .before .before .before .before .before .before .before .layout-in .result) (c .before .before .before .before .before .before .before .before .layout-in .ensures) (c .before .before .before .before .before .before .l .given .1))
+    ∙ ap paramsOut (with-refused 64 (a .dst) (λ (m : Layout). computeFor 64 (comparisonOf 64 (modeOf (a .mode))) x m) (c .before .before .before .before .layout-in2 .result) (c .before .before .before .before .layout-in2 .ensures) (c .before .before .refusal .given .1)
+    ∙ with-layout 64 (a .src) (λ (l : Layout). withLayout 64 (a .dst) (λ (m : Layout). computeFor 64 (comparisonOf 64 (modeOf (a .mode))) l m)) (c .before .before .before .before .before .before .before .before .layout-in .result) (c .before .before .before .before .before .before .before .before .layout-in .ensures) (c .before .before .before .before .before .before .l .given .1))
 
 returns-3 : tie.Need-returns-3
 returns-3 c =
     let a = c .before .before .before .before .before .args in
-    c .params-out3 .ensures ∙ ap paramsOut (with-refused 64 (a .src) (λ (l : Layout). withLayout 64 (a .dst) (λ (m : Layout). computeFor 64 (sameSequence 64) l m)) (c .before .before .before .before .layout-in .result) (c .before .before .before .before .layout-in .ensures) (c .before .before .refusal2 .given .1))
+    c .params-out3 .ensures ∙ ap paramsOut (with-refused 64 (a .src) (λ (l : Layout). withLayout 64 (a .dst) (λ (m : Layout). computeFor 64 (comparisonOf 64 (modeOf (a .mode))) l m)) (c .before .before .before .before .layout-in .result) (c .before .before .before .before .layout-in .ensures) (c .before .before .refusal2 .given .1))
 
-pub lukaripe-try-compute-spec : {M : Type 1} → statement M
-lukaripe-try-compute-spec =
+pub compute-out-spec : {M : Type 1} → statement M
+compute-out-spec =
     tie.close
     (tie.spec
     layout-in-requires

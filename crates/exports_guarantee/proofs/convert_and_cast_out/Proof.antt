@@ -1,7 +1,8 @@
--- `exports_guarantee::lukaripe_convert_and_cast` meets its contract. Assumes nothing.
+-- `exports_guarantee::convert_and_cast_out` meets its contract. Assumes nothing.
 use mathlib.Core.Path.{ap, _∙_}
 use Rattle.util_defs.specs.Refusal.{Outcome, answered}
-use Rattle.trailing_defs.specs.Sequence.{sameSequence}
+use Rattle.shift_defs.specs.Mode.{comparisonOf}
+use Rattle.shift.specs.View.{modeOf}
 use Rattle.layout_defs.specs.Layout.{Layout}
 use Rattle.layout.specs.View.{layoutOf}
 use Rattle.guarantee.specs.Demand.{Answers, answersOf}
@@ -9,8 +10,8 @@ use Rattle.exports_layouts.specs.Layouts.{withLayout}
 use Rattle.exports_layouts.proofs.Given.{with-layout, with-refused}
 use Rattle.exports_guarantee.specs.Carried.{carriedOut}
 use borrow.Author.Needs.{needs}
-use Rattle.exports_guarantee.proofs.lukaripe_convert_and_cast.Statement.{statement}
-use Rattle.exports_guarantee.proofs.lukaripe_convert_and_cast.Tie as tie
+use Rattle.exports_guarantee.proofs.convert_and_cast_out.Statement.{statement}
+use Rattle.exports_guarantee.proofs.convert_and_cast_out.Tie as tie
 
 layout-in-requires : tie.Need-layout-in-requires
 layout-in-requires c κs = search needs
@@ -44,7 +45,7 @@ none-carried-requires-2 c κs = search needs
 
 -- the four calls on two layouts
 abbrev calls : tie.Start → Layout → Layout → Outcome Answers
-calls k l m = answered (answersOf 64 (sameSequence 64) l m (k .args .src-meta) (k .args .addr) (k .args .bytes-len) (k .args .more-len))
+calls k l m = answered (answersOf 64 (comparisonOf 64 (modeOf (k .args .mode))) l m (k .args .src-meta) (k .args .addr) (k .args .bytes-len) (k .args .more-len))
 
 returns : tie.Need-returns
 returns c =
@@ -69,8 +70,8 @@ returns-3 c =
     c .none-carried2 .ensures
     ∙ ap carriedOut (with-refused 64 (k .args .src) (λ (l : Layout). withLayout 64 (k .args .dst) (calls k l)) (c .before .before .before .before .layout-in .result) (c .before .before .before .before .layout-in .ensures) (c .before .before .refusal2 .given .1))
 
-pub lukaripe-convert-and-cast-spec : {M : Type 1} → statement M
-lukaripe-convert-and-cast-spec =
+pub convert-and-cast-out-spec : {M : Type 1} → statement M
+convert-and-cast-out-spec =
     tie.close
     (tie.spec
     layout-in-requires
