@@ -199,7 +199,8 @@ fn compute_answer(src_layout: DstLayout, dst_layout: DstLayout, mode: Mode) -> C
 }
 
 // How counts of the first layout are converted to the second, where a value of the first may be read as the second, the sizes
-// being compared as the mode says. What `fits` says is known of every u64 inside a function; a caller's proof, which needs it for the conversion guarantee, has it from here.
+// being compared as the mode says. What `fits` says is known of every u64 inside a function; a caller's proof, which needs it
+// for the conversion guarantee, has it from here.
 pub fn try_compute(src_layout: DstLayout, dst_layout: DstLayout, mode: Mode) -> ComputeAnswer
     ensures answer { λ r. ⌜
         computeSays r ≡ computeFor 64 (comparisonOf 64 (modeOf mode)) (layoutOf «src_layout») (layoutOf «dst_layout»)

@@ -1,5 +1,5 @@
-// Conversions by the full comparison, for C and Rust: no logic of their own. include/lukaripe.h is their C side. They stand apart,
-// so that the conversion of each mode is called once in its unit, and inlined.
+// Conversions by the full comparison, for C and Rust: no logic of their own. include/lukaripe.h is their C side. They stand
+// apart, so that the conversion of each mode is called once in its unit, and inlined.
 ghost use mathlib.Core.Path.{_≡_};
 ghost use Rattle.full_defs.specs.Full.{sizesAgree};
 ghost use Rattle.convert_defs.specs.Convert.{computeFor};

@@ -32,8 +32,8 @@ fn converted_count(computed: ComputeAnswer, src_meta: u64) -> Answer
     }
 }
 
-// Converts src_meta elements of the first layout to the second, in one of the modes, and casts bytes at addr to the second over two
-// lengths. What it promises of the four answers is the conversion guarantee of that mode.
+// Converts src_meta elements of the first layout to the second, in one of the modes, and casts bytes at addr to the second over
+// two lengths. What it promises of the four answers is the conversion guarantee of that mode.
 pub fn convert_and_cast(
     src_layout: DstLayout,
     dst_layout: DstLayout,
