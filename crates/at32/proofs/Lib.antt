@@ -2,6 +2,7 @@
 mod OfUtil
 mod OfRounding
 mod OfTrailing
+mod OfFull
 mod OfLayout
 mod OfPadding
 mod OfMake

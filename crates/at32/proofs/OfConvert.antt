@@ -9,6 +9,8 @@ use Rattle.shift_defs.specs.Match.{Comparison, Sound}
 use Rattle.convert_defs.specs.Convert.{Params, Converts, NoConversion, paramsOf, computeCauses, computeFor, converted, metadataCauses, metadataFor}
 use Rattle.convert_defs.specs.Convert.{KindsConvert, Converted}
 use Rattle.convert_defs.specs.Reasons.{conversionCauses, firstReason, lastReason}
+use Rattle.convert_defs.specs.Modes.{FullKeeps}
+use Rattle.convert_defs.proofs.Modes as Modes
 use Rattle.convert_defs.proofs.Conversions as Conversions
 use Rattle.convert_defs.proofs.Refused as Refused
 use Rattle.convert_defs.proofs.Counts as Counts
@@ -48,3 +50,6 @@ pub count-kept : {i j : Info} {q : Params} (same : Comparison) (a b : ℕ) (k m 
     FitsWidth 32 s → FitsWidth 32 t → None (layoutCauses 32 s) → None (layoutCauses 32 t) → KindsConvert 32 same i j q
     → sizeIn 32 i n ≤ M 32 → Converted 32 i j q n
 count-kept = Counts.count-kept 32
+
+pub full-keeps : 0 < 32 → FullKeeps 32
+full-keeps = Modes.full-keeps 32

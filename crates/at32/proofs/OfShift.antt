@@ -1,13 +1,15 @@
 -- The laws of `shift_defs` at 32 bits: each holds at any width. Assumes nothing.
 use mathlib.Core.Path.{_≡_}
-use mathlib.Core.Bool.{Bool}
+use mathlib.Core.Bool.{Bool, true}
 use Prim.Native.Nat.{ℕ, _+_, _*_, _^_, _<_}
 use Rattle.util_defs.specs.Refusal.{Tells, Meets, None, Decided}
-use Rattle.trailing_defs.specs.Size.{Trailing, sizeAt}
+use Rattle.trailing_defs.specs.Size.{Trailing, sizeAt, HasSize, sizeOffset}
 use Rattle.trailing_defs.specs.Sequence.{EqualSizes, sameSequence}
-use Rattle.trailing_defs.specs.Calls.{sameCauses}
+use Rattle.trailing_defs.specs.Calls.{advanced, sameCauses}
+use Rattle.full_defs.specs.Full.{sizesAgree}
 use Rattle.layout_defs.specs.Layout.{Marks, marks, trailing, Layout, layoutCauses}
-use Rattle.shift_defs.specs.Match.{Comparison, Sound, shifted, Matches, matchTest, matchFor, FoundMatch}
+use Rattle.shift_defs.specs.Mode.{Mode, comparisonOf}
+use Rattle.shift_defs.specs.Match.{Comparison, Sound, shifted, Matches, sameFrom, matchTest, matchFor, FoundMatch}
 use Rattle.shift_defs.specs.Shift.{by, shiftOf, IsShift, IsMultiple, shiftCauses, shiftFor, ShiftMeans}
 use Rattle.shift.specs.View.{shiftIn, shiftSays}
 use Rattle.shift.specs.declared.Shift as Code
@@ -15,11 +17,24 @@ use Rattle.shift.specs.declared.ShiftAnswer.{ShiftAnswer}
 use Rattle.shift.specs.declared.ShiftAnswer.the-variants as Answer
 use Rattle.shift_defs.proofs.Matching as Matching
 use Rattle.shift_defs.proofs.Shifts as Shifts
+use Rattle.shift_defs.proofs.Modes as Modes
 use Rattle.shift_defs.proofs.Shifts.{slice}
 use Rattle.shift.proofs.Told as Told
 
-pub same-sound : Sound 32 (sameSequence 32)
-same-sound = Matching.same-sound 32
+pub mode-sound : (m : Mode) → Sound 32 (comparisonOf 32 m)
+mode-sound = Matching.mode-sound 32
+
+pub tells-from : (same : Comparison) (s u : Trailing) → Tells (HasSize 32 s 0 × (same s u ≡ true)) (sameFrom 32 same s u)
+tells-from = Matching.tells-from 32
+
+pub same-from : (s u : Trailing) → sameSequence 32 s u ≡ sameFrom 32 (sameSequence 32) s u
+same-from = Matching.same-from 32
+
+pub advanced-offset : (t : Trailing) (y e : ℕ) → 0 < t .word → t .word < 2 ^ 32 → sizeOffset 32 (advanced 32 t y e) ≡ sizeOffset 32 t + y
+advanced-offset = Modes.advanced-offset 32
+
+pub shift-stays : (s t : Trailing) → 0 < s .word → s .word < 2 ^ 32 → 0 < t .word → t .word < 2 ^ 32 → (d : ℕ) → IsShift 32 (sameSequence 32) s t d → IsShift 32 (sizesAgree 32) s t d
+shift-stays = Modes.shift-stays 32
 
 pub tells-matches : (same : Comparison) (s t : Trailing) (d : ℕ) → Tells (Matches 32 same s t d) (matchTest 32 same s t d)
 tells-matches = Matching.tells-matches 32

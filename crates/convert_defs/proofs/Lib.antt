@@ -5,3 +5,4 @@ pub mod Refused
 pub mod Counts
 pub mod Numbers
 pub mod Modes
+pub mod ModeRows
