@@ -1,6 +1,6 @@
 -- The laws of `full_defs` at 32 bits: each holds at any width. Assumes nothing.
 use mathlib.Core.Path.{_≡_}
-use mathlib.Core.Bool.{Bool, false}
+use mathlib.Core.Bool.{Bool}
 use Prim.Native.Nat.{ℕ, _+_, _-_, _*_, _%_, _^_, _≤_, _<_}
 use lib.Bits.{bitAnd}
 use lib.Count.{trailingZeros}
@@ -8,12 +8,11 @@ use Rattle.util_defs.specs.Width.{M}
 use Rattle.util_defs.specs.Power.{PowerOfTwo}
 use Rattle.util_defs.specs.Round.{up}
 use Rattle.util_defs.specs.Refusal.{answered, refused, Tells, Meets}
-use Rattle.rounding.specs.Word.{IsWord}
-use Rattle.trailing_defs.specs.Size.{Trailing, A, p, sizeAt}
-use Rattle.trailing_defs.specs.Sequence.{EqualSizes, SameStride, sameStride}
+use Rattle.trailing_defs.specs.Size.{Trailing, A, p, sizeAt, HasSize}
+use Rattle.trailing_defs.specs.Sequence.{EqualSizes, SameStride}
 use Rattle.trailing_defs.specs.Calls.{sameCauses}
 use Rattle.full_defs.specs.Full.{lowestBit, seenPhase, sizesAgree, agreeFor, FoundEqual}
-use Rattle.full_defs.specs.Form.{Form, form, IsNormal, formOf, formCauses, formFor}
+use Rattle.full_defs.specs.Form.{Form, IsNormal, formOf, PastM, formCauses, formFor}
 use Rattle.full_defs.specs.Laws.{FormsAgree, MadeTwice}
 use Rattle.full_defs.proofs.Lowest as Lowest
 use Rattle.full_defs.proofs.Lowest.{LowestBit}
@@ -82,3 +81,6 @@ form-given = Told.form-given 32
 
 pub form-past : (t : Trailing) (f : Form) → 0 < t .word → formOf 32 t ≡ f → M 32 < f .base → formFor 32 t ≡ refused 46
 form-past = Told.form-past 32
+
+pub sized-has-form : (t : Trailing) → 0 < t .word → t .word < 2 ^ 32 → t .base ≤ M 32 → HasSize 32 t 0 → PastM 32 t → ⊥
+sized-has-form = Forms.sized-has-form 32

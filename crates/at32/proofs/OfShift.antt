@@ -8,7 +8,7 @@ use Rattle.trailing_defs.specs.Sequence.{EqualSizes, sameSequence}
 use Rattle.trailing_defs.specs.Calls.{advanced, sameCauses}
 use Rattle.full_defs.specs.Full.{sizesAgree}
 use Rattle.layout_defs.specs.Layout.{Marks, marks, trailing, Layout, layoutCauses}
-use Rattle.shift_defs.specs.Mode.{Mode, comparisonOf}
+use Rattle.shift_defs.specs.Mode.{Mode, full, comparisonOf}
 use Rattle.shift_defs.specs.Match.{Comparison, Sound, shifted, Matches, sameFrom, matchTest, matchFor, FoundMatch}
 use Rattle.shift_defs.specs.Shift.{by, shiftOf, IsShift, IsMultiple, shiftCauses, shiftFor, ShiftMeans}
 use Rattle.shift.specs.View.{shiftIn, shiftSays}
@@ -23,6 +23,9 @@ use Rattle.shift.proofs.Told as Told
 
 pub mode-sound : (m : Mode) → Sound 32 (comparisonOf 32 m)
 mode-sound = Matching.mode-sound 32
+
+pub full-tells : (s t : Trailing) → 0 < s .word → s .word < 2 ^ 32 → 0 < t .word → t .word < 2 ^ 32 → Tells (EqualSizes 32 s t) (comparisonOf 32 full s t)
+full-tells = Matching.full-tells 32
 
 pub tells-from : (same : Comparison) (s u : Trailing) → Tells (HasSize 32 s 0 × (same s u ≡ true)) (sameFrom 32 same s u)
 tells-from = Matching.tells-from 32

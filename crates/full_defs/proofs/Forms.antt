@@ -1,10 +1,10 @@
 -- The normal form: the one computed has the least A, then the least phase, there is no other, and equal forms are equal sizes.
 -- Assumes nothing.
 use mathlib.Core.Path.{_≡_, refl, sym, ap, ap₂, _∙_, subst}
-use mathlib.Core.Bool.{Bool, cond}
-use mathlib.Core.Logic.{_⊎_, inl, inr}
+use mathlib.Core.Bool.{Bool, true, false, cond}
+use mathlib.Core.Logic.{_⊎_, inl, inr, ⊎-elim}
 use Prim.Native.Nat.{ℕ, _+_, _-_, _*_, _%_, _^_, _≤_, _<_}
-use lib.Dec.{ltb}
+use lib.Dec.{eqb, ltb}
 use native.Mathlib.Nat.{le-antisymm, mod-self, mod-eq-of-lt, eq-or-lt-of-le}
 use native.Mathlib.Omega.{arith}
 use Rattle.util_defs.specs.Width.{M}
@@ -15,7 +15,7 @@ use Rattle.util_defs.proofs.Powers.{positive, double}
 use Rattle.util_defs.proofs.Rounding.{multiple, difference-multiple, up-multiple, up-ge, up-near, up-is, up-least, up-whole}
 use Rattle.rounding.specs.Word.{IsWord}
 use Rattle.rounding.proofs.Words.{parts-of, same-align, same-phase, same-word, not-zero, at-parts}
-use Rattle.trailing_defs.specs.Size.{Trailing, A, p, sizeWith, sizeAt}
+use Rattle.trailing_defs.specs.Size.{Trailing, A, p, sizeWith, sizeAt, HasSize}
 use Rattle.trailing_defs.specs.Sequence.{EqualSizes}
 use Rattle.trailing_defs.proofs.Sizes.{size-zero, rounded-zero}
 use Rattle.trailing_defs.proofs.Sequences.{whole-blocks}
@@ -235,6 +235,26 @@ form-meets w t ht =
         tells-as (λ l. record { normal = formOf w t; isNormal = is-normal w t pt ht; past = l })
         (λ x. subst (λ (f : Form). M w < f .base) (one-form (x .normal) (formOf w t) (x .isNormal) (is-normal w t pt ht)) (x .past))
         (tells-lt (M w) (formOf w t .base))
+
+-- the base of a form is the layout's or the size at 0, so that a layout that has a size at 0 has a form
+form-base : (w : ℕ) (t : Trailing) → (formOf w t .base ≡ sizeAt w t 0) ⊎ (formOf w t .base ≡ t .base)
+unfolding formOf
+form-base w t = go (eqb (t .elem % A w t) 0) (eqb (seenPhase w (t .elem) (A w t) (p w t)) 0)
+  where
+    go : (a b : Bool)
+        → let f : Form =
+        cond a (form (sizeAt w t 0) 1 (t .elem))
+        (cond b (form (sizeAt w t 0) (A w t) (t .elem))
+        (form (t .base) (A w t + (up (p w t) (lowestBit w (t .elem)) - lowestBit w (t .elem) + 1)) (t .elem))) in
+        (f .base ≡ sizeAt w t 0) ⊎ (f .base ≡ t .base)
+    go true b = inl refl
+    go false true = inl refl
+    go false false = inr refl
+
+pub sized-has-form : (w : ℕ) (t : Trailing) → 0 < t .word → t .word < 2 ^ w → t .base ≤ M w → HasSize w t 0 → PastM w t → ⊥
+sized-has-form w t pt ht hb h x =
+    let e = ap (λ (f : Form). f .base) (one-form (x .normal) (formOf w t) (x .isNormal) (is-normal w t pt ht)) in
+    ⊎-elim (λ i. omega (arith, e, x .past)) (λ i. omega (arith, e, x .past)) (form-base w t)
 
 -- what is answered is the normal form, no cause of refusal holding
 form-told : {w : ℕ} {t : Trailing} {f : Form} → t .word < 2 ^ w → formFor w t ≡ answered f → None (formCauses w t) × IsNormal w t f

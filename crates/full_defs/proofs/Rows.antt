@@ -35,8 +35,9 @@ forms :
 unfolding formFor formOf unless lowestBit highestBit sizeWith up
 forms = (refl, (refl, (refl, refl)))
 
--- neither layout has a size at 0: the first has a form, and 46 refuses the second
+-- neither layout has a size at 0: the first has a form, and 46 refuses the second, which can be compared all the same
 past-M :
-    (formFor 64 (layout (2 ^ 64 - 8) 8 1 1) ≡ answered (form (2 ^ 64 - 8) 9 1)) × (formFor 64 (layout (2 ^ 64 - 8) 8 1 8) ≡ refused 46)
-unfolding formFor formOf unless lowestBit highestBit sizeWith up
-past-M = (refl, refl)
+    ((formFor 64 (layout (2 ^ 64 - 8) 8 1 1) ≡ answered (form (2 ^ 64 - 8) 9 1)) × (formFor 64 (layout (2 ^ 64 - 8) 8 1 8) ≡ refused 46))
+    × (sizesAgree 64 (layout (2 ^ 64 - 8) 8 1 8) (layout (2 ^ 64 - 4) 4 1 8) ≡ true)
+unfolding sizesAgree formFor formOf unless lowestBit highestBit sizeWith up
+past-M = ((refl, refl), refl)

@@ -17,10 +17,14 @@ use Rattle.shift_defs.specs.Mode.{Mode, ported, full, comparisonOf}
 use Rattle.shift_defs.specs.Match.{Comparison, Sound, shifted, Matches, sameFrom, matchTest, matchFor, FoundMatch}
 use Rattle.shift_defs.specs.Shift.{IsMultiple}
 
+-- the comparison of the full mode tells equal sizes at every count
+pub full-tells : (w : ℕ) (s t : Trailing) → 0 < s .word → s .word < 2 ^ w → 0 < t .word → t .word < 2 ^ w → Tells (EqualSizes w s t) (comparisonOf w full s t)
+full-tells = tells-sizes
+
 -- the comparison of each mode is sound
 pub mode-sound : (w : ℕ) (m : Mode) → Sound w (comparisonOf w m)
 mode-sound w ported s t ps hs pt ht e = same-sizes w s t ps hs pt ht (yes (tells-same w s t) e)
-mode-sound w full s t ps hs pt ht e = yes (tells-sizes w s t ps hs pt ht) e
+mode-sound w full s t ps hs pt ht e = yes (full-tells w s t ps hs pt ht) e
 
 -- what is left of a match once the target is advanced; the ported comparison asks for the size at 0 itself
 pub tells-from : (w : ℕ) (same : Comparison) (s u : Trailing) → Tells (HasSize w s 0 × (same s u ≡ true)) (sameFrom w same s u)
