@@ -2,12 +2,12 @@
 // count of the target at which they are. Each is found by the comparison of a mode.
 ghost use mathlib.Core.Path.{_≡_};
 ghost use Prim.Native.Nat.{_<_};
-ghost use Rattle.full_defs.specs.Full.{sizesAgree};
 ghost use Rattle.util_defs.specs.Refusal.{Meets};
 ghost use Rattle.util.specs.View.{decisionSays};
 ghost use Rattle.trailing_defs.specs.Sequence.{sameSequence};
 ghost use Rattle.trailing_defs.specs.Calls.{sameCauses};
 ghost use Rattle.trailing.specs.View.{trailingOf};
+ghost use Rattle.full_defs.specs.Full.{sizesAgree};
 ghost use Rattle.layout_defs.specs.Layout.{noWord};
 ghost use Rattle.layout.specs.View.{infoOf, layoutOf};
 ghost use Rattle.shift_defs.specs.Match.{sameFrom, matchTest, matchFor, FoundMatch};
