@@ -40,7 +40,7 @@ pub phases-1-2 :
 unfolding powerOfTwo up down unless highestBit lowestBit sizeWith bytesWithin countWithin sameSequence sizesAgree advanced castFor exactFor matchTest shiftOf computeFor
 phases-1-2 = (refl, (refl, refl))
 
--- the smallest pair that the full mode gains, by the second way: d 2, k 1
+-- a pair that the full mode gains, by the second way: d 2, k 1. With elements of one byte it gains none
 pub gained : bothModes (tail 0 7 2) (tail 0 4 2) ≡ (refused 32 ∷ answered (unsizedToUnsized 2 1) ∷ [])
 unfolding powerOfTwo up down unless highestBit lowestBit sizeWith bytesWithin countWithin sameSequence sizesAgree advanced castFor exactFor matchTest shiftOf computeFor
 gained = refl
