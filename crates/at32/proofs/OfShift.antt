@@ -1,6 +1,6 @@
 -- The laws of `shift_defs` at 32 bits: each holds at any width. Assumes nothing.
 use mathlib.Core.Path.{_≡_}
-use mathlib.Core.Bool.{Bool, true}
+use mathlib.Core.Bool.{Bool, true, false}
 use Prim.Native.Nat.{ℕ, _+_, _*_, _^_, _<_}
 use Rattle.util_defs.specs.Refusal.{Tells, Meets, None, Decided}
 use Rattle.trailing_defs.specs.Size.{Trailing, sizeAt, HasSize, sizeOffset}
@@ -10,7 +10,7 @@ use Rattle.full_defs.specs.Full.{sizesAgree}
 use Rattle.layout_defs.specs.Layout.{Marks, marks, trailing, Layout, layoutCauses}
 use Rattle.shift_defs.specs.Mode.{Mode, full, comparisonOf}
 use Rattle.shift_defs.specs.Match.{Comparison, Sound, shifted, Matches, sameFrom, matchTest, matchFor, FoundMatch}
-use Rattle.shift_defs.specs.Shift.{by, shiftOf, IsShift, IsMultiple, shiftCauses, shiftFor, ShiftMeans}
+use Rattle.shift_defs.specs.Shift.{Shift, by, missing, matchedShift, shiftOf, IsShift, IsMultiple, shiftCauses, shiftFor, ShiftMeans}
 use Rattle.shift.specs.View.{shiftIn, shiftSays}
 use Rattle.shift.specs.declared.Shift as Code
 use Rattle.shift.specs.declared.ShiftAnswer.{ShiftAnswer}
@@ -71,3 +71,9 @@ shift-told {d} = Told.shift-told {d = d} 32
 
 pub shift-kept : {k : ℕ} (same : Comparison) (l m : Layout) (s t : Trailing) (r : ShiftAnswer) → l .align < 2 ^ 32 → m .align < 2 ^ 32 → None (layoutCauses 32 l) → None (layoutCauses 32 m) → l .info ≡ trailing s → m .info ≡ trailing t → 0 < t .elem → shiftSays r ≡ shiftFor 32 same l m → r ≡ Answer.Refused k → ⊥
 shift-kept {k} = Told.shift-kept {k = k} 32
+
+pub matched-yes : (same : Comparison) (s t : Trailing) (x : Shift) (d : ℕ) → by d ≡ x → matchTest 32 same s t d ≡ true → by d ≡ matchedShift 32 same s t x
+matched-yes = Shifts.matched-yes 32
+
+pub matched-no : (same : Comparison) (s t : Trailing) (x : Shift) (d : ℕ) → by d ≡ x → matchTest 32 same s t d ≡ false → missing ≡ matchedShift 32 same s t x
+matched-no = Shifts.matched-no 32

@@ -69,26 +69,11 @@ fn found_equal(src: TrailingSliceLayout, other: TrailingSliceLayout) -> bool
     }
 }
 
-// Whether the source has a size at 0 and the comparison of the mode says yes.
-fn found(src: TrailingSliceLayout, other: TrailingSliceLayout, mode: Mode) -> bool
-    requires { ⌜ (0 < trailingOf src .word) × (0 < trailingOf other .word) ⌝ }
-    ensures { λ r. ⌜ r ≡ sameFrom 64 (comparisonOf 64 (modeOf mode)) (trailingOf src) (trailingOf other) ⌝ }
-{
-    match mode {
-        Mode::Ported => found_same(src, other),
-        Mode::Full => found_equal(src, other),
-    }
-}
-
-// Whether the target, advanced by dst_base of its elements and given the source's, is found to have the source's sizes.
-fn sequences_match(
-    src: TrailingSliceLayout,
-    dst: TrailingSliceLayout,
-    dst_base: u64,
-    mode: Mode,
-) -> bool
+// Whether the target, advanced by dst_base of its elements and given the source's, is found to have the source's sizes, by the
+// ported comparison.
+fn sequences_match(src: TrailingSliceLayout, dst: TrailingSliceLayout, dst_base: u64) -> bool
     requires { ⌜ (0 < trailingOf src .word) × (0 < trailingOf dst .word) ⌝ }
-    ensures { λ r. ⌜ r ≡ matchTest 64 (comparisonOf 64 (modeOf mode)) (trailingOf src) (trailingOf dst) «dst_base» ⌝ }
+    ensures { λ r. ⌜ r ≡ matchTest 64 (sameSequence 64) (trailingOf src) (trailingOf dst) «dst_base» ⌝ }
 {
     let Product::Fits(base_bytes) = util::checked_mul(dst_base, dst.elem_size) else {
         return false;
@@ -96,7 +81,21 @@ fn sequences_match(
     let AdvanceAnswer::Layout(shifted_dst) = advance::advance(dst, base_bytes, src.elem_size) else {
         return false;
     };
-    found(src, shifted_dst, mode)
+    found_same(src, shifted_dst)
+}
+
+// The same by the full comparison.
+fn sizes_match(src: TrailingSliceLayout, dst: TrailingSliceLayout, dst_base: u64) -> bool
+    requires { ⌜ (0 < trailingOf src .word) × (0 < trailingOf dst .word) ⌝ }
+    ensures { λ r. ⌜ r ≡ matchTest 64 (sizesAgree 64) (trailingOf src) (trailingOf dst) «dst_base» ⌝ }
+{
+    let Product::Fits(base_bytes) = util::checked_mul(dst_base, dst.elem_size) else {
+        return false;
+    };
+    let AdvanceAnswer::Layout(shifted_dst) = advance::advance(dst, base_bytes, src.elem_size) else {
+        return false;
+    };
+    found_equal(src, shifted_dst)
 }
 
 // The same of any two layouts.
@@ -122,7 +121,10 @@ pub fn size_sequences_match(
     if dst_word.0 == 0 {
         return Decision::Refused(refusal::ROUNDING_WORD_ZERO);
     }
-    Decision::Is(sequences_match(src, dst, dst_base, mode))
+    match mode {
+        Mode::Ported => Decision::Is(sequences_match(src, dst, dst_base)),
+        Mode::Full => Decision::Is(sizes_match(src, dst, dst_base)),
+    }
 }
 
 // The first way: the difference of the size offsets in whole target elements.
@@ -162,8 +164,8 @@ fn offset_delta_by_size(src: TrailingSliceLayout, dst_layout: DstLayout) -> Shif
     }
 }
 
-// The first way, where the sequences match at that shift. Of two such functions each calls the match itself: a function that both
-// called would hand shifts back through memory.
+// The first way, where the sequences match at that shift. Of two such functions each calls the matches itself: a function that
+// both called would hand shifts back through memory, and would keep the mode where it is a constant.
 fn matching_offset(src: TrailingSliceLayout, dst: TrailingSliceLayout, mode: Mode) -> Shift
     requires { ⌜ (0 < trailingOf src .word) × (0 < trailingOf dst .word) × (0 < trailingOf dst .elem) ⌝ }
     ensures { λ r. ⌜
@@ -172,13 +174,22 @@ fn matching_offset(src: TrailingSliceLayout, dst: TrailingSliceLayout, mode: Mod
         ⌝ }
 {
     match exact_offset_delta_elems(src, dst) {
-        Shift::By(elems) => {
-            if sequences_match(src, dst, elems, mode) {
-                Shift::By(elems)
-            } else {
-                Shift::Missing
+        Shift::By(elems) => match mode {
+            Mode::Ported => {
+                if sequences_match(src, dst, elems) {
+                    Shift::By(elems)
+                } else {
+                    Shift::Missing
+                }
             }
-        }
+            Mode::Full => {
+                if sizes_match(src, dst, elems) {
+                    Shift::By(elems)
+                } else {
+                    Shift::Missing
+                }
+            }
+        },
         Shift::Missing => Shift::Missing,
     }
 }
@@ -197,13 +208,22 @@ fn matching_size(
         ⌝ }
 {
     match offset_delta_by_size(src, dst_layout) {
-        Shift::By(count) => {
-            if sequences_match(src, dst, count, mode) {
-                Shift::By(count)
-            } else {
-                Shift::Missing
+        Shift::By(count) => match mode {
+            Mode::Ported => {
+                if sequences_match(src, dst, count) {
+                    Shift::By(count)
+                } else {
+                    Shift::Missing
+                }
             }
-        }
+            Mode::Full => {
+                if sizes_match(src, dst, count) {
+                    Shift::By(count)
+                } else {
+                    Shift::Missing
+                }
+            }
+        },
         Shift::Missing => Shift::Missing,
     }
 }

@@ -1,6 +1,6 @@
 -- The shift as computed and as a statement, over any width and comparison. Assumes nothing.
 use mathlib.Core.Path.{_≡_, refl, sym, ap, _∙_, subst}
-use mathlib.Core.Bool.{Bool, cond, _&&_}
+use mathlib.Core.Bool.{Bool, true, false, cond, _&&_}
 use mathlib.Core.Logic.{inl, inr}
 use Prim.Native.Nat.{ℕ, _+_, _-_, _*_, _/_, _%_, _^_, _≤_, _<_}
 use lib.Dec.{eqb, leb}
@@ -17,7 +17,7 @@ use Rattle.layout_defs.specs.Layout.{Marks, marks, Info, fixed, trailing, Layou
 use Rattle.layout_defs.proofs.Layouts.{layout-decided}
 use Rattle.cast_defs.specs.Exact.{ExactCount, exactFor}
 use Rattle.cast_defs.proofs.Exact.{exact-sound, exact-complete}
-use Rattle.shift_defs.specs.Match.{Comparison, Matches}
+use Rattle.shift_defs.specs.Match.{Comparison, Matches, matchTest}
 use Rattle.shift_defs.specs.Shift.{Shift, by, missing, byOffset, answeredBy, bySize, matchedShift, orElse, shiftOf, IsShift, shiftBetween, shiftCauses, shiftFor, ShiftMeans}
 use Rattle.shift_defs.proofs.Matching.{tells-matches}
 
@@ -148,3 +148,10 @@ unfolding shiftFor
 shift-meets w same s t hs ht pos =
     meets (shiftCauses w s t) (shiftBetween w same (s .info) t (t .info)) (shift-decided w s t hs ht)
     (λ n. shift-means w (t .align) (marks t) same (s .info) (t .info) ht pos (none-both (layoutCauses w s) (layoutCauses w t) n .1))
+
+-- a shift x that is d is kept exactly where the two match at d
+pub matched-yes : (w : ℕ) (same : Comparison) (s t : Trailing) (x : Shift) (d : ℕ) → by d ≡ x → matchTest w same s t d ≡ true → by d ≡ matchedShift w same s t x
+matched-yes w same s t x d e m = sym (ap (λ (b : Bool). cond b (by d) missing) m) ∙ ap (matchedShift w same s t) e
+
+pub matched-no : (w : ℕ) (same : Comparison) (s t : Trailing) (x : Shift) (d : ℕ) → by d ≡ x → matchTest w same s t d ≡ false → missing ≡ matchedShift w same s t x
+matched-no w same s t x d e m = sym (ap (λ (b : Bool). cond b (by d) missing) m) ∙ ap (matchedShift w same s t) e

@@ -11,9 +11,8 @@ use Rattle.trailing.specs.View.{trailingOf}
 use Rattle.trailing_defs.proofs.Calls.{advanced-word}
 use Rattle.trailing.proofs.Told.{advance-told, advance-missing}
 use Rattle.shift_defs.specs.Match.{shifted, sameFrom}
-use Rattle.shift_defs.specs.Mode.{comparisonOf}
-use Rattle.shift_defs.proofs.Matching.{tells-from, tells-matches}
-use Rattle.shift.specs.View.{modeOf}
+use Rattle.trailing_defs.specs.Sequence.{sameSequence}
+use Rattle.shift_defs.proofs.Matching.{same-from, tells-from, tells-matches}
 use borrow.Author.Needs.{needs}
 use Rattle.shift.proofs.sequences_match.Statement.{statement}
 use Rattle.shift.proofs.sequences_match.Tie as tie
@@ -34,7 +33,7 @@ returns c =
     let t = trailingOf (k .args .dst) in
     let d = k .args .dst-base in
     let past = product-past 64 (d * t .elem) (c .before .before .checked-mul .result) (c .before .before .checked-mul .ensures) (c .enum-told .given .1) in
-    sym (told-false (tells-matches 64 (comparisonOf 64 (modeOf (k .args .mode))) s t d) (λ m. omega (arith, m .advance)))
+    sym (told-false (tells-matches 64 (sameSequence 64) s t d) (λ m. omega (arith, m .advance)))
 
 advance-requires : tie.Need-advance-requires
 advance-requires c κs = search needs
@@ -53,10 +52,10 @@ returns-2 c =
     let d = k .args .dst-base in
     let y = product-told 64 (d * t .elem) (c .before .before .before .before .before .before .checked-mul .result) (c .before .before .before .before .before .before .checked-mul .ensures) (c .before .before .before .before .base-bytes .given .1) .0 in
     let past = advance-missing 64 t (c .before .before .before .before .base-bytes .given .0 .0) (s .elem) (c .before .before .advance .result) (k .pre .1) (c .before .before .advance .ensures .0) (c .enum-told2 .given .1) in
-    sym (told-false (tells-matches 64 (comparisonOf 64 (modeOf (k .args .mode))) s t d) (λ m. omega (arith, m .advance)))
+    sym (told-false (tells-matches 64 (sameSequence 64) s t d) (λ m. omega (arith, m .advance)))
 
-found-requires : tie.Need-found-requires
-found-requires c κs =
+found-same-requires : tie.Need-found-same-requires
+found-same-requires c κs =
     let k = c .before .before .before .before .before .before .before .before in
     let s = trailingOf (k .args .src) in
     let t = trailingOf (k .args .dst) in
@@ -70,11 +69,11 @@ returns-3 c =
     let s = trailingOf (k .args .src) in
     let t = trailingOf (k .args .dst) in
     let d = k .args .dst-base in
-    let same = comparisonOf 64 (modeOf (k .args .mode)) in
+    let same = sameSequence 64 in
     let y = product-told 64 (d * t .elem) (c .before .before .before .before .before .before .before .before .checked-mul .result) (c .before .before .before .before .before .before .before .before .checked-mul .ensures) (c .before .before .before .before .before .before .base-bytes .given .1) .0 in
     let a = advance-told 64 t (c .before .before .before .before .before .before .base-bytes .given .0 .0) (s .elem) (c .before .before .before .before .advance .result) (c .before .before .before .before .advance .ensures .0) (c .before .before .shifted-dst .given .1) in
     let i : trailingOf (c .before .before .shifted-dst .given .0 .0) ≡ shifted 64 s t d = a .0 ∙ ap (λ (z : ℕ). advanced 64 t z (s .elem)) y in
-    c .found .ensures ∙ ap (sameFrom 64 same s) i
+    c .found-same .ensures ∙ same-from 64 s (trailingOf (c .before .before .shifted-dst .given .0 .0)) ∙ ap (sameFrom 64 same s) i
     ∙ agree (tells-as (λ x. record { start = x .0; advance = omega (arith, a .1); equal = x .1 }) (λ m. (m .start, m .equal)) (tells-from 64 same s (shifted 64 s t d))) (tells-matches 64 same s t d)
 
 pub sequences-match-spec : {M : Type 1} → statement M
@@ -89,5 +88,5 @@ sequences-match-spec =
     enum-known-shifted-dst
     enum-told-2
     returns-2
-    found-requires
+    found-same-requires
     returns-3)
