@@ -89,10 +89,10 @@ fn sizes_match(src: TrailingSliceLayout, dst: TrailingSliceLayout, dst_base: u64
     requires { ⌜ (0 < trailingOf src .word) × (0 < trailingOf dst .word) ⌝ }
     ensures { λ r. ⌜ r ≡ matchTest 64 (sizesAgree 64) (trailingOf src) (trailingOf dst) «dst_base» ⌝ }
 {
-    let Product::Fits(base_bytes) = util::checked_mul(dst_base, dst.elem_size) else {
+    let Product::Fits(dst_bytes) = util::checked_mul(dst_base, dst.elem_size) else {
         return false;
     };
-    let AdvanceAnswer::Layout(shifted_dst) = advance::advance(dst, base_bytes, src.elem_size) else {
+    let AdvanceAnswer::Layout(shifted_dst) = advance::advance(dst, dst_bytes, src.elem_size) else {
         return false;
     };
     found_equal(src, shifted_dst)

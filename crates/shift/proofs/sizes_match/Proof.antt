@@ -20,8 +20,8 @@ use Rattle.shift.proofs.sizes_match.Tie as tie
 checked-mul-requires : tie.Need-checked-mul-requires
 checked-mul-requires c κs = search needs
 
-enum-known-base-bytes : tie.Need-enum-known-base-bytes
-enum-known-base-bytes c = search needs
+enum-known-dst-bytes : tie.Need-enum-known-dst-bytes
+enum-known-dst-bytes c = search needs
 
 enum-told : tie.Need-enum-told
 enum-told c = search needs
@@ -50,8 +50,8 @@ returns-2 c =
     let s = trailingOf (k .args .src) in
     let t = trailingOf (k .args .dst) in
     let d = k .args .dst-base in
-    let y = product-told 64 (d * t .elem) (c .before .before .before .before .before .before .checked-mul .result) (c .before .before .before .before .before .before .checked-mul .ensures) (c .before .before .before .before .base-bytes .given .1) .0 in
-    let past = advance-missing 64 t (c .before .before .before .before .base-bytes .given .0 .0) (s .elem) (c .before .before .advance .result) (k .pre .1) (c .before .before .advance .ensures .0) (c .enum-told2 .given .1) in
+    let y = product-told 64 (d * t .elem) (c .before .before .before .before .before .before .checked-mul .result) (c .before .before .before .before .before .before .checked-mul .ensures) (c .before .before .before .before .dst-bytes .given .1) .0 in
+    let past = advance-missing 64 t (c .before .before .before .before .dst-bytes .given .0 .0) (s .elem) (c .before .before .advance .result) (k .pre .1) (c .before .before .advance .ensures .0) (c .enum-told2 .given .1) in
     sym (told-false (tells-matches 64 (sizesAgree 64) s t d) (λ m. omega (arith, m .advance)))
 
 found-equal-requires : tie.Need-found-equal-requires
@@ -59,7 +59,7 @@ found-equal-requires c κs =
     let k = c .before .before .before .before .before .before .before .before in
     let s = trailingOf (k .args .src) in
     let t = trailingOf (k .args .dst) in
-    let y = c .before .before .before .before .before .base-bytes .given .0 .0 in
+    let y = c .before .before .before .before .before .dst-bytes .given .0 .0 in
     let a = advance-told 64 t y (s .elem) (c .before .before .before .advance .result) (c .before .before .before .advance .ensures .0) (c .before .shifted-dst .given .1) in
     (k .pre .0, subst (λ (u : Trailing). 0 < u .word) (sym (a .0)) (not-zero (advanced-word 64 t y (s .elem) (k .pre .1) (omega arith))))
 
@@ -70,8 +70,8 @@ returns-3 c =
     let t = trailingOf (k .args .dst) in
     let d = k .args .dst-base in
     let same = sizesAgree 64 in
-    let y = product-told 64 (d * t .elem) (c .before .before .before .before .before .before .before .before .checked-mul .result) (c .before .before .before .before .before .before .before .before .checked-mul .ensures) (c .before .before .before .before .before .before .base-bytes .given .1) .0 in
-    let a = advance-told 64 t (c .before .before .before .before .before .before .base-bytes .given .0 .0) (s .elem) (c .before .before .before .before .advance .result) (c .before .before .before .before .advance .ensures .0) (c .before .before .shifted-dst .given .1) in
+    let y = product-told 64 (d * t .elem) (c .before .before .before .before .before .before .before .before .checked-mul .result) (c .before .before .before .before .before .before .before .before .checked-mul .ensures) (c .before .before .before .before .before .before .dst-bytes .given .1) .0 in
+    let a = advance-told 64 t (c .before .before .before .before .before .before .dst-bytes .given .0 .0) (s .elem) (c .before .before .before .before .advance .result) (c .before .before .before .before .advance .ensures .0) (c .before .before .shifted-dst .given .1) in
     let i : trailingOf (c .before .before .shifted-dst .given .0 .0) ≡ shifted 64 s t d = a .0 ∙ ap (λ (z : ℕ). advanced 64 t z (s .elem)) y in
     c .found-equal .ensures ∙ ap (sameFrom 64 same s) i
     ∙ agree (tells-as (λ x. record { start = x .0; advance = omega (arith, a .1); equal = x .1 }) (λ m. (m .start, m .equal)) (tells-from 64 same s (shifted 64 s t d))) (tells-matches 64 same s t d)
@@ -81,7 +81,7 @@ sizes-match-spec =
     tie.close
     (tie.spec
     checked-mul-requires
-    enum-known-base-bytes
+    enum-known-dst-bytes
     enum-told
     returns
     advance-requires
