@@ -37,9 +37,9 @@
 #include <stdint.h>
 
 #define LUKARIPE_VERSION_MAJOR 0
-#define LUKARIPE_VERSION_MINOR 5
+#define LUKARIPE_VERSION_MINOR 6
 #define LUKARIPE_VERSION_PATCH 0
-#define LUKARIPE_VERSION "0.5.0"
+#define LUKARIPE_VERSION "0.6.0"
 
 /* An answer that is not looked at is a mistake: a refusal would go unseen. */
 #if defined(__GNUC__) || defined(__clang__)
@@ -90,6 +90,7 @@ enum {
     LUKARIPE_REFUSED_WORD_ABOVE_SHORT = 40,
     LUKARIPE_REFUSED_OUTPUT_SHORT = 41,
     LUKARIPE_REFUSED_SPARE_OR_POWER = 42,
+    LUKARIPE_REFUSED_FORM_BASE_PASSES_MAX = 46,
     LUKARIPE_REFUSED_ALIGN_AND_PACKED = 49,
     LUKARIPE_REFUSED_ALIGN_MODIFIER_IN_PACKED = 50
 };
@@ -169,6 +170,8 @@ static inline const char *lukaripe_refusal_text(uint64_t refusal) {
         return "the output is too short";
     case LUKARIPE_REFUSED_SPARE_OR_POWER:
         return "the spare bytes of a short record are not 0, or its power is above 63";
+    case LUKARIPE_REFUSED_FORM_BASE_PASSES_MAX:
+        return "the base of the normal form overflows";
     case LUKARIPE_REFUSED_ALIGN_AND_PACKED:
         return "an alignment and a packing are both asked for";
     case LUKARIPE_REFUSED_ALIGN_MODIFIER_IN_PACKED:
@@ -251,8 +254,28 @@ LUKARIPE_USE_RESULT lukaripe_number lukaripe_size_for_elems(lukaripe_trailing la
 LUKARIPE_USE_RESULT lukaripe_trailing_answer lukaripe_advance(lukaripe_trailing layout, uint64_t bytes,
                                                               uint64_t elem_size);
 
-/* Whether the two are found to have the same size at every count. A no does not mean that they have not. Refusals: 2. */
+/* Whether the two are found to have the same size at every count. A no does not mean that they have not:
+ * lukaripe_sizes_agree tells. Refusals: 2. */
 LUKARIPE_USE_RESULT lukaripe_number lukaripe_has_same_size_sequence(lukaripe_trailing layout, lukaripe_trailing other);
+
+/* Whether the two have the same size at every count, as numbers without an end: a size above 2^64 - 1 is compared too. A yes
+ * and a no both mean it. The offsets do not enter it. Refusals: 2 of either. */
+LUKARIPE_USE_RESULT lukaripe_number lukaripe_sizes_agree(lukaripe_trailing first, lukaripe_trailing second);
+
+/* A normal form: base, word and element size alone. A trailing layout with these three, and any offset, has the sizes that
+ * the form is of. */
+typedef struct {
+    uint64_t refusal;
+    uint64_t size_base;
+    uint64_t elem_size;
+    uint64_t word;
+} lukaripe_normal_form_answer;
+
+/* The normal form: of all bases, alignments and phases that give the layout's sizes with its elements, the one with the least
+ * alignment, then the least phase. Two layouts that have forms have equal ones exactly when lukaripe_sizes_agree says yes of
+ * them, so forms may be compared, sorted and hashed in the place of layouts. Every layout that has a size at 0 has one.
+ * Refusals: 2, 46. */
+LUKARIPE_USE_RESULT lukaripe_normal_form_answer lukaripe_normal_form(lukaripe_trailing layout);
 
 /* ---- layouts ---- */
 
@@ -467,9 +490,18 @@ typedef struct {
 LUKARIPE_USE_RESULT lukaripe_number lukaripe_size_sequences_match(lukaripe_trailing src, lukaripe_trailing dst,
                                                                   uint64_t dst_base);
 
+/* The same by the full comparison, which lukaripe_sizes_agree is: whether src has a size at 0, dst can be so advanced, and
+ * their sizes then are equal at every count. Refusals: 2. */
+LUKARIPE_USE_RESULT lukaripe_number lukaripe_size_sequences_match_full(lukaripe_trailing src, lukaripe_trailing dst,
+                                                                       uint64_t dst_base);
+
 /* How counts of src are converted to counts of dst that have the same size. Refusals: layout refusals, of src and then of
  * dst; then why there is no conversion, 25 to 32. */
 LUKARIPE_USE_RESULT lukaripe_cast_params_answer lukaripe_try_compute(lukaripe_layout src, lukaripe_layout dst);
+
+/* The same in the full mode, where lukaripe_size_sequences_match_full decides. What the above accepts it accepts with the same
+ * parameters, and it accepts more; the shifts that are tried are the same two. Refusals: the same. */
+LUKARIPE_USE_RESULT lukaripe_cast_params_answer lukaripe_try_compute_full(lukaripe_layout src, lukaripe_layout dst);
 
 /* The count that src_meta becomes. Refusals: 19. */
 LUKARIPE_USE_RESULT lukaripe_number lukaripe_cast_metadata(lukaripe_cast_params params, uint64_t src_meta);
@@ -489,6 +521,11 @@ typedef struct {
  * and then of dst, in all four; else each as its own function. */
 LUKARIPE_USE_RESULT lukaripe_carried lukaripe_convert_and_cast(lukaripe_layout src, lukaripe_layout dst, uint64_t src_meta,
                                                                uint64_t addr, uint64_t bytes_len, uint64_t more_len);
+
+/* The same in the full mode, by lukaripe_try_compute_full, of which the same is proved. Refusals: the same. */
+LUKARIPE_USE_RESULT lukaripe_carried lukaripe_convert_and_cast_full(lukaripe_layout src, lukaripe_layout dst,
+                                                                    uint64_t src_meta, uint64_t addr, uint64_t bytes_len,
+                                                                    uint64_t more_len);
 
 #ifdef __cplusplus
 }

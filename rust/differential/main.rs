@@ -6,6 +6,7 @@
 mod answer;
 #[path = "../lukaripe/src/exports.rs"]
 mod exports;
+mod full;
 mod guarantee;
 mod inputs;
 mod kinds;
@@ -13,6 +14,7 @@ mod layouts;
 mod lent;
 mod lists;
 mod moves;
+mod plain_full;
 mod plain_places;
 mod plain_short;
 mod random;
@@ -173,14 +175,16 @@ impl Tried<'_> {
             let of_steps = runs::counted().into_iter().filter(|(_, count, _)| *count == 0);
             empty.extend(of_steps.map(|(outcome, ..)| format!("{}, each step {outcome}", self.row.name)));
         }
-        let of_moves = self.moves().into_iter().filter(|(_, count)| *count == 0);
-        empty.extend(of_moves.map(|(outcome, _)| format!("{}: {outcome}", self.row.name)));
+        let besides = self.besides().into_iter().filter(|(_, count)| *count == 0);
+        empty.extend(besides.map(|(outcome, _)| format!("{}: {outcome}", self.row.name)));
         empty
     }
 
-    /// What is counted of a move besides: how long its output was, and its records.
-    fn moves(&self) -> Vec<(String, u64)> {
-        [&moves::TO, &moves::FROM].into_iter().find(|way| way.name == self.row.name).map_or(Vec::new(), moves::counted)
+    /// What is counted besides: of a move how long its output was, and its records; of the full comparison and mode how
+    /// they differ from the ported ones.
+    fn besides(&self) -> Vec<(String, u64)> {
+        let way = [&moves::TO, &moves::FROM].into_iter().find(|way| way.name == self.row.name);
+        way.map_or_else(|| full::counted(self.row.name), moves::counted)
     }
 
     /// Whether its inputs are runs of additions, of which each step is counted too.
@@ -238,7 +242,7 @@ fn report(tried: &[Tried], seed: u64, progress: &Progress) {
         report_steps();
     }
     for one in tried {
-        for (outcome, count) in one.moves() {
+        for (outcome, count) in one.besides() {
             line(&format!("{}, besides", one.row.name), &outcome, "-", &count.to_string());
         }
     }

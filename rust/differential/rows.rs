@@ -2,6 +2,7 @@
 
 mod cast;
 mod convert;
+mod full;
 mod layout;
 mod record;
 mod rounding;
@@ -27,6 +28,7 @@ pub const LAYERS: &[&[Row]] = &[
     short::ROWS,
     cast::ROWS,
     convert::ROWS,
+    full::ROWS,
 ];
 
 pub struct Row {

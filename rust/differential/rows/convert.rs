@@ -272,7 +272,7 @@ fn by_difference(src: [u64; 4], dst: [u64; 4], shift: u64) -> bool {
 // ---- where to aim ----
 
 /// A source that matches the target from a count on, or comes close.
-fn at_a_match(random: &mut Random, inputs: &mut [u64]) {
+pub fn at_a_match(random: &mut Random, inputs: &mut [u64]) {
     let (src, shift) = source_for(random, trailing_of(&inputs[4..]));
     inputs[..4].copy_from_slice(&src);
     inputs[8] = shift;
@@ -280,7 +280,7 @@ fn at_a_match(random: &mut Random, inputs: &mut [u64]) {
 }
 
 /// A source that converts to the target, or comes close.
-fn at_a_conversion(random: &mut Random, inputs: &mut [u64]) {
+pub fn at_a_conversion(random: &mut Random, inputs: &mut [u64]) {
     let dst = layout_of(&inputs[6..]);
     if is_fixed(dst[1]) {
         inputs[1] = random.one_of(&FIXED_KINDS);
@@ -310,7 +310,7 @@ fn at_a_chain(random: &mut Random, inputs: &mut [u64]) {
 }
 
 /// The size, or next to it, or with room for more, mostly for some elements.
-fn a_length(random: &mut Random, size: u64, elem_size: u64) -> u64 {
+pub fn a_length(random: &mut Random, size: u64, elem_size: u64) -> u64 {
     match random.below(4) {
         0 => size,
         1 => random.near(size),
@@ -320,7 +320,7 @@ fn a_length(random: &mut Random, size: u64, elem_size: u64) -> u64 {
 }
 
 /// Mostly aligned; or such that as many bytes end at M, or just past it.
-fn an_address(random: &mut Random, align: u64, len: u64) -> u64 {
+pub fn an_address(random: &mut Random, align: u64, len: u64) -> u64 {
     match random.below(8) {
         0 => random.near(u64::MAX - len),
         1 => (u64::MAX - len) & align.wrapping_neg(),
@@ -330,7 +330,7 @@ fn an_address(random: &mut Random, align: u64, len: u64) -> u64 {
 }
 
 /// Changes one number a little, in one case of four.
-fn spoil(random: &mut Random, inputs: &mut [u64]) {
+pub fn spoil(random: &mut Random, inputs: &mut [u64]) {
     if random.one_in(4) {
         let at = random.below(inputs.len() as u64) as usize;
         inputs[at] = random.near(inputs[at]);

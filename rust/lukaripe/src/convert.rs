@@ -34,7 +34,7 @@ impl CastParams {
         })
     }
 
-    fn from_words([kind, offset_delta_elems, elem_multiple, dst_meta]: [u64; 4]) -> CastParams {
+    pub(crate) fn from_words([kind, offset_delta_elems, elem_multiple, dst_meta]: [u64; 4]) -> CastParams {
         match kind {
             0 => SizedToSized,
             1 => SizedToUnsized { dst_meta },
@@ -70,7 +70,8 @@ impl CastParams {
     /// these that holds: [`Refusal::SourceAlignLower`]; of two fixed sizes [`Refusal::FixedSizesDiffer`]; from a run of
     /// elements to a fixed size [`Refusal::TrailingToFixed`]; from a fixed size to a run of elements
     /// [`Refusal::SourceNoExactCount`]; between two runs of elements [`Refusal::TargetElemSizeZero`],
-    /// [`Refusal::SourceElemSmaller`], [`Refusal::ElemNoMultiple`], [`Refusal::NoShift`].
+    /// [`Refusal::SourceElemSmaller`], [`Refusal::ElemNoMultiple`], [`Refusal::NoShift`]. Of those refused for the last
+    /// [`CastParams::try_compute_in`] accepts more.
     pub fn try_compute(src: Layout, dst: Layout) -> Result<CastParams> {
         exports::lukaripe_try_compute(src.words(), dst.words()).answer().map(CastParams::from_words)
     }
@@ -162,11 +163,16 @@ pub struct Carried {
 ///
 /// A layout that is refused, `src` before `dst`, refuses all four.
 pub fn convert_and_cast(src: Layout, dst: Layout, src_meta: u64, addr: u64, bytes_len: u64, more_len: u64) -> Carried {
-    let told = exports::lukaripe_convert_and_cast(src.words(), dst.words(), src_meta, addr, bytes_len, more_len);
-    Carried {
-        computed: told.computed.answer().map(CastParams::from_words),
-        count: told.count.number(),
-        first: Cast::told(told.first),
-        second: Cast::told(told.second),
+    Carried::told(exports::lukaripe_convert_and_cast(src.words(), dst.words(), src_meta, addr, bytes_len, more_len))
+}
+
+impl Carried {
+    pub(crate) fn told(told: exports::Carried) -> Carried {
+        Carried {
+            computed: told.computed.answer().map(CastParams::from_words),
+            count: told.count.number(),
+            first: Cast::told(told.first),
+            second: Cast::told(told.second),
+        }
     }
 }

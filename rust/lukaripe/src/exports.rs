@@ -58,6 +58,9 @@ unsafe extern "C" {
     pub safe fn lukaripe_size_for_elems(layout: Trailing, elems: u64) -> Told<1>;
     pub safe fn lukaripe_advance(layout: Trailing, bytes: u64, elem_size: u64) -> Told<4>;
     pub safe fn lukaripe_has_same_size_sequence(layout: Trailing, other: Trailing) -> Told<1>;
+    pub safe fn lukaripe_sizes_agree(first: Trailing, second: Trailing) -> Told<1>;
+    // size_base, elem_size, word.
+    pub safe fn lukaripe_normal_form(layout: Trailing) -> Told<3>;
 
     // ---- whole layouts ----
 
@@ -133,9 +136,19 @@ unsafe extern "C" {
     // ---- conversions ----
 
     pub safe fn lukaripe_size_sequences_match(src: Trailing, dst: Trailing, dst_base: u64) -> Told<1>;
+    pub safe fn lukaripe_size_sequences_match_full(src: Trailing, dst: Trailing, dst_base: u64) -> Told<1>;
     pub safe fn lukaripe_try_compute(src: Layout, dst: Layout) -> Told<4>;
+    pub safe fn lukaripe_try_compute_full(src: Layout, dst: Layout) -> Told<4>;
     pub safe fn lukaripe_cast_metadata(params: CastParams, src_meta: u64) -> Told<1>;
     pub safe fn lukaripe_convert_and_cast(
+        src: Layout,
+        dst: Layout,
+        src_meta: u64,
+        addr: u64,
+        bytes_len: u64,
+        more_len: u64,
+    ) -> Carried;
+    pub safe fn lukaripe_convert_and_cast_full(
         src: Layout,
         dst: Layout,
         src_meta: u64,

@@ -29,9 +29,11 @@
 //! - [`Layout`]: the layout of a type, made of numbers, of a Rust type or of members ([`for_repr_c_struct`], and
 //!   [`for_repr_c_struct_strict`], which refuses what the Rust Reference forbids); [`for_repr_c_struct_places`] also
 //!   says where each member is placed, and [`Working`] takes them one by one.
-//! - [`Trailing`]: the run of elements at the end of a layout, its sizes and its padding.
+//! - [`Trailing`]: the run of elements at the end of a layout, its sizes and its padding; [`Trailing::sizes_agree`] and
+//!   [`NormalForm`]: whether two have the same sizes.
 //! - [`Layout::validate_cast_and_convert_metadata`]: whether bytes hold such a record, and with how many elements.
-//! - [`CastParams`]: whether one record may be read as another, and with how many elements; [`convert_and_cast`].
+//! - [`CastParams`]: whether one record may be read as another, and with how many elements; [`convert_and_cast`];
+//!   [`Mode`]: by which comparison of sizes.
 //! - [`Layout::to_bytes`] and [`Layout::from_bytes`]: layouts as records of 48 bytes; [`Layout::to_short_bytes`] and
 //!   [`Layout::from_short_bytes`]: as short records of 32; [`records_to_short`] and [`records_from_short`]: lists of
 //!   either moved to the other form.
@@ -46,6 +48,7 @@ mod exports;
 mod cast;
 mod compose;
 mod convert;
+mod full;
 mod helpers;
 mod layout;
 mod record;
@@ -62,6 +65,7 @@ pub use compose::{compose, compose_records, for_repr_c_struct, for_repr_c_struct
 pub use compose::{for_repr_c_struct_places, for_repr_c_struct_places_into, for_repr_c_struct_places_records, Placed};
 pub use compose::{for_repr_c_struct_strict, for_repr_c_struct_strict_records};
 pub use convert::{convert_and_cast, size_sequences_match, Carried, CastParams};
+pub use full::{convert_and_cast_in, size_sequences_match_in, Mode, NormalForm};
 pub use helpers::{is_power_of_two, max, min, padding_needed_for, round_down_to_next_multiple_of_alignment};
 pub use layout::{Layout, SizeInfo};
 pub use record::RECORD_LENGTH;

@@ -80,6 +80,7 @@ refusals! {
     WordAboveShort = 40, "the rounding word needs more than the 32 bits of a short record";
     OutputShort = 41, "the output is too short";
     SpareOrPower = 42, "the spare bytes of a short record are not 0, or its power is above 63";
+    FormBasePassesMax = 46, "the base of the normal form overflows";
     AlignAndPacked = 49, "an alignment and a packing are both asked for";
     AlignModifierInPacked = 50, "a member of a packed struct has an alignment modifier";
 }

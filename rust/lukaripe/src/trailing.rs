@@ -147,7 +147,8 @@ impl Trailing {
         exports::lukaripe_advance(self.words(), bytes, elem_size).answer().map(Trailing::from_words)
     }
 
-    /// Whether the two are found to have the same size at every count. A no does not mean that they have not.
+    /// Whether the two are found to have the same size at every count. A no does not mean that they have not:
+    /// [`Trailing::sizes_agree`] tells.
     ///
     /// ```
     /// use lukaripe::{Refusal, RoundingAlignAndPhase, Trailing};

@@ -23,6 +23,7 @@ STRUCTS = {
     "Components": "lukaripe_components",
     "Trailing": "lukaripe_trailing",
     "TrailingAnswer": "lukaripe_trailing_answer",
+    "NormalFormOut": "lukaripe_normal_form_answer",
     "Layout": "lukaripe_layout",
     "LayoutOut": "lukaripe_layout_answer",
     "ComposedOut": "lukaripe_composed",

@@ -39,6 +39,7 @@ fn structs() -> Vec<String> {
         of_struct::<Told<2>>("components"),
         of_struct::<Trailing>("trailing"),
         of_struct::<Told<4>>("trailing_answer"),
+        of_struct::<Told<3>>("normal_form_answer"),
         of_struct::<exports::Layout>("layout"),
         of_struct::<Told<6>>("layout_answer"),
         of_struct::<Told<7>>("composed"),

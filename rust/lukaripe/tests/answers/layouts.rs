@@ -1,6 +1,6 @@
 //! Whole layouts, records, casts and conversions.
 
-use super::{decision, number, shorts, told, Inputs};
+use super::{decision, full, number, shorts, told, Inputs};
 use lukaripe::*;
 use std::num::NonZeroU64;
 
@@ -187,7 +187,7 @@ fn cast(answer: Result<Cast>) -> Vec<u64> {
     told(answer.map(|cast| [cast.count, cast.split]))
 }
 
-fn cast_params(answer: Result<CastParams>) -> Vec<u64> {
+pub fn cast_params(answer: Result<CastParams>) -> Vec<u64> {
     told(answer.map(|params| match params {
         CastParams::SizedToSized => [0, 0, 0, 0],
         CastParams::SizedToUnsized { dst_meta } => [1, 0, 0, dst_meta],
@@ -195,7 +195,7 @@ fn cast_params(answer: Result<CastParams>) -> Vec<u64> {
     }))
 }
 
-fn carried(answer: Carried) -> Vec<u64> {
+pub fn carried(answer: Carried) -> Vec<u64> {
     [cast_params(answer.computed), number(answer.count), cast(answer.first), cast(answer.second)].concat()
 }
 
@@ -229,6 +229,7 @@ pub fn call(function: u64, i: &mut Inputs) -> Option<Vec<u64>> {
         37 => worked_by_record(i)?,
         38 => begun(i.asked()),
         39..=42 => shorts::call(function, i)?,
+        43..=47 => full::call(function, i)?,
         _ => panic!("no function {function}"),
     })
 }

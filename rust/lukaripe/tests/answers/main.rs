@@ -3,6 +3,7 @@
 //! tools/wrapper-test runs this: LUKARIPE_ANSWERS names the file. How a line reads is written in
 //! rust/differential/recorded.rs.
 
+mod full;
 mod layouts;
 mod shorts;
 
@@ -11,7 +12,7 @@ use std::collections::BTreeSet;
 use std::{env, fs};
 
 /// The functions have the numbers from 1 to this.
-const FUNCTIONS: u64 = 42;
+const FUNCTIONS: u64 = 47;
 
 /// The inputs of a line that are left.
 struct Inputs<'a>(std::slice::Iter<'a, u64>);
