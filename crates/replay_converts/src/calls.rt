@@ -109,20 +109,27 @@ fn second(line: &[u64; WIDTH]) -> Layout {
     }
 }
 
-fn matched(line: &[u64; WIDTH]) -> Number {
-    let src = Trailing {
+// The same of trailing layouts.
+fn first_tail(line: &[u64; WIDTH]) -> Trailing {
+    Trailing {
         size_base: line[1],
         offset: line[2],
         elem_size: line[3],
         word: line[4],
-    };
-    let dst = Trailing {
+    }
+}
+
+fn second_tail(line: &[u64; WIDTH]) -> Trailing {
+    Trailing {
         size_base: line[5],
         offset: line[6],
         elem_size: line[7],
         word: line[8],
-    };
-    exports_shift::lukaripe_size_sequences_match(src, dst, line[9])
+    }
+}
+
+fn matched(line: &[u64; WIDTH]) -> Number {
+    exports_shift::lukaripe_size_sequences_match(first_tail(line), second_tail(line), line[9])
 }
 
 fn converted(line: &[u64; WIDTH]) -> Number {
@@ -155,6 +162,30 @@ fn carried(line: &[u64; WIDTH]) -> CarriedOut {
     )
 }
 
+// In the full mode.
+fn matched_full(line: &[u64; WIDTH]) -> Number {
+    exports_shift_full::lukaripe_size_sequences_match_full(
+        first_tail(line),
+        second_tail(line),
+        line[9],
+    )
+}
+
+fn computed_full(line: &[u64; WIDTH]) -> CastParamsOut {
+    exports_converts_full::lukaripe_try_compute_full(first(line), second(line))
+}
+
+fn carried_full(line: &[u64; WIDTH]) -> CarriedOut {
+    exports_guarantee_full::lukaripe_convert_and_cast_full(
+        first(line),
+        second(line),
+        line[13],
+        line[14],
+        line[15],
+        line[16],
+    )
+}
+
 // What the function of the line tells.
 pub(crate) fn call(line: &[u64; WIDTH]) -> Told {
     match line[0] {
@@ -167,6 +198,9 @@ pub(crate) fn call(line: &[u64; WIDTH]) -> Told {
         31 => tell_params(exports_converts::lukaripe_try_compute(first(line), second(line))),
         32 => tell_number(5, converted(line)),
         33 => tell_carried(carried(line)),
+        45 => tell_number(9, matched_full(line)),
+        46 => tell_params(computed_full(line)),
+        47 => tell_carried(carried_full(line)),
         _ => tell_none(),
     }
 }

@@ -1,5 +1,6 @@
 // A function for each recorded function: it takes the inputs from the line and tells the answer as a line has it.
 // The number of a function and the order of its inputs are those of rust/differential/recorded.rs and its rows.
+use exports_full::NormalFormOut;
 use exports_numbers::Components;
 use exports_numbers::Number;
 use exports_numbers::Trailing;
@@ -76,6 +77,28 @@ fn tell_trailing(a: TrailingAnswer) -> Told {
     }
 }
 
+fn tell_form(f: NormalFormOut) -> Told {
+    Told {
+        inputs: 4,
+        length: 4,
+        numbers: [
+            f.refusal,
+            f.size_base,
+            f.elem_size,
+            f.word,
+            0,
+            0,
+            0,
+            0,
+            0,
+            0,
+            0,
+            0,
+            0,
+        ],
+    }
+}
+
 // The layout that the inputs start with, and one behind it.
 fn first(line: &[u64; WIDTH]) -> Trailing {
     Trailing {
@@ -137,7 +160,18 @@ fn trailing(line: &[u64; WIDTH]) -> Told {
     }
 }
 
+fn full(line: &[u64; WIDTH]) -> Told {
+    match line[0] {
+        43 => tell_number(
+            8,
+            exports_full::lukaripe_sizes_agree(first(line), second(line)),
+        ),
+        44 => tell_form(exports_full::lukaripe_normal_form(first(line))),
+        _ => trailing(line),
+    }
+}
+
 // What the function of the line tells.
 pub(crate) fn call(line: &[u64; WIDTH]) -> Told {
-    trailing(line)
+    full(line)
 }
