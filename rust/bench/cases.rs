@@ -159,6 +159,21 @@ pub fn moves(set: Set, records: usize) -> Vec<Case> {
     cases
 }
 
+/// Cases with a source and a target that the full mode alone converts: elements of half a block, and of the source a
+/// phase in the second half of its first block, which has the sizes of a whole block more.
+pub fn gained(set: Set) -> Vec<Case> {
+    let mut random = Random::new(set as u64);
+    let mut cases = cases(set);
+    for case in &mut cases {
+        let half = 2 * align(&mut random, set);
+        let base = case.size;
+        let phase = half + 1 + random.below(half - 1);
+        case.source = Words([8, 3, base, 0, half, 2 * half + phase]);
+        case.whole = Words([8, 3, base, 0, half, 2 * half]);
+    }
+    cases
+}
+
 fn drawn(set: Set, cases: usize, members: usize) -> Vec<Case> {
     let mut random = Random::new(set as u64);
     std::iter::repeat_with(|| draw(&mut random, set, members)).flatten().take(cases).collect()

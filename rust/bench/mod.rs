@@ -7,6 +7,7 @@
 mod cases;
 #[path = "../lukaripe/src/exports.rs"]
 mod exports;
+mod full;
 mod plain;
 #[path = "../differential/random.rs"]
 mod random;

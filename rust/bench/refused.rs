@@ -40,6 +40,9 @@ pub const ALIGNS: &[Spoil] = &[(1, |c| c.align = 0), (1, |c| c.other_align *= 3)
 pub const ROUNDING: &[Spoil] = &[(1, |c| c.align = 0), (1, |c| c.align *= 3), (3, |c| c.phase += c.align)];
 pub const TAIL: &[Spoil] = &[(2, |c| c.tail.0[3] = 0)];
 pub const TAILS: &[Spoil] = &[(2, |c| c.tail.0[3] = 0), (2, |c| c.other_tail.0[3] = 0)];
+/// The base of the second is the size at 0, since the alignment 2 divides the element size.
+pub const FORM: &[Spoil] =
+    &[(2, |c| c.tail.0[3] = 0), (46, |c| c.tail.0 = [u64::MAX, c.tail.0[1], 2 * c.tail.0[2], 3])];
 pub const ROOM: &[Spoil] = &[(2, |c| c.tail.0[3] = 0), (16, |c| c.len = c.tail.0[0] - 1)];
 pub const COUNT: &[Spoil] = &[
     (2, |c| c.tail.0[3] = 0),
@@ -124,6 +127,8 @@ pub const CONVERT: &[Spoil] = layouts![source, whole;
     }),
     (32, |c| c.source.0[2] = 0)
 ];
+/// Blocks of the target that begin between those of the source.
+pub const APART: &[Spoil] = &[(32, |c| c.whole.0[2] += 1)];
 pub const CONVERTED: &[Spoil] = &[
     (19, |c| {
         c.params.0[2] = 2;

@@ -1,9 +1,9 @@
 //! The table of functions: how each side of one is called on a case.
 
-use super::cases::{cases, lists, moves, Case, Set};
+use super::cases::{cases, gained, lists, moves, Case, Set};
 use super::exports::*;
 use super::refused::*;
-use super::{go_through, plain, tested};
+use super::{full, go_through, plain, tested};
 use crate::RoundingAlignAndPhase;
 use core::cell::Cell;
 
@@ -133,6 +133,10 @@ pub fn rows() -> Vec<Row> {
         row!("has_same_size_sequence", cases, TAILS, f, c =>
             [lukaripe_has_same_size_sequence, tested::has_same_size_sequence], f(c.tail, c.other_tail);
             plain::has_same_size_sequence as fn(_, _) -> _, f(c.tail_n, c.other_tail_n)),
+        row!("sizes_agree", cases, TAILS, f, c =>
+            [lukaripe_sizes_agree, full::sizes_agree], f(c.tail, c.other_tail);),
+        row!("normal_form", cases, FORM, f, c =>
+            [lukaripe_normal_form, full::normal_form], f(c.tail);),
         row!("new_zst", cases, ASKED, f, c =>
             [lukaripe_new_zst, tested::new_zst], f(c.packing);
             plain::new_zst as fn(_) -> _, f(c.packing_n)),
@@ -241,6 +245,12 @@ pub fn rows() -> Vec<Row> {
         row!("try_compute", cases, CONVERT, f, c =>
             [lukaripe_try_compute, tested::try_compute], f(c.source, c.whole);
             plain::try_compute as fn(&_, &_) -> _, f(&c.source_n, &c.whole_n)),
+        row!("size_sequences_match_full", cases, SOURCE_TAIL, f, c =>
+            [lukaripe_size_sequences_match_full, full::size_sequences_match], f(c.source_tail, c.tail, c.shift);),
+        row!("try_compute_full", cases, CONVERT, f, c =>
+            [lukaripe_try_compute_full, full::try_compute], f(c.source, c.whole);),
+        row!("try_compute_full, gained", gained, APART, f, c =>
+            [lukaripe_try_compute_full, full::try_compute], f(c.source, c.whole);),
         row!("cast_metadata", cases, CONVERTED, f, c =>
             [lukaripe_cast_metadata, tested::cast_metadata], f(c.params, c.code);
             plain::cast_metadata as fn(_, _) -> _, f(c.params(), c.code as usize)),

@@ -33,7 +33,7 @@ fn rounding(word: u64) -> Result<RoundingAlignAndPhase, u64> {
 }
 
 #[inline]
-fn tail(Words([size_base, offset, elem_size, word]): Trailing) -> Result<TrailingSliceLayout, u64> {
+pub fn tail(Words([size_base, offset, elem_size, word]): Trailing) -> Result<TrailingSliceLayout, u64> {
     Ok(TrailingSliceLayout {
         offset: offset as usize,
         elem_size: elem_size as usize,
@@ -58,7 +58,7 @@ fn asked_modifier(repr_align: u64) -> u64 {
 }
 
 #[inline]
-fn layout(Words([align, kind, size_base, offset, elem_size, word]): Layout) -> Result<DstLayout, u64> {
+pub fn layout(Words([align, kind, size_base, offset, elem_size, word]): Layout) -> Result<DstLayout, u64> {
     if kind > 7 {
         return Err(21);
     }
@@ -132,7 +132,7 @@ fn composed(strict: bool, repr_align: u64, repr_packed: u64, members: &[u8]) -> 
 // ---- the answers of the C interface ----
 
 #[inline]
-fn told<const N: usize>(says: Says<N>) -> Told<N> {
+pub fn told<const N: usize>(says: Says<N>) -> Told<N> {
     match says {
         Ok(values) => Told { refusal: 0, values },
         Err(refusal) => Told { refusal, values: [0; N] },
@@ -147,6 +147,17 @@ fn told_at(says: Result<(DstLayout, u64), (u64, u64)>) -> Told<7> {
             Told { refusal: 0, values: [0, align, kind, size_base, offset, elem_size, word] }
         }
         Err((refusal, place)) => Told { refusal, values: [place, 0, 0, 0, 0, 0, 0] },
+    }
+}
+
+#[inline]
+pub fn params_told(params: CastParamsInner) -> [u64; 4] {
+    match params {
+        CastParamsInner::SizedToSized => [0, 0, 0, 0],
+        CastParamsInner::SizedToUnsized { dst_meta } => [1, 0, 0, dst_meta as u64],
+        CastParamsInner::UnsizedToUnsized { offset_delta_elems, elem_multiple } => {
+            [2, offset_delta_elems as u64, elem_multiple as u64, 0]
+        }
     }
 }
 
@@ -279,14 +290,7 @@ functions! {
     }
     try_compute(src: Layout, dst: Layout) -> 4 {
         let (src, dst) = (layout(src)?, layout(dst)?);
-        let params = CastParams::try_compute_or_why(&src, &dst)?;
-        Ok(match params.inner {
-            CastParamsInner::SizedToSized => [0, 0, 0, 0],
-            CastParamsInner::SizedToUnsized { dst_meta } => [1, 0, 0, dst_meta as u64],
-            CastParamsInner::UnsizedToUnsized { offset_delta_elems, elem_multiple } => {
-                [2, offset_delta_elems as u64, elem_multiple as u64, 0]
-            }
-        })
+        Ok(params_told(CastParams::try_compute_or_why(&src, &dst)?.inner))
     }
     cast_metadata(params: Words<4>, count: u64) -> 1 {
         let Words([kind, shift, multiple, meta]) = params;
