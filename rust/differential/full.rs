@@ -125,12 +125,12 @@ pub fn carried(inputs: &[u64]) -> Answer {
     let answer = Answer::from(told);
     let [.., first_refusal, first, _, second_refusal, second, _] = answer.values;
     if gained && answer.values[4] == 0 {
-        count(CARRIED, "in the full mode alone, with a count");
+        count(CARRIED, "full mode alone, with a count");
         if first_refusal == 0 && first >= answer.values[5] {
-            count(CARRIED, "in the full mode alone, the first cast keeps it");
+            count(CARRIED, "full mode alone, the first cast keeps it");
         }
         if second_refusal == 0 && first_refusal == 0 && second >= first && first >= answer.values[5] {
-            count(CARRIED, "in the full mode alone, the second cast too");
+            count(CARRIED, "full mode alone, the second cast too");
         }
     }
     Answer { broken: guarantee::broken(inputs, &answer).or(beside), ..answer }
@@ -172,9 +172,9 @@ pub fn counted(function: &str) -> Vec<(String, u64)> {
             "fixed to trailing",
             "trailing to trailing, in both modes",
             "trailing to trailing, in the full mode alone",
-            "in the full mode alone, with a count",
-            "in the full mode alone, the first cast keeps it",
-            "in the full mode alone, the second cast too",
+            "full mode alone, with a count",
+            "full mode alone, the first cast keeps it",
+            "full mode alone, the second cast too",
         ],
         _ => &[],
     };

@@ -48,7 +48,8 @@ impl NormalForm {
     /// let text = Trailing { size_base: 8, offset: 9, elem_size: 4, size_rounding_align_and_phase: word };
     /// let form = text.normal_form()?;
     /// // Elements of 4 bytes fill blocks of 4, so nothing needs rounding.
-    /// let plain = Trailing { size_base: 12, size_rounding_align_and_phase: RoundingAlignAndPhase::new(1, 0)?, ..text };
+    /// let word = RoundingAlignAndPhase::new(1, 0)?;
+    /// let plain = Trailing { size_base: 12, size_rounding_align_and_phase: word, ..text };
     /// assert_eq!(form.with_offset(9), plain);
     /// assert_eq!(form.with_offset(9).normal_form()?, form);
     /// # Ok::<(), lukaripe::Refusal>(())
@@ -150,8 +151,8 @@ impl CastParams {
     }
 }
 
-/// [`size_sequences_match`] in a mode. In [`Mode::Full`] it says yes exactly when `src` has a size at count 0, `dst` can
-/// be so advanced, and the sizes then are equal at every count.
+/// [`size_sequences_match`] in a mode. In [`Mode::Full`] it says yes exactly when `src` has a size at count 0, `dst`
+/// can be so advanced, and the sizes then are equal at every count.
 ///
 /// ```
 /// use lukaripe::{size_sequences_match_in, Mode, Refusal, RoundingAlignAndPhase, Trailing};
