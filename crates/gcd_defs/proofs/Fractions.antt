@@ -1,0 +1,93 @@
+-- Laws of fractions in lowest terms. Assumes nothing.
+use mathlib.Core.Path.{_≡_, refl, sym, subst, ap, _∙_}
+use mathlib.Core.Bool.{Bool, true, false, cond}
+use Prim.Native.Nat.{ℕ, zero, suc, _+_, _*_, _/_, _%_, _≤_, _<_, _∣_}
+use native.Mathlib.Nat.{dvd-add-iff-right, dvd-antisymm, dvd-mul-left, dvd-mul-right, dvd-mul-left-of-dvd, dvd-one, dvd-of-mul-dvd-mul-right, mul-dvd-mul-right, div-mul-cancel, div-add-mod', pos-of-dvd-of-pos, mod-lt, eq-of-mul-eq-mul-right, one-mul, mul-one}
+use native.Mathlib.Omega.{arith}
+use lib.Dec.{eqb}
+use borrow.Author.Tests.{eqb-false}
+use Rattle.gcd_defs.specs.Gcd.{byRemainders, gcd}
+use Rattle.gcd_defs.specs.Fraction.{Fraction, LowestTerms, reduced}
+use Rattle.gcd_defs.proofs.Divisors.{gcd-is}
+
+-- what divides k times a and k times b divides k times their greatest common divisor
+remainders-scaled : (j k a b d : ℕ) → b < j → d ∣ k * a → d ∣ k * b → d ∣ k * byRemainders j a b
+unfolding byRemainders
+remainders-scaled zero k a b d h p q = absurd (omega arith)
+remainders-scaled (suc j) k a b d h p q = go (eqb b 0) refl (λ l r. remainders-scaled j k b (a % b) d l q r)
+  where
+    whole : k * a ≡ a / b * (k * b) + k * (a % b)
+    whole = ap (λ (z : ℕ). k * z) (sym (div-add-mod' a b)) ∙ omega arith
+
+    rest : d ∣ k * (a % b)
+    rest = dvd-add-iff-right d (dvd-mul-left-of-dvd d q (a / b)) .1 (subst (λ (z : ℕ). d ∣ z) whole p)
+
+    go : (t : Bool) → eqb b 0 ≡ t → (a % b < j → d ∣ k * (a % b) → d ∣ k * byRemainders j b (a % b)) → d ∣ k * cond t a (byRemainders j b (a % b))
+    go true e f = p
+    go false e f =
+        let n = eqb-false b 0 e in
+        let pos : 0 < b = omega (arith, n) in
+        f (omega (arith, mod-lt a pos)) rest
+
+scaled : (k a b d : ℕ) → d ∣ k * a → d ∣ k * b → d ∣ k * gcd a b
+unfolding gcd
+scaled k a b d p q = remainders-scaled (suc b) k a b d (omega arith) p q
+
+-- the quotient in lowest terms, where it is no division by 0
+pub lowest-terms : (a b : ℕ) → 0 < b → LowestTerms a b (reduced a b)
+lowest-terms a b h =
+    let g = gcd a b in
+    let d = gcd-is a b in
+    let x : a / g * g ≡ a = div-mul-cancel g (d .left) in
+    let y : b / g * g ≡ b = div-mul-cancel g (d .right) in
+    let pos : 0 < g = pos-of-dvd-of-pos (d .right) h in
+    record {
+      divides = below x y;
+      equal = ap (λ (z : ℕ). a / g * z) (sym y) ∙ crossed (a / g) (b / g) g ∙ ap (λ (z : ℕ). z * (b / g)) x;
+      lowest = λ k p q. common k p q x y pos;
+    }
+  where
+    below : a / gcd a b * gcd a b ≡ a → b / gcd a b * gcd a b ≡ b → 0 < b / gcd a b
+    below x y = go (b / gcd a b) refl
+      where
+        go : (z : ℕ) → b / gcd a b ≡ z → 0 < z
+        go zero e = let n : 0 * gcd a b ≡ b = ap (λ (z : ℕ). z * gcd a b) (sym e) ∙ y in absurd (omega arith)
+        go (suc z) e = omega arith
+
+    crossed : (u v g : ℕ) → u * (v * g) ≡ u * g * v
+    crossed u v g = omega arith
+
+    common : (k : ℕ) → k ∣ a / gcd a b → k ∣ b / gcd a b → a / gcd a b * gcd a b ≡ a → b / gcd a b * gcd a b ≡ b → 0 < gcd a b → k ≡ 1
+    common k p q x y pos =
+        let g = gcd a b in
+        let s : k * g ∣ a = subst (λ (z : ℕ). k * g ∣ z) x (mul-dvd-mul-right k p g) in
+        let t : k * g ∣ b = subst (λ (z : ℕ). k * g ∣ z) y (mul-dvd-mul-right k q g) in
+        let u : k * g ∣ 1 * g = subst (λ (z : ℕ). k * g ∣ z) (sym (one-mul g)) (gcd-is a b .greatest (k * g) s t) in
+        dvd-one .0 (dvd-of-mul-dvd-mul-right k pos u)
+
+-- where two fractions are equal, what is below the one that is in lowest terms divides what is below the other
+under-divides : (f h : Fraction) → f .over * h .under ≡ h .over * f .under → ((d : ℕ) → d ∣ f .over → d ∣ f .under → d ≡ 1) → f .under ∣ h .under
+under-divides f h e c =
+    let g = gcd-is (f .over) (f .under) in
+    let one : gcd (f .over) (f .under) ≡ 1 = c (gcd (f .over) (f .under)) (g .left) (g .right) in
+    let p : f .under ∣ h .under * f .over = subst (λ (z : ℕ). f .under ∣ z) (sym e ∙ omega arith) (dvd-mul-left (f .under) (h .over)) in
+    let s = scaled (h .under) (f .over) (f .under) (f .under) p (dvd-mul-left (f .under) (h .under)) in
+    subst (λ (z : ℕ). f .under ∣ z) (ap (λ (z : ℕ). h .under * z) one ∙ mul-one (h .under)) s
+
+-- it is one fraction
+pub one-fraction : {a b : ℕ} {f h : Fraction} → 0 < b → LowestTerms a b f → LowestTerms a b h → f ≡ h
+one-fraction {a} {b} {f} {h} pos x y = λ i. record { over = over i; under = under i }
+  where
+    cross : f .over * h .under ≡ h .over * f .under
+    cross =
+        eq-of-mul-eq-mul-right b pos (f .over * h .under) (h .over * f .under)
+        (swap (f .over) (h .under) b ∙ ap (λ (z : ℕ). z * h .under) (x .equal) ∙ swap a (f .under) (h .under) ∙ ap (λ (z : ℕ). z * f .under) (sym (y .equal)) ∙ swap (h .over) b (f .under))
+      where
+        swap : (u v z : ℕ) → u * v * z ≡ u * z * v
+        swap u v z = omega arith
+
+    under : f .under ≡ h .under
+    under = dvd-antisymm (under-divides f h cross (x .lowest)) (under-divides h f (sym cross) (y .lowest))
+
+    over : f .over ≡ h .over
+    over = eq-of-mul-eq-mul-right (f .under) (x .divides) (f .over) (h .over) (ap (λ (z : ℕ). f .over * z) under ∙ cross)

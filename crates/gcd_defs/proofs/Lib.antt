@@ -1,0 +1,3 @@
+-- Laws that the crates above cite.
+pub mod Divisors
+pub mod Fractions

@@ -1,0 +1,1 @@
+// No code: the definitions of the greatest common divisor and of fractions, and their laws.
