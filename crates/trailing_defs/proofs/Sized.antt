@@ -17,7 +17,7 @@ use Rattle.trailing_defs.specs.Calls.{sizeCauses, sizeFor}
 use Rattle.trailing_defs.specs.Sized.{SizeOutcome, sized, noneAbove, refusedBy, sizeGiven, Most, SizeMeans, has, above, refuses}
 use Rattle.trailing_defs.proofs.Sizes.{count-mono, greatest-count, one-count}
 
-tells-no-size : (w : ℕ) (t : Trailing) (n : ℕ) → Tells (HasSize w t n → ⊥) (ltb (M w) (sizeAt w t n))
+pub tells-no-size : (w : ℕ) (t : Trailing) (n : ℕ) → Tells (HasSize w t n → ⊥) (ltb (M w) (sizeAt w t n))
 tells-no-size w t n = tells-as (λ l h. omega arith) (λ m. omega (arith, m)) (tells-lt (M w) (sizeAt w t n))
 
 pub size-meets : (w : ℕ) (t : Trailing) (n : ℕ) → Meets (sizeCauses w t n) (λ s. s ≡ sizeAt w t n) (sizeFor w t n)
