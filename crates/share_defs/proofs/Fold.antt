@@ -3,6 +3,7 @@ use mathlib.Core.Path.{_≡_, refl, sym, subst, ap, _∙_}
 use mathlib.Core.Bool.{Bool, true, false, cond}
 use mathlib.Core.List.{List, [], _∷_, map}
 use Prim.Native.Nat.{ℕ, zero, suc, _+_, _≤_, _<_}
+use native.Mathlib.Numerals.{add-one}
 use native.Mathlib.Omega.{arith}
 use borrow.Author.Tests.{ltb-true, ltb-false}
 use lib.Dec.{ltb}
@@ -22,12 +23,12 @@ module _ (w : ℕ) (t : Trailing) where
       (tells-no-size w t 0, λ _. (tells-no-size w t n, λ _. (tells-lt (sizeAt w t n) (endAt t n), λ _. (tells-or (tells-lt (M w) s) (tells-lt (M w) q), λ _. tt))))
 
   add-meets : (i n : ℕ) (x : Totals)
-      → Meets (countCauses w t n (x .sizes + sizeAt w t n) (x .paddings + wholePadding w t n)) (λ y. y ≡ withCount w t i n x) (addCount w t i n x)
+      → Meets (countCauses w t n (x .sizes + sizeAt w t n) (x .paddings + wholePadding w t n)) (λ y. y ≡ withCount i (sizeAt w t n) (wholePadding w t n) x) (addCount w t i n x)
   unfolding addCount
   add-meets i n x =
       let s = x .sizes + sizeAt w t n in
       let q = x .paddings + wholePadding w t n in
-      meets (countCauses w t n s q) (withCount w t i n x) (count-decided n s q) (λ _. refl)
+      meets (countCauses w t n s q) (withCount i (sizeAt w t n) (wholePadding w t n) x) (count-decided n s q) (λ _. refl)
 
   -- what refuses the count with the index j of a list, behind sums s and q
   abbrev pub causesFrom : (s q : ℕ) → List ℕ → ℕ → List Cause
@@ -42,15 +43,15 @@ module _ (w : ℕ) (t : Trailing) where
   -- the totals where nothing refuses
   abbrev pub final : ℕ → List ℕ → Totals → Totals
   final i [] x = x
-  final i (n ∷ ns) x = final (suc i) ns (withCount w t i n x)
+  final i (n ∷ ns) x = final (suc i) ns (withCount i (sizeAt w t n) (wholePadding w t n) x)
 
   pub final-sizes : (i : ℕ) (ns : List ℕ) (x : Totals) → final i ns x .sizes ≡ x .sizes + totalSize w t ns
   final-sizes i [] x = omega arith
-  final-sizes i (n ∷ ns) x = omega (arith, final-sizes (suc i) ns (withCount w t i n x))
+  final-sizes i (n ∷ ns) x = omega (arith, final-sizes (suc i) ns (withCount i (sizeAt w t n) (wholePadding w t n) x))
 
   pub final-paddings : (i : ℕ) (ns : List ℕ) (x : Totals) → final i ns x .paddings ≡ x .paddings + totalPadding w t ns
   final-paddings i [] x = omega arith
-  final-paddings i (n ∷ ns) x = omega (arith, final-paddings (suc i) ns (withCount w t i n x))
+  final-paddings i (n ∷ ns) x = omega (arith, final-paddings (suc i) ns (withCount i (sizeAt w t n) (wholePadding w t n) x))
 
   -- what the fold means: it stops at the first count that is refused, else no count is
   pub record StopsFrom (i : ℕ) (ns : List ℕ) (x : Totals) (k p : ℕ) : Type 0 where
@@ -82,7 +83,7 @@ module _ (w : ℕ) (t : Trailing) where
       all m h f (suc j) l = ahead j (f j (omega arith))
 
       next : None (countCauses w t n (x .sizes + sizeAt w t n) (x .paddings + wholePadding w t n)) → (p : Placed Totals)
-          → FoldMeans (suc i) ns (withCount w t i n x) p → FoldMeans i (n ∷ ns) x p
+          → FoldMeans (suc i) ns (withCount i (sizeAt w t n) (wholePadding w t n) x) p → FoldMeans i (n ∷ ns) x p
       next h (reached z) f = (all (length ns) (here h) (f .0), f .1)
       next h (stopped k p) s = record {
         after = suc (s .after);
@@ -92,7 +93,7 @@ module _ (w : ℕ) (t : Trailing) where
         first = first-at k (getD ns (s .after) 0) (omega arith) (omega arith) (s .first);
       }
 
-      go : {o : Outcome Totals} → Meets (countCauses w t n (x .sizes + sizeAt w t n) (x .paddings + wholePadding w t n)) (λ y. y ≡ withCount w t i n x) o
+      go : {o : Outcome Totals} → Meets (countCauses w t n (x .sizes + sizeAt w t n) (x .paddings + wholePadding w t n)) (λ y. y ≡ withCount i (sizeAt w t n) (wholePadding w t n) x) o
           → ((y : Totals) → FoldMeans (suc i) ns y (totalsFrom w t (suc i) ns y)) → FoldMeans i (n ∷ ns) x (atPlace i o (λ y. totalsFrom w t (suc i) ns y))
       go (answers {x = y} h e) f =
           next h (totalsFrom w t (suc i) ns y) (subst (λ (z : Totals). FoldMeans (suc i) ns z (totalsFrom w t (suc i) ns y)) e (f y))
@@ -106,10 +107,11 @@ module _ (w : ℕ) (t : Trailing) where
 
   -- one count of a list, and the end of it
   pub totals-on : (ns : List ℕ) (i : ℕ) (x y : Totals) → i < length ns → addCount w t i (getD ns i 0) x ≡ answered y
-      → totalsFrom w t i (drop i ns) x ≡ totalsFrom w t (suc i) (drop (suc i) ns) y
+      → totalsFrom w t i (drop i ns) x ≡ totalsFrom w t (i + 1) (drop (i + 1) ns) y
   unfolding totalsFrom
   totals-on ns i x y l e =
       ap (λ (z : List ℕ). totalsFrom w t i z x) (drop-cons ns i 0 l) ∙ ap (λ (o : Outcome Totals). atPlace i o (λ y. totalsFrom w t (suc i) (drop (suc i) ns) y)) e
+      ∙ ap (λ (k : ℕ). totalsFrom w t k (drop k ns) y) (sym (add-one i))
 
   pub totals-off : {k : ℕ} (ns : List ℕ) (i : ℕ) (x : Totals) → i < length ns → addCount w t i (getD ns i 0) x ≡ refused k
       → totalsFrom w t i (drop i ns) x ≡ stopped k i

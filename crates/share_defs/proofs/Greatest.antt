@@ -9,7 +9,7 @@ use lib.Dec.{ltb}
 use lib.ListN.{length, getD}
 use Rattle.util_defs.specs.Refusal.{Tells, holds, fails}
 use Rattle.util_defs.proofs.Refusals.{tells-lt}
-use Rattle.trailing_defs.specs.Size.{Trailing}
+use Rattle.trailing_defs.specs.Size.{Trailing, sizeAt}
 use Rattle.share_defs.specs.Totals.{wholePadding, Totals, withCount}
 use Rattle.share_defs.specs.Meaning.{FirstGreatest}
 use Rattle.share_defs.proofs.Fold.{final}
@@ -49,7 +49,7 @@ pub ends : (w : ℕ) (t : Trailing) (i : ℕ) (ns : List ℕ) (x : Totals)
     → Ends (x .greatest) (x .index) i (map (wholePadding w t) ns) (final w t i ns x .greatest) (final w t i ns x .index)
 ends w t i [] x = kept refl refl (λ m h. absurd (omega arith))
 ends w t i (n ∷ ns) x =
-    ends-step (x .greatest) (x .index) i (wholePadding w t n) (map (wholePadding w t) ns) (ends w t (suc i) ns (withCount w t i n x))
+    ends-step (x .greatest) (x .index) i (wholePadding w t n) (map (wholePadding w t) ns) (ends w t (suc i) ns (withCount i (sizeAt w t n) (wholePadding w t n) x))
 
 -- begun at 0 it is the first greatest of a list that is not empty
 pub first-greatest : {g k : ℕ} (qs : List ℕ) → 0 < length qs → Ends 0 0 0 qs g k → FirstGreatest qs g k

@@ -5,3 +5,4 @@ pub mod Paddings
 pub mod Meaning
 pub mod Order
 pub mod Bounds
+pub mod Told

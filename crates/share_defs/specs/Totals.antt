@@ -57,18 +57,19 @@ pub record Totals : Type 0 where
 abbrev pub noTotals : Totals
 noTotals = record { sizes = 0; paddings = 0; greatest = 0; index = 0 }
 
--- those with the count n of the index i: only a padding above the greatest so far takes its place
-abbrev pub withCount : ℕ → Trailing → (i n : ℕ) → Totals → Totals
-withCount w t i n x = record {
-  sizes = x .sizes + sizeAt w t n;
-  paddings = x .paddings + wholePadding w t n;
-  greatest = cond (ltb (x .greatest) (wholePadding w t n)) (wholePadding w t n) (x .greatest);
-  index = cond (ltb (x .greatest) (wholePadding w t n)) i (x .index);
+-- those with one count more, of the index i, the size s and the padding q: only a padding above the greatest takes its place
+abbrev pub withCount : (i s q : ℕ) → Totals → Totals
+withCount i s q x = record {
+  sizes = x .sizes + s;
+  paddings = x .paddings + q;
+  greatest = cond (ltb (x .greatest) q) q (x .greatest);
+  index = cond (ltb (x .greatest) q) i (x .index);
 }
 
 unfoldable pub addCount : ℕ → Trailing → (i n : ℕ) → Totals → Outcome Totals
 addCount w t i n x =
-    unless (countCauses w t n (x .sizes + sizeAt w t n) (x .paddings + wholePadding w t n)) (withCount w t i n x)
+    unless (countCauses w t n (x .sizes + sizeAt w t n) (x .paddings + wholePadding w t n))
+    (withCount i (sizeAt w t n) (wholePadding w t n) x)
 
 -- counts in turn, of which the first has the index i
 unfoldable pub totalsFrom : ℕ → Trailing → ℕ → List ℕ → Totals → Placed Totals

@@ -76,3 +76,9 @@ pub const FORM_BASE_PASSES_MAX: u64 = 46;
 pub const ALIGN_AND_PACKED: u64 = 49;
 // A packed composition takes a member with an alignment modifier.
 pub const ALIGN_MODIFIER_IN_PACKED: u64 = 50;
+// There are no counts.
+pub const NO_COUNTS: u64 = 51;
+// The end of the elements is above the size.
+pub const END_ABOVE_SIZE: u64 = 52;
+// A sum over counts passes the greatest number.
+pub const SUM_PASSES_MAX: u64 = 53;
