@@ -42,7 +42,7 @@ lowest-terms a b h =
     let y : b / g * g ≡ b = div-mul-cancel g (d .right) in
     let pos : 0 < g = pos-of-dvd-of-pos (d .right) h in
     record {
-      divides = below x y;
+      positive = below x y;
       equal = ap (λ (z : ℕ). a / g * z) (sym y) ∙ crossed (a / g) (b / g) g ∙ ap (λ (z : ℕ). z * (b / g)) x;
       lowest = λ k p q. common k p q x y pos;
     }
@@ -66,28 +66,28 @@ lowest-terms a b h =
         dvd-one .0 (dvd-of-mul-dvd-mul-right k pos u)
 
 -- where two fractions are equal, what is below the one that is in lowest terms divides what is below the other
-under-divides : (f h : Fraction) → f .over * h .under ≡ h .over * f .under → ((d : ℕ) → d ∣ f .over → d ∣ f .under → d ≡ 1) → f .under ∣ h .under
-under-divides f h e c =
-    let g = gcd-is (f .over) (f .under) in
-    let one : gcd (f .over) (f .under) ≡ 1 = c (gcd (f .over) (f .under)) (g .left) (g .right) in
-    let p : f .under ∣ h .under * f .over = subst (λ (z : ℕ). f .under ∣ z) (sym e ∙ omega arith) (dvd-mul-left (f .under) (h .over)) in
-    let s = scaled (h .under) (f .over) (f .under) (f .under) p (dvd-mul-left (f .under) (h .under)) in
-    subst (λ (z : ℕ). f .under ∣ z) (ap (λ (z : ℕ). h .under * z) one ∙ mul-one (h .under)) s
+denominator-divides : (f h : Fraction) → f .numerator * h .denominator ≡ h .numerator * f .denominator → ((d : ℕ) → d ∣ f .numerator → d ∣ f .denominator → d ≡ 1) → f .denominator ∣ h .denominator
+denominator-divides f h e c =
+    let g = gcd-is (f .numerator) (f .denominator) in
+    let one : gcd (f .numerator) (f .denominator) ≡ 1 = c (gcd (f .numerator) (f .denominator)) (g .left) (g .right) in
+    let p : f .denominator ∣ h .denominator * f .numerator = subst (λ (z : ℕ). f .denominator ∣ z) (sym e ∙ omega arith) (dvd-mul-left (f .denominator) (h .numerator)) in
+    let s = scaled (h .denominator) (f .numerator) (f .denominator) (f .denominator) p (dvd-mul-left (f .denominator) (h .denominator)) in
+    subst (λ (z : ℕ). f .denominator ∣ z) (ap (λ (z : ℕ). h .denominator * z) one ∙ mul-one (h .denominator)) s
 
 -- it is one fraction
 pub one-fraction : {a b : ℕ} {f h : Fraction} → 0 < b → LowestTerms a b f → LowestTerms a b h → f ≡ h
-one-fraction {a} {b} {f} {h} pos x y = λ i. record { over = over i; under = under i }
+one-fraction {a} {b} {f} {h} pos x y = λ i. record { numerator = numerator i; denominator = denominator i }
   where
-    cross : f .over * h .under ≡ h .over * f .under
+    cross : f .numerator * h .denominator ≡ h .numerator * f .denominator
     cross =
-        eq-of-mul-eq-mul-right b pos (f .over * h .under) (h .over * f .under)
-        (swap (f .over) (h .under) b ∙ ap (λ (z : ℕ). z * h .under) (x .equal) ∙ swap a (f .under) (h .under) ∙ ap (λ (z : ℕ). z * f .under) (sym (y .equal)) ∙ swap (h .over) b (f .under))
+        eq-of-mul-eq-mul-right b pos (f .numerator * h .denominator) (h .numerator * f .denominator)
+        (swap (f .numerator) (h .denominator) b ∙ ap (λ (z : ℕ). z * h .denominator) (x .equal) ∙ swap a (f .denominator) (h .denominator) ∙ ap (λ (z : ℕ). z * f .denominator) (sym (y .equal)) ∙ swap (h .numerator) b (f .denominator))
       where
         swap : (u v z : ℕ) → u * v * z ≡ u * z * v
         swap u v z = omega arith
 
-    under : f .under ≡ h .under
-    under = dvd-antisymm (under-divides f h cross (x .lowest)) (under-divides h f (sym cross) (y .lowest))
+    denominator : f .denominator ≡ h .denominator
+    denominator = dvd-antisymm (denominator-divides f h cross (x .lowest)) (denominator-divides h f (sym cross) (y .lowest))
 
-    over : f .over ≡ h .over
-    over = eq-of-mul-eq-mul-right (f .under) (x .divides) (f .over) (h .over) (ap (λ (z : ℕ). f .over * z) under ∙ cross)
+    numerator : f .numerator ≡ h .numerator
+    numerator = eq-of-mul-eq-mul-right (f .denominator) (x .positive) (f .numerator) (h .numerator) (ap (λ (z : ℕ). f .numerator * z) denominator ∙ cross)

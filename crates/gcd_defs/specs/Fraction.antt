@@ -5,16 +5,16 @@ use Rattle.gcd_defs.specs.Gcd.{gcd}
 
 -- one number over another
 pub record Fraction : Type 0 where
-  pub over : ℕ
-  pub under : ℕ
+  pub numerator : ℕ
+  pub denominator : ℕ
 
 -- f is the quotient of a and b in lowest terms: it is no division by 0, it equals a over b, and no number but 1 divides both of
 -- its numbers
 pub record LowestTerms (a b : ℕ) (f : Fraction) : Type 0 where
-  pub divides : 0 < f .under
-  pub equal : f .over * b ≡ a * f .under
-  pub lowest : (d : ℕ) → d ∣ f .over → d ∣ f .under → d ≡ 1
+  pub positive : 0 < f .denominator
+  pub equal : f .numerator * b ≡ a * f .denominator
+  pub lowest : (d : ℕ) → d ∣ f .numerator → d ∣ f .denominator → d ≡ 1
 
 -- that fraction, where b is not 0 (`lowest-terms`)
 abbrev pub reduced : ℕ → ℕ → Fraction
-reduced a b = record { over = a / gcd a b; under = b / gcd a b }
+reduced a b = record { numerator = a / gcd a b; denominator = b / gcd a b }

@@ -10,7 +10,7 @@ use Rattle.trailing.specs.View.{trailingOf}
 use Rattle.gcd_defs.specs.Fraction.{Fraction}
 use Rattle.share_defs.specs.Totals.{Totals}
 use Rattle.share_defs.specs.Share.{Share}
-use Rattle.share.specs.declared.Ratio.{Ratio}
+use Rattle.share.specs.declared.Fraction as given-fraction
 use Rattle.share.specs.declared.Share as given
 use Rattle.share.specs.declared.Sums.{Sums}
 use Rattle.share.specs.declared.Tested.{Tested}
@@ -21,13 +21,13 @@ use Rattle.share.specs.declared.SumsAnswer.the-variants as Sum
 use Rattle.share.specs.declared.ShareAnswer.{ShareAnswer}
 use Rattle.share.specs.declared.ShareAnswer.the-variants as Answer
 
-abbrev pub ratioOf : Ratio → Fraction
-ratioOf r = record { over = r .over; under = r .under }
+abbrev pub fractionOf : given-fraction.Fraction → Fraction
+fractionOf r = record { numerator = r .numerator; denominator = r .denominator }
 
 abbrev pub shareIs : given.Share → Share
 shareIs r = record {
-  padding = ratioOf (r .padding);
-  mean = ratioOf (r .mean);
+  padding = fractionOf (r .padding);
+  mean = fractionOf (r .mean);
   greatest = r .greatest;
   index = r .index;
 }

@@ -14,7 +14,7 @@ ghost use Rattle.gcd_defs.specs.Fraction.{reduced};
 ghost use Rattle.share_defs.specs.Totals.{sumPasses, noTotals, withCount, addCount, totalsFrom};
 ghost use Rattle.share_defs.specs.Share.{nothing, shareOf, shareFor};
 ghost use Rattle.share_defs.specs.Meaning.{ShareMeans};
-ghost use Rattle.share.specs.View.{ratioOf, shareIs, sumsOf, IsTested, addSays, sumsSays, shareSays};
+ghost use Rattle.share.specs.View.{fractionOf, shareIs, sumsOf, IsTested, addSays, sumsSays, shareSays};
 use rounding::ComponentsAnswer;
 use trailing::TrailingSliceLayout;
 use util::Answer;
@@ -22,15 +22,15 @@ use util::Product;
 use util::refusal;
 
 // One number over another.
-pub struct Ratio {
-    pub over: u64,
-    pub under: u64,
+pub struct Fraction {
+    pub numerator: u64,
+    pub denominator: u64,
 }
 
 // Total padding over total size and the mean size, in lowest terms; the greatest padding and its first index.
 pub struct Share {
-    pub padding: Ratio,
-    pub mean: Ratio,
+    pub padding: Fraction,
+    pub mean: Fraction,
     pub greatest: u64,
     pub index: u64,
 }
@@ -176,23 +176,26 @@ fn add_counts(l: Tested, counts: &[u64]) -> SumsAnswer
 }
 
 // A quotient in lowest terms.
-fn lowest_terms(over: u64, under: u64) -> Ratio
-    requires { ⌜ 0 < under ⌝ }
-    ensures { λ r. ⌜ ratioOf r ≡ reduced over under ⌝ }
+fn lowest_terms(numerator: u64, denominator: u64) -> Fraction
+    requires { ⌜ 0 < denominator ⌝ }
+    ensures { λ r. ⌜ fractionOf r ≡ reduced numerator denominator ⌝ }
 {
-    let divisor = gcd::greatest_common_divisor(over, under);
-    Ratio {
-        over: over / divisor,
-        under: under / divisor,
+    let divisor = gcd::greatest_common_divisor(numerator, denominator);
+    Fraction {
+        numerator: numerator / divisor,
+        denominator: denominator / divisor,
     }
 }
 
 // Total padding over total size: 0 over 1 for total 0.
-fn padding_share(paddings: u64, sizes: u64) -> Ratio
-    ensures { λ r. ⌜ ratioOf r ≡ cond (eqb sizes 0) nothing (reduced paddings sizes) ⌝ }
+fn padding_share(paddings: u64, sizes: u64) -> Fraction
+    ensures { λ r. ⌜ fractionOf r ≡ cond (eqb sizes 0) nothing (reduced paddings sizes) ⌝ }
 {
     if sizes == 0 {
-        Ratio { over: 0, under: 1 }
+        Fraction {
+            numerator: 0,
+            denominator: 1,
+        }
     } else {
         lowest_terms(paddings, sizes)
     }

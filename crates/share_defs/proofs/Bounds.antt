@@ -18,16 +18,16 @@ use Rattle.share_defs.proofs.Paddings.{padding-within}
 use Rattle.share_defs.proofs.Order.{padding-size}
 
 -- the share is at most 1
-pub at-most-one : (w : ℕ) (t : Trailing) (ns : List ℕ) (r : Share) → Shares w t ns r → r .padding .over ≤ r .padding .under
+pub at-most-one : (w : ℕ) (t : Trailing) (ns : List ℕ) (r : Share) → Shares w t ns r → r .padding .numerator ≤ r .padding .denominator
 at-most-one w t ns r x = go (x .padding)
   where
-    go : Portion (sum (x .paddings)) (totalSize w t ns) (r .padding) → r .padding .over ≤ r .padding .under
+    go : Portion (sum (x .paddings)) (totalSize w t ns) (r .padding) → r .padding .numerator ≤ r .padding .denominator
     go (inl e) = omega arith
     go (inr (pos, l)) =
         let s = totalSize w t ns in
         let f = r .padding in
-        let m = mul-le-mul-right (f .under) (padding-within w t ns (x .paddings) (x .each)) in
-        le-of-mul-le-mul-right {m = f .over} {n = f .under} {k = s} (omega (arith, l .equal)) pos
+        let m = mul-le-mul-right (f .denominator) (padding-within w t ns (x .paddings) (x .each)) in
+        le-of-mul-le-mul-right {m = f .numerator} {n = f .denominator} {k = s} (omega (arith, l .equal)) pos
 
 module _ (w : ℕ) (t : Trailing) (ns : List ℕ) where
   -- 53 is always the sizes' sum

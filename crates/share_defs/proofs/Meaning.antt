@@ -34,7 +34,7 @@ portion q s = go (eqb s 0) refl
 
 -- and no other
 pub one-portion : {q s : ℕ} {f h : Fraction} → Portion q s f → Portion q s h → f ≡ h
-one-portion (inl (e, x)) (inl (g, y)) = λ i. record { over = (x .0 ∙ sym (y .0)) i; under = (x .1 ∙ sym (y .1)) i }
+one-portion (inl (e, x)) (inl (g, y)) = λ i. record { numerator = (x .0 ∙ sym (y .0)) i; denominator = (x .1 ∙ sym (y .1)) i }
 one-portion (inl (e, x)) (inr (l, y)) = absurd (omega arith)
 one-portion (inr (l, x)) (inl (e, y)) = absurd (omega arith)
 one-portion (inr (l, x)) (inr (m, y)) = one-fraction l x y

@@ -27,7 +27,7 @@ pub record FirstGreatest (qs : List ℕ) (q i : ℕ) : Type 0 where
 
 -- f is q over s in lowest terms, "0 over 1 for total 0"
 abbrev pub Portion : (q s : ℕ) → Fraction → Type 0
-Portion q s f = ((s ≡ 0) × ((f .over ≡ 0) × (f .under ≡ 1))) ⊎ ((0 < s) × LowestTerms q s f)
+Portion q s f = ((s ≡ 0) × ((f .numerator ≡ 0) × (f .denominator ≡ 1))) ⊎ ((0 < s) × LowestTerms q s f)
 
 -- what is given of counts that are accepted
 pub record Shares (w : ℕ) (t : Trailing) (ns : List ℕ) (r : Share) : Type 0 where

@@ -21,7 +21,7 @@ pub record Share : Type 0 where
 
 -- "0 over 1 for total 0"
 abbrev pub nothing : Fraction
-nothing = record { over = 0; under = 1 }
+nothing = record { numerator = 0; denominator = 1 }
 
 -- of the totals of n counts
 abbrev pub shareOf : ℕ → Totals → Share

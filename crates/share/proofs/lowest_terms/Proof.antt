@@ -18,7 +18,7 @@ div-t5 c = pos-of-dvd-of-pos (c .greatest-common-divisor .ensures .1 .right) (c 
 
 returns : tie.Need-returns
 returns c = let x = c .before .args in
-    ap (λ (g : ℕ). record { over = x .over / g; under = x .under / g }) (c .greatest-common-divisor .ensures .0)
+    ap (λ (g : ℕ). record { numerator = x .numerator / g; denominator = x .denominator / g }) (c .greatest-common-divisor .ensures .0)
 
 pub lowest-terms-spec : {M : Type 1} → statement M
 lowest-terms-spec = tie.close (tie.spec greatest-common-divisor-requires div-t4 div-t5 returns)
