@@ -15,3 +15,4 @@ mod OfGuarantee
 mod OfPlaces
 mod OfTyped
 mod OfShort
+mod OfShare
