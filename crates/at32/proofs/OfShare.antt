@@ -5,7 +5,6 @@ use Prim.Native.Nat.{ℕ, suc, _+_, _-_, _*_, _^_, _≤_, _<_}
 use lib.Bits.{bitAnd}
 use lib.ListN.{length, take, drop, getD}
 use Rattle.util_defs.specs.Width.{M}
-use Rattle.util_defs.specs.Round.{up}
 use Rattle.util_defs.specs.Refusal.{answered, refused, Decided, unless}
 use Rattle.util_defs.specs.Placed.{Placed, reached, stopped, goOn}
 use Rattle.rounding.specs.Word.{IsWord}

@@ -1,5 +1,4 @@
 -- How the padding over a list of counts crosses to C: 0 in place of each number beside a refusal. Assumes nothing.
-use Prim.Native.Nat.{ℕ}
 use Rattle.util_defs.specs.Placed.{Placed, reached, stopped}
 use Rattle.share_defs.specs.Share.{Share}
 use Rattle.exports_share.specs.declared.PaddingOut.{PaddingOut}

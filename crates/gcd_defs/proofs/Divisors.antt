@@ -1,11 +1,11 @@
 -- Laws of the greatest common divisor. Assumes nothing.
-use mathlib.Core.Path.{_≡_, refl, sym, subst, ap, _∙_}
+use mathlib.Core.Path.{_≡_, refl, sym, subst}
 use mathlib.Core.Bool.{Bool, true, false, cond}
-use Prim.Native.Nat.{ℕ, zero, suc, _+_, _*_, _/_, _%_, _≤_, _<_, _∣_}
-use native.Mathlib.Nat.{dvd-refl, dvd-zero, dvd-mod-iff, dvd-antisymm, dvd-mul-left, dvd-mul-right, le-of-dvd, mod-lt, mod-eq-of-lt, div-add-mod', mul-add-mod-self-right, mul-lt-mul-of-pos-left, zero-mul}
+use Prim.Native.Nat.{ℕ, zero, suc, _%_, _≤_, _<_, _∣_}
+use native.Mathlib.Nat.{dvd-refl, dvd-zero, dvd-mod-iff, dvd-antisymm, le-of-dvd, mod-lt}
 use native.Mathlib.Omega.{arith}
 use lib.Dec.{eqb}
-use borrow.Author.Tests.{eqb-true, eqb-false, eq-eqb, ne-eqb}
+use borrow.Author.Tests.{eqb-true, eqb-false}
 use Rattle.gcd_defs.specs.Gcd.{GreatestDivisor, byRemainders, gcd}
 
 -- it is one number

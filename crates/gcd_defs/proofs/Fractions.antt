@@ -1,8 +1,8 @@
 -- Laws of fractions in lowest terms. Assumes nothing.
 use mathlib.Core.Path.{_≡_, refl, sym, subst, ap, _∙_}
 use mathlib.Core.Bool.{Bool, true, false, cond}
-use Prim.Native.Nat.{ℕ, zero, suc, _+_, _*_, _/_, _%_, _≤_, _<_, _∣_}
-use native.Mathlib.Nat.{dvd-add-iff-right, dvd-antisymm, dvd-mul-left, dvd-mul-right, dvd-mul-left-of-dvd, dvd-one, dvd-of-mul-dvd-mul-right, mul-dvd-mul-right, div-mul-cancel, div-add-mod', pos-of-dvd-of-pos, mod-lt, eq-of-mul-eq-mul-right, one-mul, mul-one}
+use Prim.Native.Nat.{ℕ, zero, suc, _+_, _*_, _/_, _%_, _<_, _∣_}
+use native.Mathlib.Nat.{dvd-add-iff-right, dvd-antisymm, dvd-mul-left, dvd-mul-left-of-dvd, dvd-one, dvd-of-mul-dvd-mul-right, mul-dvd-mul-right, div-mul-cancel, div-add-mod', pos-of-dvd-of-pos, mod-lt, eq-of-mul-eq-mul-right, one-mul, mul-one}
 use native.Mathlib.Omega.{arith}
 use lib.Dec.{eqb}
 use borrow.Author.Tests.{eqb-false}

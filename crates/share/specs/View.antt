@@ -1,5 +1,4 @@
 -- What the types of this crate are, over numbers. Assumes nothing.
-use mathlib.Core.Path.{_≡_}
 use Prim.Native.Nat.{ℕ}
 use Rattle.util_defs.specs.Width.{M}
 use Rattle.util_defs.specs.Refusal.{Outcome, answered, refused}

@@ -1,8 +1,8 @@
 -- What bounds the share and the refusals, at any width w. Assumes nothing.
-use mathlib.Core.Path.{_≡_, sym, subst}
+use mathlib.Core.Path.{_≡_}
 use mathlib.Core.List.{List}
-use mathlib.Core.Logic.{_⊎_, inl, inr}
-use Prim.Native.Nat.{ℕ, zero, suc, _*_, _≤_, _<_}
+use mathlib.Core.Logic.{inl, inr}
+use Prim.Native.Nat.{ℕ, zero, suc, _≤_, _<_}
 use native.Mathlib.Nat.{le-of-mul-le-mul-right, mul-le-mul-right}
 use native.Mathlib.Omega.{arith}
 use lib.ListN.{take}
@@ -10,7 +10,6 @@ use Rattle.util_defs.specs.Width.{M}
 use Rattle.util_defs.specs.Refusal.{First}
 use Rattle.util_defs.proofs.Tables.{number-among}
 use Rattle.trailing_defs.specs.Size.{Trailing}
-use Rattle.gcd_defs.specs.Fraction.{Fraction, LowestTerms}
 use Rattle.share_defs.specs.Totals.{sum, totalSize, causesAt}
 use Rattle.share_defs.specs.Share.{Share, listCauses}
 use Rattle.share_defs.specs.Meaning.{Portion, Shares, StopsAt, Stops}

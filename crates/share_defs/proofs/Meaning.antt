@@ -1,23 +1,23 @@
 -- What the padding over a list of counts gives means what it should, and nothing else does, at any width w. Assumes nothing.
 use mathlib.Core.Path.{_≡_, refl, sym, subst, ap, ap₂, _∙_}
 use mathlib.Core.Bool.{Bool, true, false, cond}
-use mathlib.Core.List.{List, [], _∷_, map}
-use mathlib.Core.Logic.{_⊎_, inl, inr}
-use Prim.Native.Nat.{ℕ, zero, suc, _+_, _≤_, _<_}
+use mathlib.Core.List.{List, map}
+use mathlib.Core.Logic.{inl, inr}
+use Prim.Native.Nat.{ℕ, _<_}
 use native.Mathlib.Omega.{arith}
 use borrow.Author.Tests.{eqb-true, eqb-false}
 use lib.Dec.{eqb}
 use lib.ListN.{length, getD, length-map}
-use Rattle.util_defs.specs.Refusal.{Outcome, answered, refused, None, First, Tells, holds, fails, Meets, answers, refuses, Decided}
-use Rattle.util_defs.specs.Placed.{Placed, reached, stopped, atPlace, goOn, judged}
+use Rattle.util_defs.specs.Refusal.{Outcome, None, First, Tells, holds, fails, Meets, answers, refuses, Decided}
+use Rattle.util_defs.specs.Placed.{Placed, reached, stopped, atPlace, goOn}
 use Rattle.util_defs.proofs.Refusals.{tells-eq, tells-lt, meets, one-number, no-number}
 use Rattle.trailing_defs.specs.Size.{Trailing}
 use Rattle.gcd_defs.specs.Fraction.{Fraction, LowestTerms, reduced}
 use Rattle.gcd_defs.proofs.Fractions.{lowest-terms, one-fraction}
 use Rattle.share_defs.specs.Totals.{wholePadding, sum, totalSize, totalPadding, causesAt, Totals, noTotals, totalsFrom}
 use Rattle.share_defs.specs.Share.{Share, nothing, shareOf, listCauses, shareFor}
-use Rattle.share_defs.specs.Meaning.{Paddings, FirstGreatest, Portion, Shares, Accepted, StopsAt, Stops, ShareMeans}
-use Rattle.share_defs.proofs.Fold.{none-at, first-at, final, final-sizes, final-paddings, StopsFrom, FoldMeans, fold-means}
+use Rattle.share_defs.specs.Meaning.{FirstGreatest, Portion, Shares, Accepted, StopsAt, Stops, ShareMeans}
+use Rattle.share_defs.proofs.Fold.{none-at, first-at, final, final-sizes, final-paddings, FoldMeans, fold-means}
 use Rattle.share_defs.proofs.Greatest.{ends, first-greatest, one-greatest}
 use Rattle.share_defs.proofs.Paddings.{one-paddings, accepted-fine, paddings-are}
 

@@ -1,7 +1,7 @@
 -- The order of counts: any permutation of an accepted list is accepted, and gives the same but for the index. Assumes nothing.
 use mathlib.Core.Path.{_≡_, refl, sym, subst, ap, ap₂, _∙_}
 use mathlib.Core.List.{List, [], _∷_, map, List·Permᴰ, List·Permᴰ·nil, List·Permᴰ·cons, List·Permᴰ·swap, List·Permᴰ·trans, Permᴰ·symm}
-use mathlib.Core.Logic.{inl, inr, ⊎-elim}
+use mathlib.Core.Logic.{inl, ⊎-elim}
 use Prim.Native.Nat.{ℕ, zero, suc, _+_, _-_, _≤_, _<_}
 use native.Mathlib.Omega.{arith}
 use lib.ListN.{length, take, getD, length-map}
@@ -11,11 +11,11 @@ use Rattle.util_defs.specs.Refusal.{None}
 use Rattle.util_defs.specs.Placed.{Placed, reached, stopped}
 use Rattle.util_defs.proofs.Refusals.{known, tells-le}
 use Rattle.trailing_defs.specs.Size.{Trailing, sizeAt, HasSize}
-use Rattle.gcd_defs.specs.Fraction.{Fraction, LowestTerms}
+use Rattle.gcd_defs.specs.Fraction.{LowestTerms}
 use Rattle.gcd_defs.proofs.Fractions.{one-fraction}
-use Rattle.share_defs.specs.Totals.{endAt, wholePadding, sum, totalSize, totalPadding, causesAt}
+use Rattle.share_defs.specs.Totals.{wholePadding, sum, totalSize, totalPadding}
 use Rattle.share_defs.specs.Share.{Share, listCauses, shareFor}
-use Rattle.share_defs.specs.Meaning.{Paddings, FirstGreatest, Portion, Shares, Accepted, Stops, ShareMeans, Alike, Another, OrderFree}
+use Rattle.share_defs.specs.Meaning.{FirstGreatest, Portion, Shares, Accepted, ShareMeans, Alike, Another, OrderFree}
 use Rattle.share_defs.proofs.Paddings.{All, all-from, all-at, Fine, accepted-fine, one-paddings, paddings-are}
 use Rattle.share_defs.proofs.Meaning.{one-portion, accepted-stops, share-means}
 

@@ -1,15 +1,14 @@
 -- Paddings of counts, and counts that go through, at any width w. Assumes nothing.
-use mathlib.Core.Path.{_≡_, refl, sym, subst, ap, ap₂, _∙_}
-use mathlib.Core.Bool.{Bool}
+use mathlib.Core.Path.{_≡_, refl, ap₂}
 use mathlib.Core.List.{List, [], _∷_, map}
-use Prim.Native.Nat.{ℕ, zero, suc, _+_, _≤_, _<_}
+use Prim.Native.Nat.{ℕ, zero, suc, _≤_, _<_}
 use native.Mathlib.Omega.{arith}
 use lib.ListN.{length, take, getD}
 use Rattle.util_defs.specs.Width.{M}
 use Rattle.util_defs.specs.Refusal.{None}
 use Rattle.util_defs.proofs.Refusals.{known, tells-le}
 use Rattle.trailing_defs.specs.Size.{Trailing, sizeAt, HasSize}
-use Rattle.share_defs.specs.Totals.{endAt, wholePadding, sum, totalSize, totalPadding, countCauses, causesAt}
+use Rattle.share_defs.specs.Totals.{endAt, wholePadding, totalSize, totalPadding, countCauses, causesAt}
 use Rattle.share_defs.specs.Meaning.{Paddings, PaddingWithin}
 
 -- the total padding is at most the total size

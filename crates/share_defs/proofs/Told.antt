@@ -1,15 +1,15 @@
 -- One count by what the code tests of it, at any width w. Assumes nothing.
-use mathlib.Core.Path.{_≡_, refl, sym, subst, ap, _∙_}
+use mathlib.Core.Path.{_≡_, sym, subst, ap, _∙_}
 use mathlib.Core.Bool.{Bool}
 use mathlib.Core.List.{List, [], _∷_}
-use Prim.Native.Nat.{ℕ, zero, suc, _+_, _-_, _*_, _^_, _≤_, _<_}
+use Prim.Native.Nat.{ℕ, _+_, _-_, _*_, _^_, _≤_, _<_}
 use native.Mathlib.Omega.{arith}
 use borrow.Author.Tests.{lt-ltb, le-ltb, eq-eqb, ne-eqb}
 use lib.Bits.{bitAnd}
 use lib.ListN.{length}
 use Rattle.util_defs.specs.Width.{M}
 use Rattle.util_defs.specs.Round.{up, down}
-use Rattle.util_defs.specs.Refusal.{Outcome, answered, refused, unless, Tells, holds, fails}
+use Rattle.util_defs.specs.Refusal.{answered, refused, unless, Tells, holds, fails}
 use Rattle.util_defs.proofs.Refusals.{tells-lt}
 use Rattle.util_defs.specs.Placed.{Placed, reached, stopped, goOn}
 use Rattle.util_defs.proofs.Tables.{answer-is}

@@ -1,10 +1,9 @@
 -- `share::add_bytes` meets its contract. Assumes nothing.
 use mathlib.Core.Path.{_≡_, sym, ap₂, _∙_}
 use mathlib.Core.List.{[], _∷_}
-use Prim.Native.Nat.{ℕ, _+_, _-_, _*_, _≤_, _<_, _^_}
+use Prim.Native.Nat.{ℕ, _+_, _-_, _*_, _<_, _^_}
 use native.Mathlib.Omega.{arith}
 use Rattle.util_defs.specs.Refusal.{unless}
-use Rattle.trailing_defs.specs.Size.{sizeAt, HasSize}
 use Rattle.trailing.specs.View.{trailingOf}
 use Rattle.share_defs.specs.Totals.{wholePadding, sumPasses, withCount}
 use Rattle.share_defs.proofs.Told.{first-size, within-size, add-above, add-sized}

@@ -1,6 +1,6 @@
 -- `share::add_count` meets its contract. Assumes nothing.
-use mathlib.Core.Path.{_≡_, sym, ap, _∙_}
-use Prim.Native.Nat.{ℕ, _+_, _-_, _*_, _≤_, _<_, _^_}
+use mathlib.Core.Path.{sym}
+use Prim.Native.Nat.{_-_, _*_, _<_, _^_}
 use native.Mathlib.Omega.{arith}
 use Rattle.util.proofs.Told.{product-told, product-past}
 use Rattle.trailing.specs.View.{trailingOf}

@@ -1,8 +1,7 @@
 -- `share::add_sized` meets its contract. Assumes nothing.
-use mathlib.Core.Path.{_≡_, sym, ap, _∙_}
-use Prim.Native.Nat.{_+_, _-_, _≤_, _<_, _^_}
+use mathlib.Core.Path.{sym}
+use Prim.Native.Nat.{_-_}
 use native.Mathlib.Omega.{arith}
-use Rattle.util_defs.specs.Refusal.{answered}
 use Rattle.share.specs.View.{sumsOf}
 use Rattle.share_defs.proofs.Told.{sum-passes, sum-greater, sum-kept}
 use borrow.Author.Needs.{needs}

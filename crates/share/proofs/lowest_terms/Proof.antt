@@ -1,8 +1,7 @@
 -- `share::lowest_terms` meets its contract. Assumes nothing.
-use mathlib.Core.Path.{_≡_, ap}
-use Prim.Native.Nat.{ℕ, _/_, _<_}
+use mathlib.Core.Path.{ap}
+use Prim.Native.Nat.{ℕ, _/_}
 use native.Mathlib.Nat.{pos-of-dvd-of-pos}
-use Rattle.gcd_defs.specs.Fraction.{Fraction}
 use borrow.Author.Needs.{needs}
 use Rattle.share.proofs.lowest_terms.Statement.{statement}
 use Rattle.share.proofs.lowest_terms.Tie as tie

@@ -1,12 +1,12 @@
 -- `share::padding_of_counts` meets its contract. Assumes nothing.
 use mathlib.Core.Path.{_≡_, sym, ap, _∙_}
-use Prim.Native.Nat.{ℕ, _<_}
+use Prim.Native.Nat.{ℕ}
 use native.Mathlib.Omega.{arith}
-use Rattle.util_defs.specs.Placed.{Placed, stopped}
+use Rattle.util_defs.specs.Placed.{stopped}
 use Rattle.rounding.proofs.Told.{parts-told, parts-refused}
 use Rattle.rounding.proofs.Words.{not-zero}
 use Rattle.trailing.specs.View.{trailingOf}
-use Rattle.share_defs.specs.Share.{Share, shareFor}
+use Rattle.share_defs.specs.Share.{shareFor}
 use Rattle.share_defs.proofs.Told.{share-bad-word, share-empty, share-told}
 use borrow.Author.Needs.{needs}
 use Rattle.share.proofs.padding_of_counts.Statement.{statement}

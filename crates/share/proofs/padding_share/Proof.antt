@@ -1,5 +1,4 @@
 -- `share::padding_share` meets its contract. Assumes nothing.
-use mathlib.Core.Path.{_≡_, sym, _∙_}
 use borrow.Author.Tests.{eq-eqb, ne-eqb}
 use borrow.Author.Needs.{needs}
 use Rattle.share.proofs.padding_share.Statement.{statement}

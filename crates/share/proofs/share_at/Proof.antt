@@ -1,6 +1,6 @@
 -- `share::share_at` meets its contract. Assumes nothing.
-use mathlib.Core.Path.{_≡_, sym}
-use Prim.Native.Nat.{_-_, _*_, _^_, _<_}
+use mathlib.Core.Path.{sym}
+use Prim.Native.Nat.{_-_, _*_, _^_}
 use native.Mathlib.Omega.{arith}
 use Rattle.rounding.proofs.Words.{not-zero}
 use Rattle.trailing.specs.View.{trailingOf}

@@ -1,5 +1,4 @@
 -- `share::share_of` meets its contract. Assumes nothing.
-use mathlib.Core.Path.{_≡_}
 use borrow.Author.Needs.{needs}
 use Rattle.share.proofs.share_of.Statement.{statement}
 use Rattle.share.proofs.share_of.Tie as tie

@@ -1,5 +1,5 @@
 -- `share::share_of_tested` meets its contract. Assumes nothing.
-use mathlib.Core.Path.{_≡_, sym, ap, _∙_}
+use mathlib.Core.Path.{sym, ap, _∙_}
 use Rattle.util_defs.specs.Placed.{Placed, reached, goOn}
 use Rattle.rounding.proofs.Words.{not-zero}
 use Rattle.trailing.specs.View.{trailingOf}

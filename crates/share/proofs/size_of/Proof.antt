@@ -1,6 +1,6 @@
 -- `share::size_of` meets its contract. Assumes nothing.
-use mathlib.Core.Path.{_≡_, ap, _∙_}
-use Prim.Native.Nat.{_+_, _-_, _*_, _≤_, _<_, _^_}
+use mathlib.Core.Path.{ap, _∙_}
+use Prim.Native.Nat.{_+_, _-_, _<_, _^_}
 use native.Mathlib.Omega.{arith}
 use Rattle.trailing_defs.specs.Size.{A, p, sizeWith}
 use Rattle.trailing.specs.View.{trailingOf}
