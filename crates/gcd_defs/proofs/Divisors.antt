@@ -1,11 +1,8 @@
 -- Laws of the greatest common divisor. Assumes nothing.
-use mathlib.Core.Path.{_≡_, refl, sym, subst}
-use mathlib.Core.Bool.{Bool, true, false, cond}
+use mathlib.Core.Path.{_≡_}
 use Prim.Native.Nat.{ℕ, zero, suc, _%_, _≤_, _<_, _∣_}
 use native.Mathlib.Nat.{dvd-refl, dvd-zero, dvd-mod-iff, dvd-antisymm, le-of-dvd, mod-lt}
 use native.Mathlib.Omega.{arith}
-use lib.Dec.{eqb}
-use borrow.Author.Tests.{eqb-true, eqb-false}
 use Rattle.gcd_defs.specs.Gcd.{GreatestDivisor, byRemainders, gcd}
 
 -- it is one number
@@ -30,14 +27,11 @@ by-remainder {a} {b} {g} x = record {
 remainders-are : (k a b : ℕ) → b < k → GreatestDivisor a b (byRemainders k a b)
 unfolding byRemainders
 remainders-are zero a b h = absurd (omega arith)
-remainders-are (suc k) a b h = go (eqb b 0) refl (λ l. remainders-are k b (a % b) l)
+remainders-are (suc k) a zero h = with-zero a
+remainders-are (suc k) a (suc b) h = by-remainder (remainders-are k (suc b) (a % suc b) (omega (arith, mod-lt a (positive b))))
   where
-    go : (t : Bool) → eqb b 0 ≡ t → (a % b < k → GreatestDivisor b (a % b) (byRemainders k b (a % b))) → GreatestDivisor a b (cond t a (byRemainders k b (a % b)))
-    go true e f = subst (λ (z : ℕ). GreatestDivisor a z a) (sym (eqb-true b 0 e)) (with-zero a)
-    go false e f =
-        let n = eqb-false b 0 e in
-        let pos : 0 < b = omega (arith, n) in
-        by-remainder (f (omega (arith, mod-lt a pos)))
+    positive : (b : ℕ) → 0 < suc b
+    positive b = omega arith
 
 -- what remainders give is it
 pub gcd-is : (a b : ℕ) → GreatestDivisor a b (gcd a b)

@@ -1,11 +1,8 @@
 -- Laws of fractions in lowest terms. Assumes nothing.
 use mathlib.Core.Path.{_≡_, refl, sym, subst, ap, _∙_}
-use mathlib.Core.Bool.{Bool, true, false, cond}
 use Prim.Native.Nat.{ℕ, zero, suc, _+_, _*_, _/_, _%_, _<_, _∣_}
 use native.Mathlib.Nat.{dvd-add-iff-right, dvd-antisymm, dvd-mul-left, dvd-mul-left-of-dvd, dvd-one, dvd-of-mul-dvd-mul-right, mul-dvd-mul-right, div-mul-cancel, div-add-mod', pos-of-dvd-of-pos, mod-lt, eq-of-mul-eq-mul-right, one-mul, mul-one}
 use native.Mathlib.Omega.{arith}
-use lib.Dec.{eqb}
-use borrow.Author.Tests.{eqb-false}
 use Rattle.gcd_defs.specs.Gcd.{byRemainders, gcd}
 use Rattle.gcd_defs.specs.Fraction.{Fraction, LowestTerms, reduced}
 use Rattle.gcd_defs.proofs.Divisors.{gcd-is}
@@ -14,20 +11,20 @@ use Rattle.gcd_defs.proofs.Divisors.{gcd-is}
 remainders-scaled : (j k a b d : ℕ) → b < j → d ∣ k * a → d ∣ k * b → d ∣ k * byRemainders j a b
 unfolding byRemainders
 remainders-scaled zero k a b d h p q = absurd (omega arith)
-remainders-scaled (suc j) k a b d h p q = go (eqb b 0) refl (λ l r. remainders-scaled j k b (a % b) d l q r)
+remainders-scaled (suc j) k a zero d h p q = p
+remainders-scaled (suc j) k a (suc b) d h p q = remainders-scaled j k (suc b) (a % suc b) d (omega (arith, mod-lt a pos)) q rest
   where
-    whole : k * a ≡ a / b * (k * b) + k * (a % b)
-    whole = ap (λ (z : ℕ). k * z) (sym (div-add-mod' a b)) ∙ omega arith
+    pos : 0 < suc b
+    pos = omega arith
 
-    rest : d ∣ k * (a % b)
-    rest = dvd-add-iff-right d (dvd-mul-left-of-dvd d q (a / b)) .1 (subst (λ (z : ℕ). d ∣ z) whole p)
+    whole : k * a ≡ a / suc b * (k * suc b) + k * (a % suc b)
+    whole = ap (λ (z : ℕ). k * z) (sym (div-add-mod' a (suc b))) ∙ spread (a / suc b) (suc b) (a % suc b)
+      where
+        spread : (u v z : ℕ) → k * (u * v + z) ≡ u * (k * v) + k * z
+        spread u v z = omega arith
 
-    go : (t : Bool) → eqb b 0 ≡ t → (a % b < j → d ∣ k * (a % b) → d ∣ k * byRemainders j b (a % b)) → d ∣ k * cond t a (byRemainders j b (a % b))
-    go true e f = p
-    go false e f =
-        let n = eqb-false b 0 e in
-        let pos : 0 < b = omega (arith, n) in
-        f (omega (arith, mod-lt a pos)) rest
+    rest : d ∣ k * (a % suc b)
+    rest = dvd-add-iff-right d (dvd-mul-left-of-dvd d q (a / suc b)) .1 (subst (λ (z : ℕ). d ∣ z) whole p)
 
 scaled : (k a b d : ℕ) → d ∣ k * a → d ∣ k * b → d ∣ k * gcd a b
 unfolding gcd

@@ -1,7 +1,5 @@
 -- The greatest common divisor. Assumes nothing.
-use mathlib.Core.Bool.{cond}
 use Prim.Native.Nat.{ℕ, zero, suc, _%_, _∣_}
-use lib.Dec.{eqb}
 
 -- g is the greatest common divisor of a and b: it divides both, and every number that divides both divides it. That of 0 and 0 is
 -- 0; of a number and 0 it is the number; else it is the largest number that divides both (`largest`)
@@ -14,7 +12,8 @@ pub record GreatestDivisor (a b g : ℕ) : Type 0 where
 -- before it, so that there are b of them at most
 unfoldable pub byRemainders : ℕ → ℕ → ℕ → ℕ
 byRemainders zero a b = a
-byRemainders (suc k) a b = cond (eqb b 0) a (byRemainders k b (a % b))
+byRemainders (suc k) a zero = a
+byRemainders (suc k) a (suc b) = byRemainders k (suc b) (a % suc b)
 
 unfoldable pub gcd : ℕ → ℕ → ℕ
 gcd a b = byRemainders (suc b) a b

@@ -6,3 +6,4 @@ pub mod Meaning
 pub mod Order
 pub mod Bounds
 pub mod Told
+mod Cases
