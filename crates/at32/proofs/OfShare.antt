@@ -1,6 +1,6 @@
 -- The laws of the padding over a list of counts at 32 bits: each holds at any width. Divisors and fractions have none. Assumes nothing.
 use mathlib.Core.Path.{_≡_}
-use mathlib.Core.List.{List, [], _∷_, List·Permᴰ}
+use mathlib.Core.List.{List, [], _∷_, Perm}
 use Prim.Native.Nat.{ℕ, suc, _+_, _-_, _*_, _^_, _≤_, _<_}
 use lib.Bits.{bitAnd}
 use lib.ListN.{length, take, drop, getD}
@@ -32,7 +32,7 @@ accepted-stops t ns {k} {i} = Meaning.accepted-stops 32 t ns {k = k} {p = i}
 pub order-free : OrderFree 32
 order-free = Order.order-free 32
 
-pub same-given : (t : Trailing) (ns ms : List ℕ) (r s : Share) → List·Permᴰ ns ms → shareFor 32 t ns ≡ reached r → shareFor 32 t ms ≡ reached s
+pub same-given : (t : Trailing) (ns ms : List ℕ) (r s : Share) → Perm ns ms → shareFor 32 t ns ≡ reached r → shareFor 32 t ms ≡ reached s
     → (r .padding ≡ s .padding) × ((r .mean ≡ s .mean) × (r .greatest ≡ s .greatest))
 same-given = Order.same-given 32
 

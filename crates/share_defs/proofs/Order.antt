@@ -1,8 +1,10 @@
 -- The order of counts: any permutation of an accepted list is accepted, and gives the same but for the index. Assumes nothing.
 use mathlib.Core.Path.{_≡_, refl, sym, subst, ap, ap₂, _∙_}
-use mathlib.Core.List.{List, [], _∷_, map, List·Permᴰ, List·Permᴰ·nil, List·Permᴰ·cons, List·Permᴰ·swap, List·Permᴰ·trans, Permᴰ·symm}
-use mathlib.Core.Logic.{inl, ⊎-elim}
+use mathlib.Core.HLevel.{⊥-prop}
+use mathlib.Core.List.{List, [], _∷_, map, Perm, List·Permᴰ, List·Permᴰ·nil, List·Permᴰ·cons, List·Permᴰ·swap, List·Permᴰ·trans, Permᴰ·symm}
+use mathlib.Core.Logic.{inl, ⊎-elim, ∥∥₁-elim}
 use Prim.Native.Nat.{ℕ, zero, suc, _+_, _-_, _≤_, _<_}
+use native.Mathlib.Nat.{ℕ-set}
 use native.Mathlib.Omega.{arith}
 use lib.ListN.{length, take, getD, length-map}
 use lib.Seq.{take-length}
@@ -11,7 +13,7 @@ use Rattle.util_defs.specs.Refusal.{None}
 use Rattle.util_defs.specs.Placed.{Placed, reached, stopped}
 use Rattle.util_defs.proofs.Refusals.{known, tells-le}
 use Rattle.trailing_defs.specs.Size.{Trailing, sizeAt, HasSize}
-use Rattle.gcd_defs.specs.Fraction.{LowestTerms}
+use Rattle.gcd_defs.specs.Fraction.{Fraction, LowestTerms}
 use Rattle.gcd_defs.proofs.Fractions.{one-fraction}
 use Rattle.share_defs.specs.Totals.{wholePadding, sum, totalSize, totalPadding}
 use Rattle.share_defs.specs.Share.{Share, listCauses, shareFor}
@@ -105,24 +107,42 @@ module _ (w : ℕ) (t : Trailing) where
         greatest = omega (arith, greatest-within ns ms d gx gy, greatest-within ms ns (Permᴰ·symm d) gy gx);
       }
 
+module _ (w : ℕ) (t : Trailing) (ns ms : List ℕ) (r : Share) (e : shareFor w t ns ≡ reached r) where
+  here : ShareMeans w t ns (reached r)
+  here = subst (ShareMeans w t ns) e (share-means w t ns)
+
+  there : List·Permᴰ ns ms → Accepted w t ms
+  there d =
+      let a = here .0 in
+      sum-accepted w t ms (a .list .0, ((λ z. a .list .1 .0 (perm-length d ∙ z)), tt)) (zero-size w t ns a)
+      (perm-all (Fine w t) d (accepted-fine w t ns (a .counts))) (omega (arith, accepted-sum w t ns a, perm-sum (sizeAt w t) d))
+
+  -- by each number of it, since a permutation tells of no more than equal numbers
+  same : (s : Share) → ShareMeans w t ms (reached s) → Perm ns ms → Alike r s
+  same s m d = record {
+    padding = fraction (λ x. x .padding) (λ a. a .padding);
+    mean = fraction (λ x. x .mean) (λ a. a .mean);
+    greatest = number (λ x. x .greatest) (λ a. a .greatest);
+  }
+    where
+      number : (f : Share → ℕ) → (Alike r s → f s ≡ f r) → f s ≡ f r
+      number f g = ∥∥₁-elim d (ℕ-set (f s) (f r)) (λ x. g (alike w t ns ms x (here .0) (here .1) (m .0) (m .1)))
+
+      fraction : (f : Share → Fraction) → (Alike r s → f s ≡ f r) → f s ≡ f r
+      fraction f g = λ i. record {
+        numerator = number (λ x. f x .numerator) (λ a. ap (λ (z : Fraction). z .numerator) (g a)) i;
+        denominator = number (λ x. f x .denominator) (λ a. ap (λ (z : Fraction). z .denominator) (g a)) i;
+      }
+
+  another : Perm ns ms → (o : Placed Share) → shareFor w t ms ≡ o → ShareMeans w t ms o → Another w t ms r
+  another d (reached s) g m = record { share = s; accepted = g; alike = same s m d }
+  another d (stopped k i) g m = absurd (∥∥₁-elim d ⊥-prop (λ x. accepted-stops w t ms (there x) m))
+
 pub order-free : (w : ℕ) → OrderFree w
-order-free w t ns ms r d e = go (shareFor w t ms) refl (share-means w t ms)
-  where
-    here : ShareMeans w t ns (reached r)
-    here = subst (ShareMeans w t ns) e (share-means w t ns)
-
-    there : Accepted w t ms
-    there =
-        let a = here .0 in
-        sum-accepted w t ms (a .list .0, ((λ z. a .list .1 .0 (perm-length d ∙ z)), tt)) (zero-size w t ns a)
-        (perm-all (Fine w t) d (accepted-fine w t ns (a .counts))) (omega (arith, accepted-sum w t ns a, perm-sum (sizeAt w t) d))
-
-    go : (o : Placed Share) → shareFor w t ms ≡ o → ShareMeans w t ms o → Another w t ms r
-    go (reached s) g m = record { share = s; accepted = g; alike = alike w t ns ms d (here .0) (here .1) (m .0) (m .1) }
-    go (stopped k i) g m = absurd (accepted-stops w t ms there m)
+order-free w t ns ms r d e = another w t ns ms r e d (shareFor w t ms) refl (share-means w t ms)
 
 -- so that two orders that are accepted give the same
-pub same-given : (w : ℕ) (t : Trailing) (ns ms : List ℕ) (r s : Share) → List·Permᴰ ns ms → shareFor w t ns ≡ reached r → shareFor w t ms ≡ reached s
+pub same-given : (w : ℕ) (t : Trailing) (ns ms : List ℕ) (r s : Share) → Perm ns ms → shareFor w t ns ≡ reached r → shareFor w t ms ≡ reached s
     → (r .padding ≡ s .padding) × ((r .mean ≡ s .mean) × (r .greatest ≡ s .greatest))
 same-given w t ns ms r s d e g =
     let x = order-free w t ns ms r d e in

@@ -1,6 +1,6 @@
 -- What the padding over a list of counts means (document 02, request 12), and what it does not hang on. Assumes nothing.
 use mathlib.Core.Path.{_≡_}
-use mathlib.Core.List.{List, [], _∷_, List·Permᴰ}
+use mathlib.Core.List.{List, [], _∷_, Perm}
 use mathlib.Core.Logic.{_⊎_}
 use Prim.Native.Nat.{ℕ, _+_, _≤_, _<_}
 use lib.ListN.{length, getD}
@@ -57,7 +57,7 @@ ShareMeans w t ns (reached r) = Accepted w t ns × Shares w t ns r
 ShareMeans w t ns (stopped k i) = Stops w t ns k i
 
 -- "whose order, where accepted, alters only that index": any permutation of an accepted list is accepted and gives the same but
--- for the index
+-- for the index (Perm is mathlib's)
 pub record Alike (r s : Share) : Type 0 where
   pub padding : s .padding ≡ r .padding
   pub mean : s .mean ≡ r .mean
@@ -70,7 +70,7 @@ pub record Another (w : ℕ) (t : Trailing) (ms : List ℕ) (r : Share) : Type 0
 
 abbrev pub OrderFree : ℕ → Type 0
 OrderFree w =
-    (t : Trailing) (ns ms : List ℕ) (r : Share) → List·Permᴰ ns ms → shareFor w t ns ≡ reached r → Another w t ms r
+    (t : Trailing) (ns ms : List ℕ) (r : Share) → Perm ns ms → shareFor w t ns ≡ reached r → Another w t ms r
 
 -- the total padding is at most the total size, so that 53 is always the sizes' sum
 abbrev pub PaddingWithin : ℕ → Type 0
