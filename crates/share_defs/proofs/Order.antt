@@ -46,10 +46,12 @@ part-sum f zero ns = omega arith
 part-sum f (suc k) [] = omega arith
 part-sum f (suc k) (n ∷ ns) = omega (arith, part-sum f k ns)
 
+-- what is left of sizes is at most the sizes, whatever is taken from them
 pub padding-size : (w : ℕ) (t : Trailing) (ns : List ℕ) → totalPadding w t ns ≤ totalSize w t ns
 padding-size w t [] = omega arith
 padding-size w t (n ∷ ns) = omega (arith, padding-size w t ns)
 
+-- the number at an index of a list that was mapped
 map-at : (f : ℕ → ℕ) (ns : List ℕ) (j : ℕ) → j < length ns → getD (map f ns) j 0 ≡ f (getD ns j 0)
 map-at f (n ∷ ns) zero l = refl
 map-at f (n ∷ ns) (suc j) l = map-at f ns j (omega arith)
