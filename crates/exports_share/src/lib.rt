@@ -1,5 +1,5 @@
-// The padding over a list of counts for C and Rust: no logic of its own. include/lukaripe.h is its C side. It stands apart, so that
-// what it calls is called once here, and inlined.
+// The padding over a list of counts for C and Rust: no logic of its own. include/lukaripe.h is its C side. It stands apart, so
+// that what it calls is called once here, and inlined.
 ghost use mathlib.Core.Path.{_≡_};
 ghost use Rattle.share_defs.specs.Share.{shareFor};
 ghost use Rattle.share.specs.View.{shareSays};
