@@ -2,9 +2,9 @@
  *
  * Every function takes any numbers and any bytes and returns. An answer begins with its refusal: 0 where there is none, and
  * then the members behind it are the answer; else the number of the cause (LUKARIPE_REFUSED_..; lukaripe_refusal_text gives
- * it in words), and the members behind it are 0, except the `place` of a composition or a move, which says where. Each
- * function's comment names the refusals that it can give, in the order in which they are tested: the first that applies is
- * given.
+ * it in words), and the members behind it are 0, except the `place` of a composition, a move or a list of counts, which says
+ * where. Each function's comment names the refusals that it can give, in the order in which they are tested: the first that
+ * applies is given.
  *
  * Words used below:
  *   alignment   a power of two
@@ -37,9 +37,9 @@
 #include <stdint.h>
 
 #define LUKARIPE_VERSION_MAJOR 0
-#define LUKARIPE_VERSION_MINOR 6
+#define LUKARIPE_VERSION_MINOR 7
 #define LUKARIPE_VERSION_PATCH 0
-#define LUKARIPE_VERSION "0.6.0"
+#define LUKARIPE_VERSION "0.7.0"
 
 /* An answer that is not looked at is a mistake: a refusal would go unseen. */
 #if defined(__GNUC__) || defined(__clang__)
@@ -92,7 +92,10 @@ enum {
     LUKARIPE_REFUSED_SPARE_OR_POWER = 42,
     LUKARIPE_REFUSED_FORM_BASE_PASSES_MAX = 46,
     LUKARIPE_REFUSED_ALIGN_AND_PACKED = 49,
-    LUKARIPE_REFUSED_ALIGN_MODIFIER_IN_PACKED = 50
+    LUKARIPE_REFUSED_ALIGN_MODIFIER_IN_PACKED = 50,
+    LUKARIPE_REFUSED_NO_COUNTS = 51,
+    LUKARIPE_REFUSED_END_ABOVE_SIZE = 52,
+    LUKARIPE_REFUSED_SUM_PASSES_MAX = 53
 };
 
 /* The cause of a refusal in words. "accepted" for 0, and "unknown refusal" for a number that this version does not have. */
@@ -176,6 +179,12 @@ static inline const char *lukaripe_refusal_text(uint64_t refusal) {
         return "an alignment and a packing are both asked for";
     case LUKARIPE_REFUSED_ALIGN_MODIFIER_IN_PACKED:
         return "a member of a packed struct has an alignment modifier";
+    case LUKARIPE_REFUSED_NO_COUNTS:
+        return "there are no counts";
+    case LUKARIPE_REFUSED_END_ABOVE_SIZE:
+        return "the end of the elements is above the size";
+    case LUKARIPE_REFUSED_SUM_PASSES_MAX:
+        return "a sum over the counts overflows";
     default:
         return "unknown refusal";
     }
@@ -276,6 +285,29 @@ typedef struct {
  * them, so forms may be compared, sorted and hashed in the place of layouts. Every layout that has a size at 0 has one.
  * Refusals: 2, 46. */
 LUKARIPE_USE_RESULT lukaripe_normal_form_answer lukaripe_normal_form(lukaripe_trailing layout);
+/* ---- padding over counts ---- */
+
+/* How much of the sizes at several counts is padding. padding_numerator over padding_denominator: the total padding over the
+ * total size, 0 over 1 where that is 0. mean_numerator over mean_denominator: the mean size. Both are in lowest terms.
+ * greatest: the greatest padding at one of the counts, and index: the first of those that have it. place, of a refusal: the
+ * index of the count at fault, and 0 for the layout and for the empty list. */
+typedef struct {
+    uint64_t refusal;
+    uint64_t place;
+    uint64_t padding_numerator;
+    uint64_t padding_denominator;
+    uint64_t mean_numerator;
+    uint64_t mean_denominator;
+    uint64_t greatest;
+    uint64_t index;
+} lukaripe_padding_share;
+
+/* That of a trailing layout at these counts. The padding at a count is its size less where the elements end, offset + n *
+ * elem_size; totals are exact. Another order of counts that are accepted changes nothing but index. Refusals: 2; 51 where
+ * there are no counts; of each count in turn: 39 or 15, as lukaripe_size_for_elems has them, but without the greatest count;
+ * 52 where the elements end above the size; 53 where a sum over the counts so far is above 2^64 - 1. */
+LUKARIPE_USE_RESULT lukaripe_padding_share lukaripe_padding_of_counts(lukaripe_trailing layout, const uint64_t *counts,
+                                                                      size_t counts_len);
 
 /* ---- layouts ---- */
 

@@ -62,6 +62,11 @@ unsafe extern "C" {
     // size_base, elem_size, word.
     pub safe fn lukaripe_normal_form(layout: Trailing) -> Told<3>;
 
+    // ---- padding over counts: the values are the place, the two fractions, the greatest padding and its index ----
+
+    // The pointer may be NULL where the length is 0.
+    pub unsafe fn lukaripe_padding_of_counts(layout: Trailing, counts: *const u64, counts_len: usize) -> Told<7>;
+
     // ---- whole layouts ----
 
     pub safe fn lukaripe_new_zst(repr_align: u64) -> Told<6>;

@@ -1,8 +1,8 @@
 //! Layout arithmetic: sizes, padding, casts and conversions of records that end in a run of elements.
 //!
 //! The work is done by proved functions, which have the same names in C. They take any numbers and any bytes, and
-//! refuse what they cannot use: an error is a [`Refusal`], and of a list of members or records a [`Refused`], which
-//! also says where. All numbers are unsigned and 64 bits wide.
+//! refuse what they cannot use: an error is a [`Refusal`], and of a list of members, records or counts a [`Refused`],
+//! which also says where. All numbers are unsigned and 64 bits wide.
 //!
 //! ```
 //! use lukaripe::{for_repr_c_struct, Cast, CastType, Layout};
@@ -31,6 +31,8 @@
 //!   says where each member is placed, and [`Working`] takes them one by one.
 //! - [`Trailing`]: the run of elements at the end of a layout, its sizes and its padding; [`Trailing::sizes_agree`] and
 //!   [`NormalForm`]: whether two have the same sizes.
+//! - [`Trailing`]: the run of elements at the end of a layout, its sizes and its padding;
+//!   [`Trailing::padding_of_counts`]: how much of the sizes at a list of counts is padding.
 //! - [`Layout::validate_cast_and_convert_metadata`]: whether bytes hold such a record, and with how many elements.
 //! - [`CastParams`]: whether one record may be read as another, and with how many elements; [`convert_and_cast`];
 //!   [`Mode`]: by which comparison of sizes.
@@ -55,6 +57,7 @@ mod record;
 mod refusal;
 mod rounding;
 mod scalar;
+mod share;
 mod short;
 mod trailing;
 mod types;
@@ -72,6 +75,7 @@ pub use record::RECORD_LENGTH;
 pub use refusal::{NoSize, Refusal, Refused, Result, UnknownRefusal};
 pub use rounding::RoundingAlignAndPhase;
 pub use scalar::Scalar;
+pub use share::{Fraction, PaddingShare};
 pub use short::SHORT_RECORD_LENGTH;
 pub use short::{records_from_short, records_from_short_vec, records_to_short, records_to_short_vec};
 pub use trailing::Trailing;

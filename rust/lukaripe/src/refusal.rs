@@ -83,6 +83,9 @@ refusals! {
     FormBasePassesMax = 46, "the base of the normal form overflows";
     AlignAndPacked = 49, "an alignment and a packing are both asked for";
     AlignModifierInPacked = 50, "a member of a packed struct has an alignment modifier";
+    NoCounts = 51, "there are no counts";
+    EndAboveSize = 52, "the end of the elements is above the size";
+    SumPassesMax = 53, "a sum over the counts overflows";
 }
 
 impl Refusal {
@@ -151,7 +154,7 @@ impl fmt::Display for UnknownRefusal {
 
 impl Error for UnknownRefusal {}
 
-/// Why a list of members, or of records to move, is refused, and where.
+/// Why a list of members, of records to move, or of counts is refused, and where.
 ///
 /// A [`Refusal`] becomes one at place 0, so that `?` takes both in a function that composes.
 ///
@@ -175,7 +178,7 @@ impl Error for UnknownRefusal {}
 pub struct Refused {
     /// Why.
     pub refusal: Refusal,
-    /// The index of the member or record at fault; for the final padding the number of the members; else 0.
+    /// The index of the member, record or count at fault; for the final padding the number of the members; else 0.
     pub place: u64,
 }
 

@@ -24,6 +24,7 @@ STRUCTS = {
     "Trailing": "lukaripe_trailing",
     "TrailingAnswer": "lukaripe_trailing_answer",
     "NormalFormOut": "lukaripe_normal_form_answer",
+    "PaddingOut": "lukaripe_padding_share",
     "Layout": "lukaripe_layout",
     "LayoutOut": "lukaripe_layout_answer",
     "ComposedOut": "lukaripe_composed",
@@ -274,6 +275,16 @@ static bool untouched_behind(const uint64_t numbers[NUMBERS], size_t len) {
     return untouched(numbers + len, (NUMBERS - len) * sizeof *numbers);
 }
 
+/* Numbers to lend that are read: others stand before them and behind them, whose bytes are as those above. */
+static size_t take_numbers(uint64_t numbers[NUMBERS]) {
+    uint64_t len = next();
+    memset(numbers, BEFORE, NUMBERS * sizeof *numbers);
+    missing |= len > NUMBERS - 2;
+    for (size_t i = 0; !missing && i < len; i++)
+        numbers[1 + i] = next();
+    return missing ? 0 : (size_t)len;
+}
+
 /* The number of one member, of a list of so many bytes. */
 static uint64_t of_member(const uint64_t numbers[NUMBERS], uint64_t refusal, uint64_t member, size_t len) {
     size_t count = len / LUKARIPE_RECORD_LENGTH;
@@ -337,8 +348,13 @@ def numbers_of(kind, place, structs):
 
 
 def writes_numbers(parameters):
-    """The lent slices of numbers."""
+    """The lent slices of numbers that are written."""
     return [name for kind, name in parameters if kind == "uint64_t *"]
+
+
+def reads_numbers(parameters):
+    """The lent slices of numbers that are only read."""
+    return [name for kind, name in parameters if kind == "const uint64_t *"]
 
 
 def altered(parameters, structs):
@@ -392,6 +408,10 @@ def take(function, parameters, structs):
         elif kind == "uint64_t *":
             yield f"uint64_t {name}[NUMBERS];"
             yield f"size_t {name}_len = next_numbers({name});"
+        elif kind == "const uint64_t *":
+            yield f"uint64_t {name}[NUMBERS], {name}_before[NUMBERS];"
+            yield f"size_t {name}_len = take_numbers({name});"
+            yield f"memcpy({name}_before, {name}, sizeof {name});"
         else:
             yield f"{kind} {name} = next();"
 
@@ -426,7 +446,7 @@ def statements(function, result, parameters, structs):
             return "area"
         if kind.endswith("8_t *"):
             return "lent"
-        return f"{name} + 1" if name in lent_structs else name
+        return f"{name} + 1" if name in lent_structs or kind == "const uint64_t *" else name
 
     yield from take(function, parameters, structs)
     yield f"{result} r = {function}({', '.join(handed(*parameter) for parameter in parameters)});"
@@ -439,6 +459,9 @@ def statements(function, result, parameters, structs):
         yield "    return false;"
     for name in numbers:
         yield f"if (!untouched_behind({name}, r.refusal ? 0 : {name}_len))"
+        yield "    return false;"
+    for name in reads_numbers(parameters):
+        yield f"if (memcmp({name}_before, {name}, sizeof {name}))"
         yield "    return false;"
     for name in lent_structs:
         yield f"if (!untouched({name}, sizeof *{name}) || !untouched({name} + 2, sizeof *{name}))"

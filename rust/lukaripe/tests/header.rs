@@ -40,6 +40,7 @@ fn structs() -> Vec<String> {
         of_struct::<Trailing>("trailing"),
         of_struct::<Told<4>>("trailing_answer"),
         of_struct::<Told<3>>("normal_form_answer"),
+        of_struct::<Told<7>>("padding_share"),
         of_struct::<exports::Layout>("layout"),
         of_struct::<Told<6>>("layout_answer"),
         of_struct::<Told<7>>("composed"),

@@ -5,6 +5,7 @@
 
 mod full;
 mod layouts;
+mod shares;
 mod shorts;
 
 use lukaripe::*;
@@ -81,6 +82,7 @@ fn call(function: u64, i: &mut Inputs) -> Option<Vec<u64>> {
         12 => size(i.trailing().size_for_elems(i.number())),
         13 => trailing(i.trailing().advance(i.number(), i.number())),
         14 => decision(i.trailing().has_same_size_sequence(i.trailing())),
+        shares::FUNCTION => shares::call(i),
         _ => return layouts::call(function, i),
     })
 }
@@ -99,5 +101,5 @@ fn agrees_with_the_recorded_answers() {
             called.insert(numbers[0]);
         }
     }
-    assert_eq!(called, (1..=FUNCTIONS).collect());
+    assert_eq!(called, (1..=FUNCTIONS).chain([shares::FUNCTION]).collect());
 }
