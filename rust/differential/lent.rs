@@ -132,6 +132,15 @@ impl Numbers {
     }
 }
 
+/// A call that only reads numbers which it is lent: what it gave, and what it broke.
+pub fn reads_numbers<T>(lent: &[u64], call: impl FnOnce(*const u64, usize) -> T) -> (T, Option<&'static str>) {
+    let others = [OTHER_NUMBER; NUMBERS_AROUND];
+    let before = [&others, lent, &others].concat();
+    let mut all = before.clone();
+    let gave = call(all[NUMBERS_AROUND..].as_mut_ptr(), lent.len());
+    (gave, (all != before).then_some("numbers changed that it may not change"))
+}
+
 /// A call that alters a layout which it is lent, and gives the refusal number: that, the words afterwards, and what it
 /// broke. Other words stand before the lent ones and after them.
 pub fn alters(lent: [u64; 6], call: impl FnOnce(&mut Words<6>) -> u64) -> (u64, [u64; 6], Option<&'static str>) {

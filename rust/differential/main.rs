@@ -16,11 +16,13 @@ mod lists;
 mod moves;
 mod plain_full;
 mod plain_places;
+mod plain_share;
 mod plain_short;
 mod random;
 mod recorded;
 mod rows;
 mod runs;
+mod shares;
 mod shorts;
 mod table;
 
@@ -185,6 +187,12 @@ impl Tried<'_> {
     fn besides(&self) -> Vec<(String, u64)> {
         let way = [&moves::TO, &moves::FROM].into_iter().find(|way| way.name == self.row.name);
         way.map_or_else(|| full::counted(self.row.name), moves::counted)
+    /// What is counted besides: of a move how long its output was, and its records; of lists of counts how long they
+    /// were, and their other orders.
+        if self.row.name == "padding_of_counts" {
+            return shares::counted();
+        }
+        [&moves::TO, &moves::FROM].into_iter().find(|way| way.name == self.row.name).map_or(Vec::new(), moves::counted)
     }
 
     /// Whether its inputs are runs of additions, of which each step is counted too.

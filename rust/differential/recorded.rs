@@ -22,12 +22,20 @@
 //! conversion with casts after it is the parameters, and then of the count and of either cast the refusal number and
 //! the numbers; those of the casts stay where the conversion is refused. So all lines of a function have the same
 //! length, where it reads no bytes.
+//! of bytes written and ten words from that one on. Of the padding over counts the inputs are the layout, the number of
+//! counts and the counts, and the answer is the place, the two numbers of either fraction, the greatest padding and its
+//! index; the place stays on a refusal. That of a conversion with casts after it is the parameters,
+//! and then of the count and of either cast the refusal number and the numbers; those of the casts stay where the
+//! conversion is refused. So all lines of a function have the same length, where it reads no bytes or counts.
 
 use crate::answer::Answer;
 use crate::inputs::{Phase, PHASES};
 use crate::random::Random;
 use crate::rows::Row;
 use std::collections::BTreeSet;
+
+/// A line has no more numbers than its readers have room for: a longer one is not kept.
+const MOST: usize = 63;
 
 /// The lines kept of one function. As many are kept of each slot from each phase, every one seen as likely as another;
 /// where the slots are so many that this would pass the number asked for, one of each slot from any phase. The given
@@ -55,6 +63,9 @@ impl Recorded<'_> {
     }
 
     pub fn see(&mut self, phase: Phase, slot: usize, inputs: &[u64], answer: &Answer) {
+        if 1 + inputs.len() + 1 + self.row.values > MOST {
+            return;
+        }
         let kept_as = if self.shared && phase != Phase::Given { Phase::Random } else { phase };
         let (seen, kept) = &mut self.kept[slot * PHASES.len() + kept_as as usize];
         *seen += 1;

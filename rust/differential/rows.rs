@@ -6,6 +6,7 @@ mod full;
 mod layout;
 mod record;
 mod rounding;
+mod share;
 mod short;
 mod trailing;
 mod util;
@@ -22,6 +23,7 @@ pub const LAYERS: &[&[Row]] = &[
     util::ROWS,
     rounding::ROWS,
     trailing::ROWS,
+    share::ROWS,
     layout::ROWS,
     record::ROWS,
     working::ROWS,
