@@ -5,9 +5,13 @@ use exports_numbers::Components;
 use exports_numbers::Number;
 use exports_numbers::Trailing;
 use exports_numbers::TrailingAnswer;
+use exports_share::PaddingOut;
 use recorded::LENGTH;
 use recorded::Told;
 use recorded::WIDTH;
+
+// The greatest number of counts: with those before them and the answer behind them they fill a line.
+const COUNTS: usize = 50;
 
 // No call: no line agrees with it.
 fn tell_none() -> Told {
@@ -118,6 +122,49 @@ fn second(line: &[u64; WIDTH]) -> Trailing {
     }
 }
 
+fn tell_padding(inputs: usize, a: PaddingOut) -> Told {
+    Told {
+        inputs,
+        length: 8,
+        numbers: [
+            a.refusal,
+            a.place,
+            a.padding_numerator,
+            a.padding_denominator,
+            a.mean_numerator,
+            a.mean_denominator,
+            a.greatest,
+            a.index,
+            0,
+            0,
+            0,
+            0,
+            0,
+        ],
+    }
+}
+
+// The numbers behind the layout and the number of counts.
+fn counts_of(line: &[u64; WIDTH]) -> [u64; COUNTS] {
+    let mut counts = [0; COUNTS];
+    let mut k = 0;
+    while k < COUNTS {
+        counts[k] = line[6 + k];
+        k += 1;
+    }
+    counts
+}
+
+fn padding_of_counts(line: &[u64; WIDTH]) -> Told {
+    let length = line[5] as usize;
+    if length > COUNTS {
+        return tell_none();
+    }
+    let counts = counts_of(line);
+    let answer = exports_share::lukaripe_padding_of_counts(first(line), &counts[..length]);
+    tell_padding(5 + length, answer)
+}
+
 fn helper(line: &[u64; WIDTH]) -> Told {
     match line[0] {
         1 => tell_yes(1, exports_numbers::lukaripe_is_power_of_two(line[1])),
@@ -174,4 +221,8 @@ fn full(line: &[u64; WIDTH]) -> Told {
 // What the function of the line tells.
 pub(crate) fn call(line: &[u64; WIDTH]) -> Told {
     full(line)
+    match line[0] {
+        48 => padding_of_counts(line),
+        _ => trailing(line),
+    }
 }

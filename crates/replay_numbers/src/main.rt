@@ -1,4 +1,4 @@
-// Replays recorded answers of the functions of numbers and of trailing layouts.
+// Replays recorded answers of the functions of numbers, of trailing layouts and of the padding over counts.
 mod calls;
 
 use calls::call;
@@ -34,9 +34,11 @@ fn report(name: &[u8]) {
     io::write_all(STDOUT_FILENO, b" differ\n");
 }
 
-// The lines of `wrong` are wrong on purpose, in one number or in shape: a replay that misses one writes another count.
+// The answers of the padding over counts stand in a file of their own. The lines of `wrong` are wrong on purpose, in one number
+// or in shape: a replay that misses one writes another count.
 fn main() {
     report(b"answers");
     report(b"full");
+    report(b"share");
     report(b"wrong");
 }
