@@ -60,6 +60,8 @@ pub struct Case {
     pub tail: Words<4>,
     pub tail_n: TrailingSliceLayout,
     pub count: u64,
+    /// Counts of that trailing part, the sum of whose sizes does not overflow.
+    pub counts: Vec<u64>,
     /// A trailing part to compare with that one: in turn of the same sizes, of another element size, of another size at
     /// 0, and of another rounding.
     pub other_tail: Words<4>,
@@ -170,6 +172,19 @@ pub fn gained(set: Set) -> Vec<Case> {
         let phase = half + 1 + random.below(half - 1);
         case.source = Words([8, 3, base, 0, half, 2 * half + phase]);
         case.whole = Words([8, 3, base, 0, half, 2 * half]);
+/// Cases with as many counts.
+pub fn counts(set: Set, len: usize) -> Vec<Case> {
+    let mut cases = drawn(set, fewer(set, len), 0);
+    for case in &mut cases {
+        let Words([size_base, _, elem_size, _]) = case.tail;
+        // As in `draw`, of a part of the greatest number for each.
+        let last = (u64::MAX / len as u64 - size_base - (1 << 30)) / elem_size;
+        let count = |_| match set {
+            Set::Typical | Set::Refused => random.below(256),
+            Set::Random => random.log_uniform() % last,
+            Set::Worst => last - random.below(16),
+        };
+        case.counts = (0..len).map(count).collect();
     }
     cases
 }
@@ -303,6 +318,7 @@ fn draw(random: &mut Random, set: Set, members: usize) -> Option<Case> {
         tail: Words(tail(whole)),
         tail_n: trailing(tail(whole)),
         count,
+        counts: Vec::new(),
         other_tail: Words(other_tail),
         other_tail_n: trailing(other_tail),
         exact,

@@ -49,6 +49,25 @@ pub const COUNT: &[Spoil] = &[
     (15, |c| c.count = u64::MAX),
     (39, |c| c.tail.0 = [u64::MAX, c.tail.0[1], c.tail.0[2], 3]),
 ];
+
+/// Another layout, with this count at all places but the last, and that one there.
+fn put_counts(case: &mut Case, tail: [u64; 4], count: u64, last: u64) {
+    let at = case.counts.len() - 1;
+    case.tail = Words(tail);
+    case.counts[..at].fill(count);
+    case.counts[at] = last;
+}
+
+/// Of a list of counts: the layout, the empty list, the first count, and the last.
+pub const COUNTS: &[Spoil] = &[
+    (2, |c| c.tail.0[3] = 0),
+    (51, |c| c.counts.clear()),
+    (39, |c| c.tail.0 = [u64::MAX, c.tail.0[1], c.tail.0[2], 3]),
+    (52, |c| c.tail.0[1] = u64::MAX),
+    (15, |c| *c.counts.last_mut().unwrap() = u64::MAX),
+    (52, |c| put_counts(c, [8, 10, 1, 5], 2, 3)),
+    (53, |c| put_counts(c, [0, 0, 1, 1], 1, u64::MAX)),
+];
 pub const ADVANCE: &[Spoil] = &[
     (2, |c| c.tail.0[3] = 0),
     (17, |c| {

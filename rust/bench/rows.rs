@@ -1,6 +1,7 @@
 //! The table of functions: how each side of one is called on a case.
 
 use super::cases::{cases, gained, lists, moves, Case, Set};
+use super::cases::{cases, counts, lists, moves, Case, Set};
 use super::exports::*;
 use super::refused::*;
 use super::{full, go_through, plain, tested};
@@ -137,6 +138,15 @@ pub fn rows() -> Vec<Row> {
             [lukaripe_sizes_agree, full::sizes_agree], f(c.tail, c.other_tail);),
         row!("normal_form", cases, FORM, f, c =>
             [lukaripe_normal_form, full::normal_form], f(c.tail);),
+        row!("padding_of_counts, 10 counts", |set| counts(set, 10), COUNTS, f, c =>
+            [lukaripe_padding_of_counts, tested::padding_of_counts],
+            unsafe { f(c.tail, c.counts.as_ptr(), c.counts.len()) };),
+        row!("padding_of_counts, 1000 counts", |set| counts(set, 1000), COUNTS, f, c =>
+            [lukaripe_padding_of_counts, tested::padding_of_counts],
+            unsafe { f(c.tail, c.counts.as_ptr(), c.counts.len()) };),
+        row!("padding_of_counts, 100000 counts", |set| counts(set, 100_000), COUNTS, f, c =>
+            [lukaripe_padding_of_counts, tested::padding_of_counts],
+            unsafe { f(c.tail, c.counts.as_ptr(), c.counts.len()) };),
         row!("new_zst", cases, ASKED, f, c =>
             [lukaripe_new_zst, tested::new_zst], f(c.packing);
             plain::new_zst as fn(_) -> _, f(c.packing_n)),

@@ -600,3 +600,56 @@ pub unsafe extern "C" fn records_from_short(records: *const u8, len: usize, out:
     let (records, out) = unsafe { (slice::from_raw_parts(records, len), slice::from_raw_parts_mut(out, out_len)) };
     moved(records, out, check_short, |record, out| put_words(words_of_short(record), out))
 }
+
+// ---- padding over counts ----
+
+fn lowest_terms(numerator: u64, denominator: u64) -> (u64, u64) {
+    let (mut divisor, mut rest) = (numerator, denominator);
+    while rest != 0 {
+        (divisor, rest) = (rest, divisor % rest);
+    }
+    (numerator / divisor, denominator / divisor)
+}
+
+/// One pass, with the parts of the word taken once and checked arithmetic; or the refusal and its place.
+#[inline]
+fn padding_shares(layout: Trailing, counts: &[u64]) -> Result<[u64; 6], (u64, u64)> {
+    let Words([size_base, offset, elem_size, word]) = layout;
+    if word == 0 {
+        return Err((2, 0));
+    }
+    if counts.is_empty() {
+        return Err((51, 0));
+    }
+    let align = 1 << word.ilog2();
+    let (phase, mask) = (word - align, align - 1);
+    if size_base.checked_add((phase + mask) & !mask).is_none() {
+        return Err((39, 0));
+    }
+    let (mut sizes, mut paddings, mut greatest, mut index) = (0u64, 0u64, 0, 0);
+    for (place, count) in (0..).zip(counts) {
+        let bytes = count.checked_mul(elem_size).ok_or((15, place))?;
+        let unrounded = bytes.checked_add(phase + mask).ok_or((15, place))?;
+        let size = size_base.checked_add(unrounded & !mask).ok_or((15, place))?;
+        let past_offset = size.checked_sub(offset).ok_or((52, place))?;
+        let padding = past_offset.checked_sub(bytes).ok_or((52, place))?;
+        sizes = sizes.checked_add(size).ok_or((53, place))?;
+        // Not above the sum of the sizes.
+        paddings += padding;
+        if padding > greatest {
+            (greatest, index) = (padding, place);
+        }
+    }
+    let padding = if sizes == 0 { (0, 1) } else { lowest_terms(paddings, sizes) };
+    let mean = lowest_terms(sizes, counts.len() as u64);
+    Ok([padding.0, padding.1, mean.0, mean.1, greatest, index])
+}
+
+pub unsafe extern "C" fn padding_of_counts(layout: Trailing, counts: *const u64, counts_len: usize) -> Told<7> {
+    match padding_shares(layout, unsafe { slice::from_raw_parts(counts, counts_len) }) {
+        Ok([padding, of, mean, over, greatest, index]) => {
+            Told { refusal: 0, values: [0, padding, of, mean, over, greatest, index] }
+        }
+        Err((refusal, place)) => Told { refusal, values: [place, 0, 0, 0, 0, 0, 0] },
+    }
+}
