@@ -90,7 +90,8 @@ class Listing(WithLists):
             ("tools/listing /proc/self/mem", "Input/output error"),
         ]:
             self.says(command, 1, "", line("listing", *parts))
-        self.says("tools/listing README.md <&-", 1, "refused 20 at 0\n", line("listing", "48 bytes"))
+        LIST.write_bytes(bytes(49))
+        self.says(f"tools/listing '{LIST}' <&-", 1, "refused 20 at 0\n", line("listing", "48 bytes"))
 
     def test_a_file_that_may_not_be_read(self):
         closed = HOME / "closed"
