@@ -214,6 +214,7 @@ fn share_of(x: Sums, count: u64) -> Share
     }
 }
 
+// The share of a layout that was tested.
 fn share_of_tested(l: Tested, counts: &[u64]) -> ShareAnswer
     requires { ⌜ IsTested 64 l × (0 < length (now counts)) ⌝ }
     ensures { λ r. ⌜ shareSays r ≡ shareFor 64 (trailingOf (l .layout)) (now (counts .entry)) ⌝ }

@@ -42,16 +42,18 @@ pub record Accepted (w : ℕ) (t : Trailing) (ns : List ℕ) : Type 0 where
   pub list : None (listCauses t ns)
   pub counts : (i : ℕ) → i < length ns → None (causesAt w t ns i)
 
--- where they are refused: at 0 by the layout or the empty list, or at the first count that is refused, with its number
+-- the count with the index i is the first that is refused, and k is its number
 pub record StopsAt (w : ℕ) (t : Trailing) (ns : List ℕ) (k i : ℕ) : Type 0 where
   pub list : None (listCauses t ns)
   pub within : i < length ns
   pub before : (j : ℕ) → j < i → None (causesAt w t ns j)
   pub first : First (causesAt w t ns i) k
 
+-- where a list is refused: at 0 by the layout or for its length, or at its first count that is refused
 abbrev pub Stops : ℕ → Trailing → List ℕ → ℕ → ℕ → Type 0
 Stops w t ns k i = (First (listCauses t ns) k × (i ≡ 0)) ⊎ StopsAt w t ns k i
 
+-- what `padding_of_counts` gives, and what it refuses
 abbrev pub ShareMeans : ℕ → Trailing → List ℕ → Placed Share → Type 0
 ShareMeans w t ns (reached r) = Accepted w t ns × Shares w t ns r
 ShareMeans w t ns (stopped k i) = Stops w t ns k i
