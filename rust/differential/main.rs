@@ -183,16 +183,13 @@ impl Tried<'_> {
     }
 
     /// What is counted besides: of a move how long its output was, and its records; of the full comparison and mode how
-    /// they differ from the ported ones.
+    /// they differ from the ported ones; of lists of counts how long they were, and their other orders.
     fn besides(&self) -> Vec<(String, u64)> {
-        let way = [&moves::TO, &moves::FROM].into_iter().find(|way| way.name == self.row.name);
-        way.map_or_else(|| full::counted(self.row.name), moves::counted)
-    /// What is counted besides: of a move how long its output was, and its records; of lists of counts how long they
-    /// were, and their other orders.
         if self.row.name == "padding_of_counts" {
             return shares::counted();
         }
-        [&moves::TO, &moves::FROM].into_iter().find(|way| way.name == self.row.name).map_or(Vec::new(), moves::counted)
+        let way = [&moves::TO, &moves::FROM].into_iter().find(|way| way.name == self.row.name);
+        way.map_or_else(|| full::counted(self.row.name), moves::counted)
     }
 
     /// Whether its inputs are runs of additions, of which each step is counted too.

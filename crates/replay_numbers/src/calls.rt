@@ -220,9 +220,8 @@ fn full(line: &[u64; WIDTH]) -> Told {
 
 // What the function of the line tells.
 pub(crate) fn call(line: &[u64; WIDTH]) -> Told {
-    full(line)
     match line[0] {
         48 => padding_of_counts(line),
-        _ => trailing(line),
+        _ => full(line),
     }
 }
