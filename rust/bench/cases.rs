@@ -172,8 +172,13 @@ pub fn gained(set: Set) -> Vec<Case> {
         let phase = half + 1 + random.below(half - 1);
         case.source = Words([8, 3, base, 0, half, 2 * half + phase]);
         case.whole = Words([8, 3, base, 0, half, 2 * half]);
+    }
+    cases
+}
+
 /// Cases with as many counts.
 pub fn counts(set: Set, len: usize) -> Vec<Case> {
+    let mut random = Random::new(set as u64);
     let mut cases = drawn(set, fewer(set, len), 0);
     for case in &mut cases {
         let Words([size_base, _, elem_size, _]) = case.tail;

@@ -1,7 +1,6 @@
 //! The table of functions: how each side of one is called on a case.
 
-use super::cases::{cases, gained, lists, moves, Case, Set};
-use super::cases::{cases, counts, lists, moves, Case, Set};
+use super::cases::{cases, counts, gained, lists, moves, Case, Set};
 use super::exports::*;
 use super::refused::*;
 use super::{full, go_through, plain, tested};
