@@ -146,6 +146,9 @@ pub fn rows() -> Vec<Row> {
         row!("padding_of_counts, 100000 counts", |set| counts(set, 100_000), COUNTS, f, c =>
             [lukaripe_padding_of_counts, tested::padding_of_counts],
             unsafe { f(c.tail, c.counts.as_ptr(), c.counts.len()) };),
+        row!("padding_of_counts, 1000000 counts", |set| counts(set, 1_000_000), COUNTS, f, c =>
+            [lukaripe_padding_of_counts, tested::padding_of_counts],
+            unsafe { f(c.tail, c.counts.as_ptr(), c.counts.len()) };),
         row!("new_zst", cases, ASKED, f, c =>
             [lukaripe_new_zst, tested::new_zst], f(c.packing);
             plain::new_zst as fn(_) -> _, f(c.packing_n)),
