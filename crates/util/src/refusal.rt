@@ -72,6 +72,10 @@ pub const OUTPUT_SHORT: u64 = 41;
 pub const SPARE_OR_POWER: u64 = 42;
 // The base of a layout's normal form passes the greatest number.
 pub const FORM_BASE_PASSES_MAX: u64 = 46;
+// The length of the lists is above the greatest.
+pub const LISTS_TOO_LONG: u64 = 47;
+// The buffer cannot hold all cases.
+pub const CASES_SHORT: u64 = 48;
 // An alignment and a packing are both asked for.
 pub const ALIGN_AND_PACKED: u64 = 49;
 // A packed composition takes a member with an alignment modifier.

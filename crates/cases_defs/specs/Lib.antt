@@ -1,0 +1,3 @@
+pub mod Cases
+pub mod Order
+pub mod Write

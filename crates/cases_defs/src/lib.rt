@@ -1,0 +1,1 @@
+// No code: the definitions of all short member lists, and their laws.
