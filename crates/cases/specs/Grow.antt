@@ -1,5 +1,5 @@
--- What the recursion over the slots left writes, by the numbers that it is handed. Its bytes are those of the cases (proofs/Grown).
--- Assumes nothing.
+-- What the recursion over the slots left writes, by the numbers that it is handed; its bytes are those of the cases
+-- (`grown-cases`). Assumes nothing.
 use mathlib.Core.List.{List, _++_}
 use Prim.Native.Nat.{ℕ, zero, suc, _+_, _-_, _*_, _^_}
 use Rattle.words.specs.Bytes.{wordBytes}
