@@ -39,7 +39,7 @@
 #define LUKARIPE_VERSION_MAJOR 0
 #define LUKARIPE_VERSION_MINOR 7
 #define LUKARIPE_VERSION_PATCH 0
-#define LUKARIPE_VERSION "0.7.0"
+#define LUKARIPE_VERSION "0.8.0"
 
 /* An answer that is not looked at is a mistake: a refusal would go unseen. */
 #if defined(__GNUC__) || defined(__clang__)
@@ -91,6 +91,8 @@ enum {
     LUKARIPE_REFUSED_OUTPUT_SHORT = 41,
     LUKARIPE_REFUSED_SPARE_OR_POWER = 42,
     LUKARIPE_REFUSED_FORM_BASE_PASSES_MAX = 46,
+    LUKARIPE_REFUSED_LISTS_TOO_LONG = 47,
+    LUKARIPE_REFUSED_CASES_SHORT = 48,
     LUKARIPE_REFUSED_ALIGN_AND_PACKED = 49,
     LUKARIPE_REFUSED_ALIGN_MODIFIER_IN_PACKED = 50,
     LUKARIPE_REFUSED_NO_COUNTS = 51,
@@ -175,6 +177,10 @@ static inline const char *lukaripe_refusal_text(uint64_t refusal) {
         return "the spare bytes of a short record are not 0, or its power is above 63";
     case LUKARIPE_REFUSED_FORM_BASE_PASSES_MAX:
         return "the base of the normal form overflows";
+    case LUKARIPE_REFUSED_LISTS_TOO_LONG:
+        return "the lists are longer than 6 members";
+    case LUKARIPE_REFUSED_CASES_SHORT:
+        return "the buffer is too short for all cases";
     case LUKARIPE_REFUSED_ALIGN_AND_PACKED:
         return "an alignment and a packing are both asked for";
     case LUKARIPE_REFUSED_ALIGN_MODIFIER_IN_PACKED:
@@ -476,6 +482,20 @@ LUKARIPE_USE_RESULT lukaripe_moved lukaripe_records_to_short(const uint8_t *reco
  * then 22 or 2. */
 LUKARIPE_USE_RESULT lukaripe_moved lukaripe_records_from_short(const uint8_t *records, size_t len, uint8_t *out,
                                                                size_t out_len);
+
+/* ---- all short member lists ---- */
+
+enum {
+    LUKARIPE_CASE_LENGTH = 8,
+    LUKARIPE_CASES_LENGTH = 218440
+};
+
+/* Writes every list of up to longest members, each u8, u16, u32 or u64, under each packing of none, 1, 2, 4 and 8, to the front of
+ * out, and gives the number of bytes written; bytes behind the last case stay as they are. A case has 8
+ * bytes: the length of the list, the packing (0: none), and six scalar codes, of which the unused ones are 255. Shorter lists come
+ * first, then by code from the left, then by packing. With up to 6 members there are 27,305 of them, LUKARIPE_CASES_LENGTH bytes.
+ * On a refusal nothing is written. Refusals: 47 where longest is above 6; 48 where len is below the bytes of all. */
+LUKARIPE_USE_RESULT lukaripe_number lukaripe_write_cases(uint64_t longest, uint8_t *out, size_t len);
 
 /* ---- casts ---- */
 

@@ -128,6 +128,10 @@ unsafe extern "C" {
     pub unsafe fn lukaripe_records_to_short(records: *const u8, len: usize, out: *mut u8, out_len: usize) -> Told<2>;
     pub unsafe fn lukaripe_records_from_short(records: *const u8, len: usize, out: *mut u8, out_len: usize) -> Told<2>;
 
+    // ---- all short member lists ----
+
+    pub unsafe fn lukaripe_write_cases(longest: u64, out: *mut u8, len: usize) -> Told<1>;
+
     // ---- casts ----
 
     pub safe fn lukaripe_validate_cast_and_convert_metadata(

@@ -35,6 +35,8 @@
 //! - [`Layout::validate_cast_and_convert_metadata`]: whether bytes hold such a record, and with how many elements.
 //! - [`CastParams`]: whether one record may be read as another, and with how many elements; [`convert_and_cast`];
 //!   [`Mode`]: by which comparison of sizes.
+//! - [`cases`]: every short list of members under every packing, to test compositions with.
+//! - [`CastParams`]: whether one record may be read as another, and with how many elements; [`convert_and_cast`].
 //! - [`Layout::to_bytes`] and [`Layout::from_bytes`]: layouts as records of 48 bytes; [`Layout::to_short_bytes`] and
 //!   [`Layout::from_short_bytes`]: as short records of 32; [`records_to_short`] and [`records_from_short`]: lists of
 //!   either moved to the other form.
@@ -46,6 +48,7 @@ extern crate alloc;
 
 mod exports;
 
+mod cases;
 mod cast;
 mod compose;
 mod convert;
@@ -62,6 +65,7 @@ mod trailing;
 mod types;
 mod working;
 
+pub use cases::{cases, write_cases, Case, CASES_LENGTH, CASE_LENGTH, LONGEST_LIST};
 pub use cast::{Cast, CastType};
 pub use compose::{compose, compose_records, for_repr_c_struct, for_repr_c_struct_records};
 pub use compose::{for_repr_c_struct_places, for_repr_c_struct_places_into, for_repr_c_struct_places_records, Placed};

@@ -81,6 +81,8 @@ refusals! {
     OutputShort = 41, "the output is too short";
     SpareOrPower = 42, "the spare bytes of a short record are not 0, or its power is above 63";
     FormBasePassesMax = 46, "the base of the normal form overflows";
+    ListsTooLong = 47, "the lists are longer than 6 members";
+    CasesShort = 48, "the buffer is too short for all cases";
     AlignAndPacked = 49, "an alignment and a packing are both asked for";
     AlignModifierInPacked = 50, "a member of a packed struct has an alignment modifier";
     NoCounts = 51, "there are no counts";

@@ -207,10 +207,10 @@ static char line[4096];
 static char *at;
 static bool missing;
 
-/* Bytes to lend, and an area whose front is lent as the output of short records and moves; what those that are written
-   to hold before. Of numbers, how many at most. */
+/* Bytes to lend, and an area whose front is lent as the output of short records, moves and cases; what those that are
+   written to hold before. Of numbers, how many at most. */
 static uint8_t lent[1024];
-static uint8_t area[512];
+static uint8_t area[LUKARIPE_CASES_LENGTH + 56];
 enum { BEFORE = 0xa5, NUMBERS = 64 };
 
 static uint64_t next(void) {
@@ -366,14 +366,18 @@ def altered(parameters, structs):
 SEEN_OF_ONE, SEEN = 5, 10
 
 
+# What writes all cases is looked at as a move is.
+CASES = "lukaripe_write_cases"
+
+
 def output(function, parameters):
     """Of a function that writes to the area: what it is handed as the length, and whether it is a move. The record of
     48 bytes, which came before there were others, is written to `lent`."""
     kinds = [kind for kind, _ in parameters]
     if "uint8_t *" not in kinds or function == "lukaripe_encode":
         return None
-    moves = "const uint8_t *" in kinds
-    return "out_len" if moves else "len", moves
+    moves = "const uint8_t *" in kinds or function == CASES
+    return "out_len" if "const uint8_t *" in kinds else "len", moves
 
 
 def take(function, parameters, structs):
@@ -452,6 +456,8 @@ def statements(function, result, parameters, structs):
     yield f"{result} r = {function}({', '.join(handed(*parameter) for parameter in parameters)});"
     if written:
         count = "r.written" if written[1] else "(r ? 0u : LUKARIPE_SHORT_RECORD_LENGTH)"
+        if function == CASES:
+            count = "r.value"
         yield f"if ({count} > {written[0]} || !untouched(area + {count}, sizeof area - {count}))"
         yield "    return false;"
     elif writes:

@@ -7,7 +7,7 @@
 mod exports;
 
 use exports::{Told, Trailing};
-use lukaripe::{Refusal, Scalar, RECORD_LENGTH, SHORT_RECORD_LENGTH};
+use lukaripe::{Refusal, Scalar, CASES_LENGTH, CASE_LENGTH, RECORD_LENGTH, SHORT_RECORD_LENGTH};
 use std::collections::BTreeSet;
 use std::fmt::Debug;
 use std::mem::{align_of, size_of};
@@ -63,6 +63,8 @@ fn constants() -> Vec<String> {
         of_constant("FIXED_TO_FIXED", 0),
         of_constant("FIXED_TO_TRAILING", 1),
         of_constant("TRAILING_TO_TRAILING", 2),
+        of_constant("CASE_LENGTH", CASE_LENGTH as u64),
+        of_constant("CASES_LENGTH", CASES_LENGTH as u64),
         of_constant("RECORD_LENGTH", RECORD_LENGTH as u64),
         of_constant("SHORT_RECORD_LENGTH", SHORT_RECORD_LENGTH as u64),
     ];

@@ -1,6 +1,7 @@
 //! Whole layouts, records, casts and conversions.
 
 use super::{decision, full, number, shorts, told, Inputs};
+use super::{cases, decision, number, shorts, told, Inputs};
 use lukaripe::*;
 use std::num::NonZeroU64;
 
@@ -230,6 +231,7 @@ pub fn call(function: u64, i: &mut Inputs) -> Option<Vec<u64>> {
         38 => begun(i.asked()),
         39..=42 => shorts::call(function, i)?,
         43..=47 => full::call(function, i)?,
+        49 => cases::call(i),
         _ => panic!("no function {function}"),
     })
 }

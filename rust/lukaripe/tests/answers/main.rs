@@ -4,6 +4,7 @@
 //! rust/differential/recorded.rs.
 
 mod full;
+mod cases;
 mod layouts;
 mod shares;
 mod shorts;
@@ -13,7 +14,7 @@ use std::collections::BTreeSet;
 use std::{env, fs};
 
 /// The functions have the numbers from 1 to this.
-const FUNCTIONS: u64 = 48;
+const FUNCTIONS: u64 = 49;
 
 /// The inputs of a line that are left.
 struct Inputs<'a>(std::slice::Iter<'a, u64>);
