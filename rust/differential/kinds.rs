@@ -1,5 +1,6 @@
 //! What a parameter stands for, which decides the values that are worth trying.
 
+use crate::cases;
 use crate::inputs::Input;
 use crate::layouts;
 use crate::lists;
@@ -267,6 +268,16 @@ const SHORTS_TO_MOVE: Kind = Kind {
     ..LIST
 };
 
+/// The length of lists, the length of the output, and the word from which on it is looked at.
+const CASES_WANTED: Kind = Kind {
+    good: &[1, 200, 15],
+    bad: &[&[7, 200, 0], &[1, 199, 15]],
+    small: cases::small,
+    boundaries: Boundaries::Drawn(cases::draw),
+    draw: cases::draw,
+    ..LIST
+};
+
 pub const fn number(name: &'static str) -> Input {
     Input { name, kind: &NUMBER }
 }
@@ -325,6 +336,10 @@ pub const fn short_length(name: &'static str) -> Input {
 
 pub const fn short_record(name: &'static str) -> Input {
     Input { name, kind: &SHORT_RECORD }
+}
+
+pub const fn cases_wanted(name: &'static str) -> Input {
+    Input { name, kind: &CASES_WANTED }
 }
 
 pub const fn records_to_move(name: &'static str) -> Input {

@@ -81,7 +81,16 @@ pub const AREA: usize = 512;
 /// A call that writes to the front of an area, of which so many bytes are lent: what it gave, the area afterwards, and
 /// what it broke around that.
 pub fn fills<T>(len: usize, call: impl FnOnce(*mut u8, usize) -> T) -> (T, Vec<u8>, Option<&'static str>) {
-    let (gave, area, strays) = lend(&[OTHER; AREA], |out, _| call(out, len));
+    fills_area(AREA, len, call)
+}
+
+/// The same of an area of another length.
+pub fn fills_area<T>(
+    area: usize,
+    len: usize,
+    call: impl FnOnce(*mut u8, usize) -> T,
+) -> (T, Vec<u8>, Option<&'static str>) {
+    let (gave, area, strays) = lend(&vec![OTHER; area], |out, _| call(out, len));
     (gave, area, stray(strays))
 }
 

@@ -4,6 +4,7 @@
 //! run of the default number of inputs or more fails too where something that can come of a function never did.
 
 mod answer;
+mod cases;
 #[path = "../lukaripe/src/exports.rs"]
 mod exports;
 mod full;

@@ -24,6 +24,11 @@
 //! with casts after it is the parameters, and then of the count and of either cast the refusal number and the numbers;
 //! those of the casts stay where the conversion is refused. So all lines of a function have the same length, where it
 //! reads no bytes or counts.
+//! of bytes written and ten words from that one on. Of all cases the inputs are the length of the lists, that of the
+//! output, which is the front of an area of 218,496 bytes, and the index of a word, at most 27,302, and the answer is
+//! the number of bytes written and ten words. That of a conversion with casts after it is the parameters,
+//! and then of the count and of either cast the refusal number and the numbers; those of the casts stay where the
+//! conversion is refused. So all lines of a function have the same length, where it reads no bytes.
 
 use crate::answer::Answer;
 use crate::inputs::{Phase, PHASES};

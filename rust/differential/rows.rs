@@ -1,5 +1,6 @@
 //! The table of functions: a row each, in the order of include/lukaripe.h, a file for each layer.
 
+mod cases;
 mod cast;
 mod convert;
 mod full;
@@ -28,6 +29,7 @@ pub const LAYERS: &[&[Row]] = &[
     record::ROWS,
     working::ROWS,
     short::ROWS,
+    cases::ROWS,
     cast::ROWS,
     convert::ROWS,
     full::ROWS,
