@@ -1,6 +1,8 @@
 // A function for each recorded function: it takes the inputs from the line and tells the answer as a line has it.
 // The number of a function and the order of its inputs are those of rust/differential/recorded.rs and its rows.
 use exports_full::NormalFormOut;
+ghost use Prim.Native.Nat.{_≤_};
+ghost use lib.ListN.{length};
 use exports_numbers::Components;
 use exports_numbers::Number;
 use exports_numbers::Trailing;
@@ -12,6 +14,10 @@ use recorded::WIDTH;
 
 // The greatest number of counts: with those before them and the answer behind them they fill a line.
 const COUNTS: usize = 50;
+// The output of all cases is the front of so many bytes, of which ten words are looked at, from this one on at most.
+const CASES_AREA: usize = 218496;
+
+const LAST_CASES_SEEN: usize = 27302;
 
 // No call: no line agrees with it.
 fn tell_none() -> Told {
@@ -223,5 +229,57 @@ pub(crate) fn call(line: &[u64; WIDTH]) -> Told {
     match line[0] {
         48 => padding_of_counts(line),
         _ => full(line),
+// A word of the area, so many bytes behind a place.
+fn seen(area: &[u8], at: usize, behind: usize) -> u64 {
+    words::read_word(area, std::num::wrapping_add_usize(at, behind))
+}
+
+// The bytes written and ten words of the area, on a refusal too.
+fn tell_cases(n: Number, area: &[u8], at: usize) -> Told {
+    Told {
+        inputs: 3,
+        length: 12,
+        numbers: [
+            n.refusal,
+            n.value,
+            seen(area, at, 0),
+            seen(area, at, 8),
+            seen(area, at, 16),
+            seen(area, at, 24),
+            seen(area, at, 32),
+            seen(area, at, 40),
+            seen(area, at, 48),
+            seen(area, at, 56),
+            seen(area, at, 64),
+            seen(area, at, 72),
+            0,
+        ],
+    }
+}
+
+fn cases_into(longest: u64, area: &mut [u8], room: usize, at: usize) -> Told
+    requires { ⌜ room ≤ length (now area) ⌝ }
+{
+    let answer = exports_cases::lukaripe_write_cases(longest, &mut area[..room]);
+    tell_cases(answer, area, at)
+}
+
+fn cases(line: &[u64; WIDTH]) -> Told {
+    let room = line[2] as usize;
+    let from = line[3] as usize;
+    if room > CASES_AREA {
+        return tell_none();
+    }
+    if from > LAST_CASES_SEEN {
+        return tell_none();
+    }
+    let mut area = [165u8; CASES_AREA];
+    cases_into(line[1], &mut area, room, from * 8)
+}
+
+    if line[0] == 49 {
+        cases(line)
+    } else {
+        trailing(line)
     }
 }
