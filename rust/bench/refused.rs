@@ -323,6 +323,7 @@ fn put_short(case: &mut Case, record: [u64; 6], at: usize, byte: u8) {
 }
 
 /// Of moves: the lengths, then the last record.
+pub const CASES: &[Spoil] = &[(48, |c| c.shorts_room.truncate(3_399))];
 pub const TO_SHORT: &[Spoil] = &[
     (20, |c| c.records.truncate(c.records.len() - 1)),
     (41, |c| drop(c.shorts_room.pop())),

@@ -243,6 +243,10 @@ pub fn rows() -> Vec<Row> {
             [lukaripe_records_from_short, tested::records_from_short], moved(&c.shorts, &c.records_room, f);),
         row!("records_from_short, 100000 records", |set| moves(set, 100_000), FROM_SHORT, f, c =>
             [lukaripe_records_from_short, tested::records_from_short], moved(&c.shorts, &c.records_room, f);),
+        row!("write_cases, up to 3 members", |set| moves(set, 107), CASES, f, c =>
+            [lukaripe_write_cases, tested::write_cases], wrote(3, &c.shorts_room, f);),
+        row!("write_cases, up to 6 members", |set| moves(set, 6_827), CASES, f, c =>
+            [lukaripe_write_cases, tested::write_cases], wrote(6, &c.shorts_room, f);),
         row!("validate_cast_and_convert_metadata", cases, CAST, f, c =>
             [lukaripe_validate_cast_and_convert_metadata, tested::validate_cast_and_convert_metadata],
             f(c.whole, c.addr, c.len, c.suffix);
@@ -286,6 +290,14 @@ type Move = unsafe extern "C" fn(*const u8, usize, *mut u8, usize) -> Told<2>;
 fn moved(records: &[u8], room: &[Cell<u8>], by: Move) -> Told<2> {
     // SAFETY: the bytes are as many as said, and cells may be written.
     unsafe { by(records.as_ptr(), records.len(), room.as_ptr() as *mut u8, room.len()) }
+}
+
+type Write = unsafe extern "C" fn(u64, *mut u8, usize) -> Told<1>;
+
+#[inline(always)]
+fn wrote(longest: u64, room: &[Cell<u8>], by: Write) -> Told<1> {
+    // SAFETY: the bytes are as many as said, and cells may be written.
+    unsafe { by(longest, room.as_ptr() as *mut u8, room.len()) }
 }
 
 type Places = unsafe extern "C" fn(u64, u64, *const u8, usize, *mut u64, usize, *mut u64, usize) -> Told<7>;

@@ -652,4 +652,29 @@ pub unsafe extern "C" fn padding_of_counts(layout: Trailing, counts: *const u64,
         }
         Err((refusal, place)) => Told { refusal, values: [place, 0, 0, 0, 0, 0, 0] },
     }
+/// Every list of so many codes, the first code slowest, under each packing.
+pub unsafe extern "C" fn write_cases(longest: u64, out: *mut u8, len: usize) -> Told<1> {
+    let out = unsafe { slice::from_raw_parts_mut(out, len) };
+    if longest > 6 {
+        return told(Err(47));
+    }
+    let needed = 40 * (0..=longest as u32).map(|length| 4usize.pow(length)).sum::<usize>();
+    let Some(out) = out.get_mut(..needed) else { return told(Err(48)) };
+    let mut records = out.chunks_exact_mut(8);
+    for length in 0..=longest as usize {
+        let mut codes = [255; 6];
+        codes[..length].fill(0);
+        loop {
+            for packing in [0, 1, 2, 4, 8] {
+                let record = records.next().unwrap();
+                record[..2].copy_from_slice(&[length as u8, packing]);
+                record[2..].copy_from_slice(&codes);
+            }
+            // The next list: the last code that is not the greatest rises, and those behind it begin anew.
+            let Some(at) = codes[..length].iter().rposition(|code| *code < 3) else { break };
+            codes[at] += 1;
+            codes[at + 1..length].fill(0);
+        }
+    }
+    told(Ok([needed as u64]))
 }
