@@ -1,7 +1,7 @@
 //! All short member lists, of request 10 of document 02: the export, held to the plain text of it.
 //!
-//! The output is lent as the front of an area, whose other bytes stand behind it. A case is the length of the lists, the
-//! length that is lent and the word of the area from which on it is looked at. The answer has ten words of the area
+//! The output is lent as the front of an area, whose other bytes stand behind it. A case is the length of the lists,
+//! the length that is lent and the word of the area from which on it is looked at. The answer has ten words of the area
 //! from there on, as they are afterwards, on a refusal too; the whole area is compared beside.
 
 use crate::answer::Answer;
@@ -14,9 +14,9 @@ pub const AREA: usize = 218_440 + 56;
 const SEEN: usize = 10;
 const LAST: u64 = (AREA / 8 - SEEN) as u64;
 
-/// "Every list of up to a chosen length of u8, u16, u32 and u64, each under packing none, 1, 2, 4 and 8. Shorter lists come
-/// first, then by code from the left, then by packing in that order. Each case is written as one 8-byte record: length,
-/// packing (0 for none), six codes, unused ones 255."
+/// "Every list of up to a chosen length of u8, u16, u32 and u64, each under packing none, 1, 2, 4 and 8. Shorter lists
+/// come first, then by code from the left, then by packing in that order. Each case is written as one 8-byte record:
+/// length, packing (0 for none), six codes, unused ones 255."
 fn plain(longest: u64) -> Vec<u8> {
     let mut all = Vec::new();
     for length in 0..=longest as u32 {
