@@ -652,6 +652,8 @@ pub unsafe extern "C" fn padding_of_counts(layout: Trailing, counts: *const u64,
         }
         Err((refusal, place)) => Told { refusal, values: [place, 0, 0, 0, 0, 0, 0] },
     }
+}
+
 /// Every list of so many codes, the first code slowest, under each packing.
 pub unsafe extern "C" fn write_cases(longest: u64, out: *mut u8, len: usize) -> Told<1> {
     let out = unsafe { slice::from_raw_parts_mut(out, len) };

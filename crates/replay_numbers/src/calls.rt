@@ -1,8 +1,8 @@
 // A function for each recorded function: it takes the inputs from the line and tells the answer as a line has it.
 // The number of a function and the order of its inputs are those of rust/differential/recorded.rs and its rows.
-use exports_full::NormalFormOut;
 ghost use Prim.Native.Nat.{_≤_};
 ghost use lib.ListN.{length};
+use exports_full::NormalFormOut;
 use exports_numbers::Components;
 use exports_numbers::Number;
 use exports_numbers::Trailing;
@@ -14,9 +14,9 @@ use recorded::WIDTH;
 
 // The greatest number of counts: with those before them and the answer behind them they fill a line.
 const COUNTS: usize = 50;
+
 // The output of all cases is the front of so many bytes, of which ten words are looked at, from this one on at most.
 const CASES_AREA: usize = 218496;
-
 const LAST_CASES_SEEN: usize = 27302;
 
 // No call: no line agrees with it.
@@ -224,11 +224,6 @@ fn full(line: &[u64; WIDTH]) -> Told {
     }
 }
 
-// What the function of the line tells.
-pub(crate) fn call(line: &[u64; WIDTH]) -> Told {
-    match line[0] {
-        48 => padding_of_counts(line),
-        _ => full(line),
 // A word of the area, so many bytes behind a place.
 fn seen(area: &[u8], at: usize, behind: usize) -> u64 {
     words::read_word(area, std::num::wrapping_add_usize(at, behind))
@@ -277,9 +272,11 @@ fn cases(line: &[u64; WIDTH]) -> Told {
     cases_into(line[1], &mut area, room, from * 8)
 }
 
-    if line[0] == 49 {
-        cases(line)
-    } else {
-        trailing(line)
+// What the function of the line tells.
+pub(crate) fn call(line: &[u64; WIDTH]) -> Told {
+    match line[0] {
+        48 => padding_of_counts(line),
+        49 => cases(line),
+        _ => full(line),
     }
 }

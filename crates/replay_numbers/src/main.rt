@@ -34,16 +34,12 @@ fn report(name: &[u8]) {
     io::write_all(STDOUT_FILENO, b" differ\n");
 }
 
-// The answers of the padding over counts stand in a file of their own. The lines of `wrong` are wrong on purpose, in one number
-// or in shape: a replay that misses one writes another count.
+// The answers of equal sizes and forms, of the padding over counts and of all cases stand in files of their own. The lines of
+// `wrong` are wrong on purpose, in one number or in shape: a replay that misses one writes another count.
 fn main() {
     report(b"answers");
     report(b"full");
     report(b"share");
-// The answers of all cases stand in a file of their own. The lines of `wrong` are wrong on purpose, in one number or in shape: a
-// replay that misses one writes another count.
-fn main() {
-    report(b"answers");
     report(b"cases");
     report(b"wrong");
 }

@@ -33,10 +33,9 @@
 //!   [`NormalForm`]: whether two have the same sizes; [`Trailing::padding_of_counts`]: how much of the sizes at a list of
 //!   counts is padding.
 //! - [`Layout::validate_cast_and_convert_metadata`]: whether bytes hold such a record, and with how many elements.
+//! - [`cases`]: every short list of members under every packing, to test compositions with.
 //! - [`CastParams`]: whether one record may be read as another, and with how many elements; [`convert_and_cast`];
 //!   [`Mode`]: by which comparison of sizes.
-//! - [`cases`]: every short list of members under every packing, to test compositions with.
-//! - [`CastParams`]: whether one record may be read as another, and with how many elements; [`convert_and_cast`].
 //! - [`Layout::to_bytes`] and [`Layout::from_bytes`]: layouts as records of 48 bytes; [`Layout::to_short_bytes`] and
 //!   [`Layout::from_short_bytes`]: as short records of 32; [`records_to_short`] and [`records_from_short`]: lists of
 //!   either moved to the other form.

@@ -1,7 +1,6 @@
 //! Whole layouts, records, casts and conversions.
 
-use super::{decision, full, number, shorts, told, Inputs};
-use super::{cases, decision, number, shorts, told, Inputs};
+use super::{cases, decision, full, number, shorts, told, Inputs};
 use lukaripe::*;
 use std::num::NonZeroU64;
 

@@ -3,8 +3,8 @@
 //! tools/wrapper-test runs this: LUKARIPE_ANSWERS names the file. How a line reads is written in
 //! rust/differential/recorded.rs.
 
-mod full;
 mod cases;
+mod full;
 mod layouts;
 mod shares;
 mod shorts;
