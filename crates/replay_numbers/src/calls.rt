@@ -17,6 +17,7 @@ const COUNTS: usize = 50;
 
 // The output of all cases is the front of so many bytes, of which ten words are looked at, from this one on at most.
 const CASES_AREA: usize = 218496;
+
 const LAST_CASES_SEEN: usize = 27302;
 
 // No call: no line agrees with it.
