@@ -9,6 +9,7 @@ mod OfMake
 mod OfRecord
 mod OfCompose
 mod OfCast
+mod OfFront
 mod OfShift
 mod OfConvert
 mod OfGuarantee
