@@ -23,8 +23,8 @@ slice-aggregate-result : tie.Need-slice-aggregate-result
 slice-aggregate-result c =
     let k = c .before .before .before .before .before .before .before .args in
     let serves =
-        subst (λ (r : Serving). Serves 64 (layoutOf (k .layout)) (k .map-addr) (length (k .map .now)) (k .spare-addr) (length (k .spare .now)) (servingSays r))
-        (c .before .before .split-at .given .1) (c .before .before .before .before .which-serves .ensures .1) in
+    subst (λ (r : Serving). Serves 64 (layoutOf (k .layout)) (k .map-addr) (length (k .map .now)) (k .spare-addr) (length (k .spare .now)) (servingSays r))
+    (c .before .before .split-at .given .1) (c .before .before .before .before .which-serves .ensures .1) in
     sym (length-take-le _ _ (within-map serves))
 
 enum-known-split-at-2 : tie.Need-enum-known-split-at-2
@@ -34,8 +34,8 @@ slice-aggregate-result-2 : tie.Need-slice-aggregate-result-2
 slice-aggregate-result-2 c =
     let k = c .before .before .before .before .before .before .before .args in
     let serves =
-        subst (λ (r : Serving). Serves 64 (layoutOf (k .layout)) (k .map-addr) (length (k .map .now)) (k .spare-addr) (length (k .spare .now)) (servingSays r))
-        (c .before .before .split-at2 .given .1) (c .before .before .before .before .which-serves .ensures .1) in
+    subst (λ (r : Serving). Serves 64 (layoutOf (k .layout)) (k .map-addr) (length (k .map .now)) (k .spare-addr) (length (k .spare .now)) (servingSays r))
+    (c .before .before .split-at2 .given .1) (c .before .before .before .before .which-serves .ensures .1) in
     sym (length-take-le _ _ (within-spare serves))
 
 enum-told : tie.Need-enum-told
