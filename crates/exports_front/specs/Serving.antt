@@ -4,15 +4,15 @@ use Rattle.util_defs.specs.Refusal.{Outcome, answered, refused}
 use Rattle.front_defs.specs.Front.{Serving, ofMap, ofSpare, ofNeither}
 use Rattle.exports_front.specs.declared.ServingOut.{ServingOut}
 
--- which serves: 0 neither, 1 the map, 2 the spare; what its cast granted; the number by which each cast was refused, 0 where it
--- was not
+-- the number by which each cast was refused, 0 where it was not; which serves: 0 neither, 1 the map, 2 the spare; what its cast
+-- granted
 abbrev pub servingOut : Serving → ServingOut
 servingOut (ofMap g) =
-    record { serves = 1; count = g .count; split = g .split; «map_refusal» = 0; «spare_refusal» = 0 }
+    record { «map_refusal» = 0; «spare_refusal» = 0; serves = 1; count = g .count; split = g .split }
 servingOut (ofSpare k g) =
-    record { serves = 2; count = g .count; split = g .split; «map_refusal» = k; «spare_refusal» = 0 }
+    record { «map_refusal» = k; «spare_refusal» = 0; serves = 2; count = g .count; split = g .split }
 servingOut (ofNeither k j) =
-    record { serves = 0; count = 0; split = 0; «map_refusal» = k; «spare_refusal» = j }
+    record { «map_refusal» = k; «spare_refusal» = j; serves = 0; count = 0; split = 0 }
 
 -- a layout that is refused refuses both casts
 abbrev pub servingOutOf : Outcome Serving → ServingOut

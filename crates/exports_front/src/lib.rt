@@ -12,11 +12,11 @@ use layout::LayoutAnswer;
 
 #[repr(C)]
 pub struct ServingOut {
+    pub map_refusal: u64,
+    pub spare_refusal: u64,
     pub serves: u64,
     pub count: u64,
     pub split: u64,
-    pub map_refusal: u64,
-    pub spare_refusal: u64,
 }
 
 fn serving_out(a: Serving) -> ServingOut
@@ -24,32 +24,32 @@ fn serving_out(a: Serving) -> ServingOut
 {
     match a {
         Serving::Map { elems, split_at } => ServingOut {
+            map_refusal: 0,
+            spare_refusal: 0,
             serves: 1,
             count: elems,
             split: split_at,
-            map_refusal: 0,
-            spare_refusal: 0,
         },
         Serving::Spare {
             map_refusal,
             elems,
             split_at,
         } => ServingOut {
+            map_refusal,
+            spare_refusal: 0,
             serves: 2,
             count: elems,
             split: split_at,
-            map_refusal,
-            spare_refusal: 0,
         },
         Serving::Neither {
             map_refusal,
             spare_refusal,
         } => ServingOut {
+            map_refusal,
+            spare_refusal,
             serves: 0,
             count: 0,
             split: 0,
-            map_refusal,
-            spare_refusal,
         },
     }
 }
