@@ -39,7 +39,7 @@
 #define LUKARIPE_VERSION_MAJOR 0
 #define LUKARIPE_VERSION_MINOR 8
 #define LUKARIPE_VERSION_PATCH 0
-#define LUKARIPE_VERSION "0.8.0"
+#define LUKARIPE_VERSION "0.9.0"
 
 /* An answer that is not looked at is a mistake: a refusal would go unseen. */
 #if defined(__GNUC__) || defined(__clang__)
@@ -513,6 +513,28 @@ LUKARIPE_USE_RESULT lukaripe_cast lukaripe_validate_cast_and_convert_metadata(lu
 
 /* The greatest count whose size is exactly this. Refusals: layout refusals, 14 (a fixed layout and element size 0 too). */
 LUKARIPE_USE_RESULT lukaripe_number lukaripe_metadata_for_exact_size(lukaripe_layout layout, uint64_t size);
+
+enum {
+    LUKARIPE_NEITHER_SERVES = 0,
+    LUKARIPE_MAP_SERVES = 1,
+    LUKARIPE_SPARE_SERVES = 2
+};
+
+/* Which of two buffers serves, and what its prefix cast granted: the bytes that are read are its first split bytes. A buffer
+ * whose cast is refused does not serve; its number tells why, 0 where the cast was granted or not asked for. */
+typedef struct {
+    uint64_t map_refusal;
+    uint64_t spare_refusal;
+    uint64_t serves;
+    uint64_t count;
+    uint64_t split;
+} lukaripe_serving;
+
+/* Where to read a record in place: from a map, where its prefix cast is granted, else from a spare copy of it, where that one's
+ * is. The spare is not looked at where the map serves. It refuses nothing: where neither serves, count and split are 0, and both
+ * numbers tell why. The bytes themselves are not looked at. Numbers: layout refusals, of both; 10, 11, 12, 13. */
+LUKARIPE_USE_RESULT lukaripe_serving lukaripe_which_serves(lukaripe_layout layout, uint64_t map_addr, uint64_t map_len,
+                                                           uint64_t spare_addr, uint64_t spare_len);
 
 /* ---- conversions ---- */
 

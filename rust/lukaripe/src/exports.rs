@@ -141,6 +141,14 @@ unsafe extern "C" {
         suffix: bool,
     ) -> Told<2>;
     pub safe fn lukaripe_metadata_for_exact_size(layout: Layout, size: u64) -> Told<1>;
+    // The refusal is that of the map's cast; the values are the spare's, which serves, the count and the split.
+    pub safe fn lukaripe_which_serves(
+        layout: Layout,
+        map_addr: u64,
+        map_len: u64,
+        spare_addr: u64,
+        spare_len: u64,
+    ) -> Told<4>;
 
     // ---- conversions ----
 

@@ -33,6 +33,7 @@ STRUCTS = {
     "CastParams": "lukaripe_cast_params",
     "CastParamsOut": "lukaripe_cast_params_answer",
     "CarriedOut": "lukaripe_carried",
+    "ServingOut": "lukaripe_serving",
 }
 TYPES = {"u64": "uint64_t", "bool": "bool"} | STRUCTS
 

@@ -49,6 +49,7 @@ fn structs() -> Vec<String> {
         of_struct::<exports::CastParams>("cast_params"),
         of_struct::<Told<4>>("cast_params_answer"),
         of_struct::<exports::Carried>("carried"),
+        of_struct::<Told<4>>("serving"),
     ]
 }
 
@@ -65,6 +66,9 @@ fn constants() -> Vec<String> {
         of_constant("TRAILING_TO_TRAILING", 2),
         of_constant("CASE_LENGTH", CASE_LENGTH as u64),
         of_constant("CASES_LENGTH", CASES_LENGTH as u64),
+        of_constant("NEITHER_SERVES", 0),
+        of_constant("MAP_SERVES", 1),
+        of_constant("SPARE_SERVES", 2),
         of_constant("RECORD_LENGTH", RECORD_LENGTH as u64),
         of_constant("SHORT_RECORD_LENGTH", SHORT_RECORD_LENGTH as u64),
     ];

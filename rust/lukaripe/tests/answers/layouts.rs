@@ -188,6 +188,15 @@ fn cast(answer: Result<Cast>) -> Vec<u64> {
 }
 
 pub fn cast_params(answer: Result<CastParams>) -> Vec<u64> {
+fn serving(serving: Serving) -> Vec<u64> {
+    match serving {
+        Serving::Map(cast) => vec![0, 0, 1, cast.count, cast.split],
+        Serving::Spare { map, cast } => vec![map.number(), 0, 2, cast.count, cast.split],
+        Serving::Neither { map, spare } => vec![map.number(), spare.number(), 0, 0, 0],
+    }
+}
+
+fn cast_params(answer: Result<CastParams>) -> Vec<u64> {
     told(answer.map(|params| match params {
         CastParams::SizedToSized => [0, 0, 0, 0],
         CastParams::SizedToUnsized { dst_meta } => [1, 0, 0, dst_meta],
@@ -231,6 +240,7 @@ pub fn call(function: u64, i: &mut Inputs) -> Option<Vec<u64>> {
         39..=42 => shorts::call(function, i)?,
         43..=47 => full::call(function, i)?,
         49 => cases::call(i),
+        43 => serving(i.layout()?.which_serves(i.number(), i.number(), i.number(), i.number())),
         _ => panic!("no function {function}"),
     })
 }
