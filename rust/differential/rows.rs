@@ -4,6 +4,7 @@ mod cases;
 mod cast;
 mod convert;
 mod full;
+mod front;
 mod layout;
 mod record;
 mod rounding;
@@ -33,6 +34,7 @@ pub const LAYERS: &[&[Row]] = &[
     cast::ROWS,
     convert::ROWS,
     full::ROWS,
+    front::ROWS,
 ];
 
 pub struct Row {
