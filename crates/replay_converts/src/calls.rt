@@ -3,6 +3,7 @@
 use exports_converts::CastOut;
 use exports_converts::CastParams;
 use exports_converts::CastParamsOut;
+use exports_front::ServingOut;
 use exports_guarantee::CarriedOut;
 use exports_layouts::Layout;
 use exports_numbers::Number;
@@ -47,6 +48,28 @@ fn tell_params(c: CastParamsOut) -> Told {
             q.offset_delta_elems,
             q.elem_multiple,
             q.dst_meta,
+            0,
+            0,
+            0,
+            0,
+            0,
+            0,
+            0,
+            0,
+        ],
+    }
+}
+
+fn tell_serving(s: ServingOut) -> Told {
+    Told {
+        inputs: 10,
+        length: 5,
+        numbers: [
+            s.map_refusal,
+            s.spare_refusal,
+            s.serves,
+            s.count,
+            s.split,
             0,
             0,
             0,
@@ -151,6 +174,10 @@ fn cast(line: &[u64; WIDTH]) -> CastOut {
     )
 }
 
+fn served(line: &[u64; WIDTH]) -> ServingOut {
+    exports_front::lukaripe_which_serves(first(line), line[7], line[8], line[9], line[10])
+}
+
 fn carried(line: &[u64; WIDTH]) -> CarriedOut {
     exports_guarantee::lukaripe_convert_and_cast(
         first(line),
@@ -201,6 +228,7 @@ pub(crate) fn call(line: &[u64; WIDTH]) -> Told {
         45 => tell_number(9, matched_full(line)),
         46 => tell_params(computed_full(line)),
         47 => tell_carried(carried_full(line)),
+        43 => tell_serving(served(line)),
         _ => tell_none(),
     }
 }
