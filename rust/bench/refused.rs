@@ -107,6 +107,14 @@ pub const PAD: &[Spoil] = layouts![whole;
 ];
 pub const ENCODE: &[Spoil] = layouts![whole; (20, |c| c.room = 47)];
 pub const SCALAR: &[Spoil] = &[(23, |c| c.code += 9)];
+/// Where neither serves.
+pub const SERVING: &[Spoil] = layouts![whole;
+    (10, |c| c.whole.0[4] = 0),
+    (13, |c| {
+        c.addr = 0;
+        c.len = 0;
+    })
+];
 pub const CAST: &[Spoil] = layouts![whole;
     (10, |c| c.whole.0[4] = 0),
     (11, |c| c.addr = u64::MAX - c.len + 1),

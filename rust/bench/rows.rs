@@ -255,6 +255,8 @@ pub fn rows() -> Vec<Row> {
         row!("metadata_for_exact_size", cases, EXACT, f, c =>
             [lukaripe_metadata_for_exact_size, tested::metadata_for_exact_size], f(c.whole, c.exact);
             plain::metadata_for_exact_size as fn(&_, _) -> _, f(&c.whole_n, c.exact as usize)),
+        row!("which_serves", cases, SERVING, f, c =>
+            [lukaripe_which_serves, tested::which_serves], f(c.whole, 0, c.len, c.align, c.len);),
         row!("size_sequences_match", cases, SOURCE_TAIL, f, c =>
             [lukaripe_size_sequences_match, tested::size_sequences_match], f(c.source_tail, c.tail, c.shift);
             plain::size_sequences_match as fn(_, _, _) -> _, f(c.source_tail_n, c.tail_n, c.shift as usize)),

@@ -200,6 +200,36 @@ pub extern "C" fn size_for_elems(layout: Trailing, elems: u64) -> Told<1> {
     }
 }
 
+/// Whether bytes from their start hold a layout that is one.
+fn prefix(own: &DstLayout, addr: u64, len: u64) -> Result<[u64; 2], u64> {
+    if matches!(own.size_info, SizeInfo::SliceDst(TrailingSliceLayout { elem_size: 0, .. })) {
+        return Err(10);
+    }
+    if addr.checked_add(len).is_none() {
+        return Err(11);
+    }
+    match own.validate_cast_and_convert_metadata(addr as usize, len as usize, CastType::Prefix) {
+        Ok((count, split)) => Ok([count as u64, split as u64]),
+        Err(MetadataCastError::Alignment) => Err(12),
+        Err(MetadataCastError::Size) => Err(13),
+    }
+}
+
+/// The map where its cast is granted, else the spare where its own is.
+pub extern "C" fn which_serves(own: Layout, map: u64, map_len: u64, spare: u64, spare_len: u64) -> Told<4> {
+    let own = match layout(own) {
+        Ok(own) => own,
+        Err(refusal) => return Told { refusal, values: [refusal, 0, 0, 0] },
+    };
+    match prefix(&own, map, map_len) {
+        Ok([count, split]) => Told { refusal: 0, values: [0, 1, count, split] },
+        Err(refusal) => match prefix(&own, spare, spare_len) {
+            Ok([count, split]) => Told { refusal, values: [0, 2, count, split] },
+            Err(other) => Told { refusal, values: [other, 0, 0, 0] },
+        },
+    }
+}
+
 functions! {
     padding_needed_for(len: u64, align: u64) -> 1 {
         number(util::padding_needed_for(len as usize, alignment(align)?))
