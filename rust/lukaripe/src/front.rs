@@ -49,8 +49,8 @@ impl Layout {
     }
 
     /// The front part of the map or of its spare copy, whichever serves: as many bytes as its cast granted, and nothing
-    /// is copied. Where neither serves it is an empty part of the map; [`Layout::which_serves`] tells that from a granted
-    /// cast of no bytes, and why.
+    /// is copied. Where neither serves it is an empty part of the map; [`Layout::which_serves`] tells that from a
+    /// granted cast of no bytes, and why.
     ///
     /// `map_addr` and `spare_addr` are the addresses against which alignment is judged, as those that the bytes have in
     /// a mapped file. [`Layout::front_of`] takes the addresses of the slices themselves.
