@@ -51,7 +51,7 @@ fn neither(map: u64, spare: u64) -> Answer {
     Told { refusal: map, values: [spare, 0, 0, 0] }.into()
 }
 
-/// "The map serves when its prefix cast is granted, the spare when its own is and the map's is not": by the Rust's casts.
+/// "The map serves when its prefix cast is granted, the spare when its own is and the map's is not", by the Rust.
 fn by_the_casts(inputs: &[u64]) -> Answer {
     let cast =
         |addr, len| oracle::said(|| oracle::validate_cast_and_convert_metadata(layout_of(inputs), addr, len, false));
