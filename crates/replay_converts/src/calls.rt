@@ -229,6 +229,7 @@ pub(crate) fn call(line: &[u64; WIDTH]) -> Told {
         46 => tell_params(computed_full(line)),
         47 => tell_carried(carried_full(line)),
         43 => tell_serving(served(line)),
+        50 => tell_serving(served(line)),
         _ => tell_none(),
     }
 }

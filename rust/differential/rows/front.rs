@@ -12,7 +12,7 @@ const SPARE: &str = "the spare serves";
 const NEITHER: &str = "neither serves";
 
 pub const ROWS: &[Row] = &[Row {
-    number: 43,
+    number: 50,
     name: "which_serves",
     inputs: &[&[layout("layout"), number("map_addr"), number("map_len"), number("spare_addr"), number("spare_len")]],
     values: 4,

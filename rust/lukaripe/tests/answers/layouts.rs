@@ -241,6 +241,7 @@ pub fn call(function: u64, i: &mut Inputs) -> Option<Vec<u64>> {
         43..=47 => full::call(function, i)?,
         49 => cases::call(i),
         43 => serving(i.layout()?.which_serves(i.number(), i.number(), i.number(), i.number())),
+        50 => serving(i.layout()?.which_serves(i.number(), i.number(), i.number(), i.number())),
         _ => panic!("no function {function}"),
     })
 }
