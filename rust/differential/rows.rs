@@ -3,8 +3,8 @@
 mod cases;
 mod cast;
 mod convert;
-mod full;
 mod front;
+mod full;
 mod layout;
 mod record;
 mod rounding;

@@ -228,7 +228,6 @@ pub(crate) fn call(line: &[u64; WIDTH]) -> Told {
         45 => tell_number(9, matched_full(line)),
         46 => tell_params(computed_full(line)),
         47 => tell_carried(carried_full(line)),
-        43 => tell_serving(served(line)),
         50 => tell_serving(served(line)),
         _ => tell_none(),
     }

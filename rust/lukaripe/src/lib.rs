@@ -37,7 +37,6 @@
 //! - [`CastParams`]: whether one record may be read as another, and with how many elements; [`convert_and_cast`];
 //!   [`Mode`]: by which comparison of sizes.
 //! - [`Layout::front`]: the bytes of a record read in place, from a map or from a spare copy of it.
-//! - [`CastParams`]: whether one record may be read as another, and with how many elements; [`convert_and_cast`].
 //! - [`Layout::to_bytes`] and [`Layout::from_bytes`]: layouts as records of 48 bytes; [`Layout::to_short_bytes`] and
 //!   [`Layout::from_short_bytes`]: as short records of 32; [`records_to_short`] and [`records_from_short`]: lists of
 //!   either moved to the other form.
@@ -53,8 +52,8 @@ mod cases;
 mod cast;
 mod compose;
 mod convert;
-mod full;
 mod front;
+mod full;
 mod helpers;
 mod layout;
 mod record;
@@ -73,8 +72,8 @@ pub use compose::{compose, compose_records, for_repr_c_struct, for_repr_c_struct
 pub use compose::{for_repr_c_struct_places, for_repr_c_struct_places_into, for_repr_c_struct_places_records, Placed};
 pub use compose::{for_repr_c_struct_strict, for_repr_c_struct_strict_records};
 pub use convert::{convert_and_cast, size_sequences_match, Carried, CastParams};
-pub use full::{convert_and_cast_in, size_sequences_match_in, Mode, NormalForm};
 pub use front::Serving;
+pub use full::{convert_and_cast_in, size_sequences_match_in, Mode, NormalForm};
 pub use helpers::{is_power_of_two, max, min, padding_needed_for, round_down_to_next_multiple_of_alignment};
 pub use layout::{Layout, SizeInfo};
 pub use record::RECORD_LENGTH;

@@ -187,7 +187,6 @@ fn cast(answer: Result<Cast>) -> Vec<u64> {
     told(answer.map(|cast| [cast.count, cast.split]))
 }
 
-pub fn cast_params(answer: Result<CastParams>) -> Vec<u64> {
 fn serving(serving: Serving) -> Vec<u64> {
     match serving {
         Serving::Map(cast) => vec![0, 0, 1, cast.count, cast.split],
@@ -196,7 +195,7 @@ fn serving(serving: Serving) -> Vec<u64> {
     }
 }
 
-fn cast_params(answer: Result<CastParams>) -> Vec<u64> {
+pub fn cast_params(answer: Result<CastParams>) -> Vec<u64> {
     told(answer.map(|params| match params {
         CastParams::SizedToSized => [0, 0, 0, 0],
         CastParams::SizedToUnsized { dst_meta } => [1, 0, 0, dst_meta],
@@ -240,7 +239,6 @@ pub fn call(function: u64, i: &mut Inputs) -> Option<Vec<u64>> {
         39..=42 => shorts::call(function, i)?,
         43..=47 => full::call(function, i)?,
         49 => cases::call(i),
-        43 => serving(i.layout()?.which_serves(i.number(), i.number(), i.number(), i.number())),
         50 => serving(i.layout()?.which_serves(i.number(), i.number(), i.number(), i.number())),
         _ => panic!("no function {function}"),
     })
