@@ -30,8 +30,8 @@
 //!   [`for_repr_c_struct_strict`], which refuses what the Rust Reference forbids); [`for_repr_c_struct_places`] also
 //!   says where each member is placed, and [`Working`] takes them one by one.
 //! - [`Trailing`]: the run of elements at the end of a layout, its sizes and its padding; [`Trailing::sizes_agree`] and
-//!   [`NormalForm`]: whether two have the same sizes; [`Trailing::padding_of_counts`]: how much of the sizes at a list of
-//!   counts is padding.
+//!   [`NormalForm`]: whether two have the same sizes; [`Trailing::padding_of_counts`]: how much of the sizes at a list
+//!   of counts is padding.
 //! - [`Layout::validate_cast_and_convert_metadata`]: whether bytes hold such a record, and with how many elements.
 //! - [`cases`]: every short list of members under every packing, to test compositions with.
 //! - [`CastParams`]: whether one record may be read as another, and with how many elements; [`convert_and_cast`];
