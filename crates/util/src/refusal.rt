@@ -62,6 +62,18 @@ pub const SOURCE_ELEM_SMALLER: u64 = 30;
 pub const ELEM_NO_MULTIPLE: u64 = 31;
 // No conversion: no shift lines the sizes up.
 pub const NO_SHIFT: u64 = 32;
+// A description's bytes run out.
+pub const DESCRIPTION_CUT: u64 = 33;
+// A description's tag is unknown, or a power in it is above the greatest.
+pub const TAG_OR_POWER: u64 = 34;
+// More parts of a description are open than may be.
+pub const NESTING_TOO_DEEP: u64 = 35;
+// The element of an array or a slice is trailing.
+pub const ELEM_TRAILING: u64 = 36;
+// An array's size passes the greatest number.
+pub const ARRAY_PASSES_MAX: u64 = 37;
+// Bytes are left over behind a description.
+pub const BYTES_LEFT_OVER: u64 = 38;
 // Not even count 0 has a size.
 pub const NO_SIZE_AT_ZERO: u64 = 39;
 // The rounding word of a record needs more bits than a short one has.

@@ -1,0 +1,948 @@
+-- `describe::part` and `describe::add_members`, which call one another, meet their contracts: the bytes left fall. Assumes
+-- nothing.
+use mathlib.Core.Path.{sym, ap, _∙_}
+use native.Mathlib.Nat.{pos-of-ne-zero}
+use native.Mathlib.Omega.{arith}
+use borrow.Author.Needs.{needs}
+use lib.ListN.{length}
+use Rattle.util_defs.specs.Refusal.{Outcome}
+use Rattle.util_defs.specs.Placed.{Placed, reached, atPlace, goOn}
+use Rattle.util_defs.proofs.Tables.{told-by}
+use Rattle.layout_defs.specs.Layout.{Layout}
+use Rattle.layout.specs.View.{layoutOf, layoutSays}
+use Rattle.scalar.specs.Scalar.{target64}
+use Rattle.describe_defs.specs.Elements.{arrayFor, sliceOfFor}
+use Rattle.describe_defs.specs.Describe.{Part, closed, partFor}
+use Rattle.describe_defs.specs.Heads.{made}
+use Rattle.describe_defs.proofs.Meaning.{moved}
+use Rattle.describe_defs.proofs.Heads.{head-room, add-none, add-stop, add-off, add-on}
+use Rattle.heads.specs.View.{headSays}
+use Rattle.describe.specs.View.{partSays}
+use Rattle.describe.proofs.Ways.{code-scalar, by-head, body-on, body-off, step-is}
+use Prim.Native.Nat.{ℕ, _+_, _-_, _*_, _<_}
+use borrow.Fn.Kinds.{In}
+use borrow.Fn.PlainCycle.{Measures, is, falls, and}
+use Rattle.describe.proofs.add_members.Reads as add-members
+use Rattle.describe.proofs.add_members.Kinds as add-members-kinds
+use Rattle.describe.proofs.+add_members+part.Lts-add_members as add-members-lts
+use Rattle.describe.proofs.part.Reads as part
+use Rattle.describe.proofs.part.Kinds as part-kinds
+use Rattle.describe.proofs.+add_members+part.Lts-part as part-lts
+use Rattle.describe.proofs.array_part.Reads as array-part-reads
+use Rattle.describe.proofs.at_tag.Reads as at-tag-reads
+use Rattle.describe.proofs.slice_part.Reads as slice-part-reads
+use Rattle.describe.proofs.struct_part.Reads as struct-part-reads
+use Rattle.extend.proofs.extend.Reads as extend-reads
+use Rattle.heads.proofs.head.Reads as head-reads
+use Rattle.make.proofs.new_zst.Reads as new-zst-reads
+use Rattle.scalar.proofs.scalar.Reads as scalar-reads
+use Rattle.describe.proofs.+add_members+part.{statement}
+use Rattle.describe.proofs.+add_members+part.Tie.{close}
+
+abbrev μ-add-members : Measures 1 add-members-kinds.ps ℕ
+μ-add-members κs a = 2 * (length (a .0 .now) - a .1 .0) + 1
+
+abbrev μ-part : Measures 1 part-kinds.ps ℕ
+μ-part κs a = 2 * (length (a .0 .now) - a .1 .0)
+
+abbrev add-members-at : ℕ → In 1 add-members-kinds.ps
+add-members-at t =
+    and 1 add-members-kinds.ps (is 1 add-members-kinds.ps μ-add-members t) add-members.Pre
+
+abbrev add-members-below : ℕ → In 1 add-members-kinds.ps
+add-members-below t =
+    and 1 add-members-kinds.ps (falls 1 add-members-kinds.ps _<_ μ-add-members t) add-members.Pre
+
+abbrev part-at : ℕ → In 1 part-kinds.ps
+part-at t = and 1 part-kinds.ps (is 1 part-kinds.ps μ-part t) part.Pre
+
+abbrev part-below : ℕ → In 1 part-kinds.ps
+part-below t = and 1 part-kinds.ps (falls 1 part-kinds.ps _<_ μ-part t) part.Pre
+
+add-members-returns : (t : ℕ) → add-members-lts.Need-returns (
+  part-below t,
+  part.Post,
+  extend-reads.Asked,
+  extend-reads.Learnt,
+  add-members-below t,
+  add-members.Post,
+) (add-members-at t) add-members.Post
+add-members-returns t c = sym (add-none 64 (partFor 64 target64 (c .before .before .args .depth) (c .before .before .args .s .now)) (c .before .before .args .packed) (c .before .before .args .tag) (layoutOf (c .before .before .args .own)) (c .before .before .args .at) (c .before .before .args .left) (c .if1 .taken))
+
+add-members-part-requires : (t : ℕ) → add-members-lts.Need-part-requires (
+  part-below t,
+  part.Post,
+  extend-reads.Asked,
+  extend-reads.Learnt,
+  add-members-below t,
+  add-members.Post,
+) (add-members-at t) add-members.Post
+add-members-part-requires t c κs = (omega (arith, c .before .before .pre .0), tt)
+
+add-members-enum-known-layout : (t : ℕ) → add-members-lts.Need-enum-known-layout (
+  part-below t,
+  part.Post,
+  extend-reads.Asked,
+  extend-reads.Learnt,
+  add-members-below t,
+  add-members.Post,
+) (add-members-at t) add-members.Post
+add-members-enum-known-layout t c = search needs
+
+add-members-extend-requires : (t : ℕ) → add-members-lts.Need-extend-requires (
+  part-below t,
+  part.Post,
+  extend-reads.Asked,
+  extend-reads.Learnt,
+  add-members-below t,
+  add-members.Post,
+) (add-members-at t) add-members.Post
+add-members-extend-requires t c κs = search needs
+
+add-members-enum-known-grown : (t : ℕ) → add-members-lts.Need-enum-known-grown (
+  part-below t,
+  part.Post,
+  extend-reads.Asked,
+  extend-reads.Learnt,
+  add-members-below t,
+  add-members.Post,
+) (add-members-at t) add-members.Post
+add-members-enum-known-grown t c = search needs
+
+add-members-sub-add-members : (t : ℕ) → add-members-lts.Need-sub-add-members (
+  part-below t,
+  part.Post,
+  extend-reads.Asked,
+  extend-reads.Learnt,
+  add-members-below t,
+  add-members.Post,
+) (add-members-at t) add-members.Post
+add-members-sub-add-members t c = pos-of-ne-zero (c .before .before .before .before .before .before .before .before .if1 .left)
+
+add-members-add-members-requires : (t : ℕ) → add-members-lts.Need-add-members-requires (
+  part-below t,
+  part.Post,
+  extend-reads.Asked,
+  extend-reads.Learnt,
+  add-members-below t,
+  add-members.Post,
+) (add-members-at t) add-members.Post
+add-members-add-members-requires t c κs = (omega (arith, c .before .before .before .before .before .before .before .before .before .before .pre .0, moved 64 target64 (c .before .before .before .before .before .before .before .before .before .before .args .s .now) (c .before .before .before .before .before .before .before .before .before .before .args .depth) (c .before .before .before .before .before .before .before .before .before .before .args .at) (c .before .before .before .before .before .layout .given .0 .1 .0) (layoutOf (c .before .before .before .before .before .layout .given .0 .0)) (sym (c .before .before .before .before .before .before .before .part .ensures) ∙ ap partSays (c .before .before .before .before .before .layout .given .1))), tt)
+
+add-members-enum-known-number : (t : ℕ) → add-members-lts.Need-enum-known-number (
+  part-below t,
+  part.Post,
+  extend-reads.Asked,
+  extend-reads.Learnt,
+  add-members-below t,
+  add-members.Post,
+) (add-members-at t) add-members.Post
+add-members-enum-known-number t c = search needs
+
+add-members-enum-known-number-2 : (t : ℕ) → add-members-lts.Need-enum-known-number-2 (
+  part-below t,
+  part.Post,
+  extend-reads.Asked,
+  extend-reads.Learnt,
+  add-members-below t,
+  add-members.Post,
+) (add-members-at t) add-members.Post
+add-members-enum-known-number-2 t c = search needs
+
+add-members-returns-2 : (t : ℕ) → add-members-lts.Need-returns-2 (
+  part-below t,
+  part.Post,
+  extend-reads.Asked,
+  extend-reads.Learnt,
+  add-members-below t,
+  add-members.Post,
+) (add-members-at t) add-members.Post
+add-members-returns-2 t c = c .add-members .ensures ∙ sym (add-on 64 (partFor 64 target64 (c .before .before .before .before .before .before .before .before .before .before .before .args .depth) (c .before .before .before .before .before .before .before .before .before .before .before .args .s .now)) (c .before .before .before .before .before .before .before .before .before .before .before .args .packed) (c .before .before .before .before .before .before .before .before .before .before .before .args .tag) (layoutOf (c .before .before .before .before .before .before .before .before .before .before .before .args .own)) (c .before .before .before .before .before .before .before .before .before .before .before .args .at) (c .before .before .before .before .before .before .before .before .before .before .before .args .left) (c .before .before .before .before .before .before .before .before .before .if1 .left) (sym (c .before .before .before .before .before .before .before .before .part .ensures) ∙ ap partSays (c .before .before .before .before .before .before .layout .given .1)) (step-is 64 (c .before .before .before .before .before .before .before .before .before .before .before .args .packed) (layoutOf (c .before .before .before .before .before .before .before .before .before .before .before .args .own)) (layoutOf (c .before .before .before .before .before .before .layout .given .0 .0)) (told-by layoutSays (c .before .before .before .before .extend .ensures .0) (c .before .before .grown .given .1))))
+
+add-members-returns-3 : (t : ℕ) → add-members-lts.Need-returns-3 (
+  part-below t,
+  part.Post,
+  extend-reads.Asked,
+  extend-reads.Learnt,
+  add-members-below t,
+  add-members.Post,
+) (add-members-at t) add-members.Post
+add-members-returns-3 t c = sym (add-off 64 (partFor 64 target64 (c .before .before .before .before .before .before .before .before .before .before .args .depth) (c .before .before .before .before .before .before .before .before .before .before .args .s .now)) (c .before .before .before .before .before .before .before .before .before .before .args .packed) (c .before .before .before .before .before .before .before .before .before .before .args .tag) (layoutOf (c .before .before .before .before .before .before .before .before .before .before .args .own)) (c .before .before .before .before .before .before .before .before .before .before .args .at) (c .before .before .before .before .before .before .before .before .before .before .args .left) (c .before .before .before .before .before .before .before .before .if1 .left) (sym (c .before .before .before .before .before .before .before .part .ensures) ∙ ap partSays (c .before .before .before .before .before .layout .given .1)) (step-is 64 (c .before .before .before .before .before .before .before .before .before .before .args .packed) (layoutOf (c .before .before .before .before .before .before .before .before .before .before .args .own)) (layoutOf (c .before .before .before .before .before .layout .given .0 .0)) (told-by layoutSays (c .before .before .before .extend .ensures .0) (c .before .number .given .1))))
+
+add-members-returns-4 : (t : ℕ) → add-members-lts.Need-returns-4 (
+  part-below t,
+  part.Post,
+  extend-reads.Asked,
+  extend-reads.Learnt,
+  add-members-below t,
+  add-members.Post,
+) (add-members-at t) add-members.Post
+add-members-returns-4 t c = sym (add-stop 64 (partFor 64 target64 (c .before .before .before .before .before .before .args .depth) (c .before .before .before .before .before .before .args .s .now)) (c .before .before .before .before .before .before .args .packed) (c .before .before .before .before .before .before .args .tag) (layoutOf (c .before .before .before .before .before .before .args .own)) (c .before .before .before .before .before .before .args .at) (c .before .before .before .before .before .before .args .left) (c .before .before .before .before .if1 .left) (sym (c .before .before .before .part .ensures) ∙ ap partSays (c .before .number2 .given .1)))
+
+part-head-requires : (t : ℕ) → part-lts.Need-head-requires (
+  head-reads.Asked,
+  head-reads.Learnt,
+  scalar-reads.Asked,
+  scalar-reads.Learnt,
+  at-tag-reads.Asked,
+  at-tag-reads.Learnt,
+  part-below t,
+  part.Post,
+  array-part-reads.Asked,
+  array-part-reads.Learnt,
+  new-zst-reads.Asked,
+  new-zst-reads.Learnt,
+  add-members-below t,
+  add-members.Post,
+  struct-part-reads.Asked,
+  struct-part-reads.Learnt,
+  slice-part-reads.Asked,
+  slice-part-reads.Learnt,
+) (part-at t) part.Post
+part-head-requires t c κs = search needs
+
+part-enum-known-code : (t : ℕ) → part-lts.Need-enum-known-code (
+  head-reads.Asked,
+  head-reads.Learnt,
+  scalar-reads.Asked,
+  scalar-reads.Learnt,
+  at-tag-reads.Asked,
+  at-tag-reads.Learnt,
+  part-below t,
+  part.Post,
+  array-part-reads.Asked,
+  array-part-reads.Learnt,
+  new-zst-reads.Asked,
+  new-zst-reads.Learnt,
+  add-members-below t,
+  add-members.Post,
+  struct-part-reads.Asked,
+  struct-part-reads.Learnt,
+  slice-part-reads.Asked,
+  slice-part-reads.Learnt,
+) (part-at t) part.Post
+part-enum-known-code t c = search needs
+
+part-scalar-requires : (t : ℕ) → part-lts.Need-scalar-requires (
+  head-reads.Asked,
+  head-reads.Learnt,
+  scalar-reads.Asked,
+  scalar-reads.Learnt,
+  at-tag-reads.Asked,
+  at-tag-reads.Learnt,
+  part-below t,
+  part.Post,
+  array-part-reads.Asked,
+  array-part-reads.Learnt,
+  new-zst-reads.Asked,
+  new-zst-reads.Learnt,
+  add-members-below t,
+  add-members.Post,
+  struct-part-reads.Asked,
+  struct-part-reads.Learnt,
+  slice-part-reads.Asked,
+  slice-part-reads.Learnt,
+) (part-at t) part.Post
+part-scalar-requires t c κs = search needs
+
+part-add-at-tag : (t : ℕ) → part-lts.Need-add-at-tag (
+  head-reads.Asked,
+  head-reads.Learnt,
+  scalar-reads.Asked,
+  scalar-reads.Learnt,
+  at-tag-reads.Asked,
+  at-tag-reads.Learnt,
+  part-below t,
+  part.Post,
+  array-part-reads.Asked,
+  array-part-reads.Learnt,
+  new-zst-reads.Asked,
+  new-zst-reads.Learnt,
+  add-members-below t,
+  add-members.Post,
+  struct-part-reads.Asked,
+  struct-part-reads.Learnt,
+  slice-part-reads.Asked,
+  slice-part-reads.Learnt,
+) (part-at t) part.Post
+part-add-at-tag t c = omega (arith, head-room (c .before .before .before .before .before .before .args .s .now) (c .before .before .before .before .before .before .args .at) (c .before .before .before .before .before .before .args .depth) (sym (c .before .before .before .before .head .ensures) ∙ ap headSays (c .before .before .code .given .1)))
+
+part-at-tag-requires : (t : ℕ) → part-lts.Need-at-tag-requires (
+  head-reads.Asked,
+  head-reads.Learnt,
+  scalar-reads.Asked,
+  scalar-reads.Learnt,
+  at-tag-reads.Asked,
+  at-tag-reads.Learnt,
+  part-below t,
+  part.Post,
+  array-part-reads.Asked,
+  array-part-reads.Learnt,
+  new-zst-reads.Asked,
+  new-zst-reads.Learnt,
+  add-members-below t,
+  add-members.Post,
+  struct-part-reads.Asked,
+  struct-part-reads.Learnt,
+  slice-part-reads.Asked,
+  slice-part-reads.Learnt,
+) (part-at t) part.Post
+part-at-tag-requires t c κs = search needs
+
+part-enum-known-count : (t : ℕ) → part-lts.Need-enum-known-count (
+  head-reads.Asked,
+  head-reads.Learnt,
+  scalar-reads.Asked,
+  scalar-reads.Learnt,
+  at-tag-reads.Asked,
+  at-tag-reads.Learnt,
+  part-below t,
+  part.Post,
+  array-part-reads.Asked,
+  array-part-reads.Learnt,
+  new-zst-reads.Asked,
+  new-zst-reads.Learnt,
+  add-members-below t,
+  add-members.Post,
+  struct-part-reads.Asked,
+  struct-part-reads.Learnt,
+  slice-part-reads.Asked,
+  slice-part-reads.Learnt,
+) (part-at t) part.Post
+part-enum-known-count t c = search needs
+
+part-add-part : (t : ℕ) → part-lts.Need-add-part (
+  head-reads.Asked,
+  head-reads.Learnt,
+  scalar-reads.Asked,
+  scalar-reads.Learnt,
+  at-tag-reads.Asked,
+  at-tag-reads.Learnt,
+  part-below t,
+  part.Post,
+  array-part-reads.Asked,
+  array-part-reads.Learnt,
+  new-zst-reads.Asked,
+  new-zst-reads.Learnt,
+  add-members-below t,
+  add-members.Post,
+  struct-part-reads.Asked,
+  struct-part-reads.Learnt,
+  slice-part-reads.Asked,
+  slice-part-reads.Learnt,
+) (part-at t) part.Post
+part-add-part t c = omega (arith, head-room (c .before .before .before .before .before .args .s .now) (c .before .before .before .before .before .args .at) (c .before .before .before .before .before .args .depth) (sym (c .before .before .before .head .ensures) ∙ ap headSays (c .before .count .given .1)))
+
+part-add-part-2 : (t : ℕ) → part-lts.Need-add-part-2 (
+  head-reads.Asked,
+  head-reads.Learnt,
+  scalar-reads.Asked,
+  scalar-reads.Learnt,
+  at-tag-reads.Asked,
+  at-tag-reads.Learnt,
+  part-below t,
+  part.Post,
+  array-part-reads.Asked,
+  array-part-reads.Learnt,
+  new-zst-reads.Asked,
+  new-zst-reads.Learnt,
+  add-members-below t,
+  add-members.Post,
+  struct-part-reads.Asked,
+  struct-part-reads.Learnt,
+  slice-part-reads.Asked,
+  slice-part-reads.Learnt,
+) (part-at t) part.Post
+part-add-part-2 t c = omega (arith, head-room (c .before .before .before .before .before .args .s .now) (c .before .before .before .before .before .args .at) (c .before .before .before .before .before .args .depth) (sym (c .before .before .before .head .ensures) ∙ ap headSays (c .before .count .given .1)))
+
+part-sub-part : (t : ℕ) → part-lts.Need-sub-part (
+  head-reads.Asked,
+  head-reads.Learnt,
+  scalar-reads.Asked,
+  scalar-reads.Learnt,
+  at-tag-reads.Asked,
+  at-tag-reads.Learnt,
+  part-below t,
+  part.Post,
+  array-part-reads.Asked,
+  array-part-reads.Learnt,
+  new-zst-reads.Asked,
+  new-zst-reads.Learnt,
+  add-members-below t,
+  add-members.Post,
+  struct-part-reads.Asked,
+  struct-part-reads.Learnt,
+  slice-part-reads.Asked,
+  slice-part-reads.Learnt,
+) (part-at t) part.Post
+part-sub-part t c = head-room (c .before .before .before .before .before .args .s .now) (c .before .before .before .before .before .args .at) (c .before .before .before .before .before .args .depth) (sym (c .before .before .before .head .ensures) ∙ ap headSays (c .before .count .given .1)) .0
+
+part-part-requires : (t : ℕ) → part-lts.Need-part-requires (
+  head-reads.Asked,
+  head-reads.Learnt,
+  scalar-reads.Asked,
+  scalar-reads.Learnt,
+  at-tag-reads.Asked,
+  at-tag-reads.Learnt,
+  part-below t,
+  part.Post,
+  array-part-reads.Asked,
+  array-part-reads.Learnt,
+  new-zst-reads.Asked,
+  new-zst-reads.Learnt,
+  add-members-below t,
+  add-members.Post,
+  struct-part-reads.Asked,
+  struct-part-reads.Learnt,
+  slice-part-reads.Asked,
+  slice-part-reads.Learnt,
+) (part-at t) part.Post
+part-part-requires t c κs = (omega (arith, c .before .before .before .before .before .pre .0, head-room (c .before .before .before .before .before .args .s .now) (c .before .before .before .before .before .args .at) (c .before .before .before .before .before .args .depth) (sym (c .before .before .before .head .ensures) ∙ ap headSays (c .before .count .given .1))), tt)
+
+part-array-part-requires : (t : ℕ) → part-lts.Need-array-part-requires (
+  head-reads.Asked,
+  head-reads.Learnt,
+  scalar-reads.Asked,
+  scalar-reads.Learnt,
+  at-tag-reads.Asked,
+  at-tag-reads.Learnt,
+  part-below t,
+  part.Post,
+  array-part-reads.Asked,
+  array-part-reads.Learnt,
+  new-zst-reads.Asked,
+  new-zst-reads.Learnt,
+  add-members-below t,
+  add-members.Post,
+  struct-part-reads.Asked,
+  struct-part-reads.Learnt,
+  slice-part-reads.Asked,
+  slice-part-reads.Learnt,
+) (part-at t) part.Post
+part-array-part-requires t c κs = search needs
+
+part-enum-known-align : (t : ℕ) → part-lts.Need-enum-known-align (
+  head-reads.Asked,
+  head-reads.Learnt,
+  scalar-reads.Asked,
+  scalar-reads.Learnt,
+  at-tag-reads.Asked,
+  at-tag-reads.Learnt,
+  part-below t,
+  part.Post,
+  array-part-reads.Asked,
+  array-part-reads.Learnt,
+  new-zst-reads.Asked,
+  new-zst-reads.Learnt,
+  add-members-below t,
+  add-members.Post,
+  struct-part-reads.Asked,
+  struct-part-reads.Learnt,
+  slice-part-reads.Asked,
+  slice-part-reads.Learnt,
+) (part-at t) part.Post
+part-enum-known-align t c = search needs
+
+part-new-zst-requires : (t : ℕ) → part-lts.Need-new-zst-requires (
+  head-reads.Asked,
+  head-reads.Learnt,
+  scalar-reads.Asked,
+  scalar-reads.Learnt,
+  at-tag-reads.Asked,
+  at-tag-reads.Learnt,
+  part-below t,
+  part.Post,
+  array-part-reads.Asked,
+  array-part-reads.Learnt,
+  new-zst-reads.Asked,
+  new-zst-reads.Learnt,
+  add-members-below t,
+  add-members.Post,
+  struct-part-reads.Asked,
+  struct-part-reads.Learnt,
+  slice-part-reads.Asked,
+  slice-part-reads.Learnt,
+) (part-at t) part.Post
+part-new-zst-requires t c κs = search needs
+
+part-enum-known-empty : (t : ℕ) → part-lts.Need-enum-known-empty (
+  head-reads.Asked,
+  head-reads.Learnt,
+  scalar-reads.Asked,
+  scalar-reads.Learnt,
+  at-tag-reads.Asked,
+  at-tag-reads.Learnt,
+  part-below t,
+  part.Post,
+  array-part-reads.Asked,
+  array-part-reads.Learnt,
+  new-zst-reads.Asked,
+  new-zst-reads.Learnt,
+  add-members-below t,
+  add-members.Post,
+  struct-part-reads.Asked,
+  struct-part-reads.Learnt,
+  slice-part-reads.Asked,
+  slice-part-reads.Learnt,
+) (part-at t) part.Post
+part-enum-known-empty t c = search needs
+
+part-add-add-members : (t : ℕ) → part-lts.Need-add-add-members (
+  head-reads.Asked,
+  head-reads.Learnt,
+  scalar-reads.Asked,
+  scalar-reads.Learnt,
+  at-tag-reads.Asked,
+  at-tag-reads.Learnt,
+  part-below t,
+  part.Post,
+  array-part-reads.Asked,
+  array-part-reads.Learnt,
+  new-zst-reads.Asked,
+  new-zst-reads.Learnt,
+  add-members-below t,
+  add-members.Post,
+  struct-part-reads.Asked,
+  struct-part-reads.Learnt,
+  slice-part-reads.Asked,
+  slice-part-reads.Learnt,
+) (part-at t) part.Post
+part-add-add-members t c = omega (arith, head-room (c .before .before .before .before .before .before .before .before .before .args .s .now) (c .before .before .before .before .before .before .before .before .before .args .at) (c .before .before .before .before .before .before .before .before .before .args .depth) (sym (c .before .before .before .before .before .before .before .head .ensures) ∙ ap headSays (c .before .before .before .before .before .align .given .1)))
+
+part-sub-add-members : (t : ℕ) → part-lts.Need-sub-add-members (
+  head-reads.Asked,
+  head-reads.Learnt,
+  scalar-reads.Asked,
+  scalar-reads.Learnt,
+  at-tag-reads.Asked,
+  at-tag-reads.Learnt,
+  part-below t,
+  part.Post,
+  array-part-reads.Asked,
+  array-part-reads.Learnt,
+  new-zst-reads.Asked,
+  new-zst-reads.Learnt,
+  add-members-below t,
+  add-members.Post,
+  struct-part-reads.Asked,
+  struct-part-reads.Learnt,
+  slice-part-reads.Asked,
+  slice-part-reads.Learnt,
+) (part-at t) part.Post
+part-sub-add-members t c = head-room (c .before .before .before .before .before .before .before .before .before .args .s .now) (c .before .before .before .before .before .before .before .before .before .args .at) (c .before .before .before .before .before .before .before .before .before .args .depth) (sym (c .before .before .before .before .before .before .before .head .ensures) ∙ ap headSays (c .before .before .before .before .before .align .given .1)) .0
+
+part-add-members-requires : (t : ℕ) → part-lts.Need-add-members-requires (
+  head-reads.Asked,
+  head-reads.Learnt,
+  scalar-reads.Asked,
+  scalar-reads.Learnt,
+  at-tag-reads.Asked,
+  at-tag-reads.Learnt,
+  part-below t,
+  part.Post,
+  array-part-reads.Asked,
+  array-part-reads.Learnt,
+  new-zst-reads.Asked,
+  new-zst-reads.Learnt,
+  add-members-below t,
+  add-members.Post,
+  struct-part-reads.Asked,
+  struct-part-reads.Learnt,
+  slice-part-reads.Asked,
+  slice-part-reads.Learnt,
+) (part-at t) part.Post
+part-add-members-requires t c κs = (omega (arith, c .before .before .before .before .before .before .before .before .before .pre .0, head-room (c .before .before .before .before .before .before .before .before .before .args .s .now) (c .before .before .before .before .before .before .before .before .before .args .at) (c .before .before .before .before .before .before .before .before .before .args .depth) (sym (c .before .before .before .before .before .before .before .head .ensures) ∙ ap headSays (c .before .before .before .before .before .align .given .1))), tt)
+
+part-struct-part-requires : (t : ℕ) → part-lts.Need-struct-part-requires (
+  head-reads.Asked,
+  head-reads.Learnt,
+  scalar-reads.Asked,
+  scalar-reads.Learnt,
+  at-tag-reads.Asked,
+  at-tag-reads.Learnt,
+  part-below t,
+  part.Post,
+  array-part-reads.Asked,
+  array-part-reads.Learnt,
+  new-zst-reads.Asked,
+  new-zst-reads.Learnt,
+  add-members-below t,
+  add-members.Post,
+  struct-part-reads.Asked,
+  struct-part-reads.Learnt,
+  slice-part-reads.Asked,
+  slice-part-reads.Learnt,
+) (part-at t) part.Post
+part-struct-part-requires t c κs = search needs
+
+part-enum-known-number : (t : ℕ) → part-lts.Need-enum-known-number (
+  head-reads.Asked,
+  head-reads.Learnt,
+  scalar-reads.Asked,
+  scalar-reads.Learnt,
+  at-tag-reads.Asked,
+  at-tag-reads.Learnt,
+  part-below t,
+  part.Post,
+  array-part-reads.Asked,
+  array-part-reads.Learnt,
+  new-zst-reads.Asked,
+  new-zst-reads.Learnt,
+  add-members-below t,
+  add-members.Post,
+  struct-part-reads.Asked,
+  struct-part-reads.Learnt,
+  slice-part-reads.Asked,
+  slice-part-reads.Learnt,
+) (part-at t) part.Post
+part-enum-known-number t c = search needs
+
+part-enum-told : (t : ℕ) → part-lts.Need-enum-told (
+  head-reads.Asked,
+  head-reads.Learnt,
+  scalar-reads.Asked,
+  scalar-reads.Learnt,
+  at-tag-reads.Asked,
+  at-tag-reads.Learnt,
+  part-below t,
+  part.Post,
+  array-part-reads.Asked,
+  array-part-reads.Learnt,
+  new-zst-reads.Asked,
+  new-zst-reads.Learnt,
+  add-members-below t,
+  add-members.Post,
+  struct-part-reads.Asked,
+  struct-part-reads.Learnt,
+  slice-part-reads.Asked,
+  slice-part-reads.Learnt,
+) (part-at t) part.Post
+part-enum-told t c = search needs
+
+part-add-part-3 : (t : ℕ) → part-lts.Need-add-part-3 (
+  head-reads.Asked,
+  head-reads.Learnt,
+  scalar-reads.Asked,
+  scalar-reads.Learnt,
+  at-tag-reads.Asked,
+  at-tag-reads.Learnt,
+  part-below t,
+  part.Post,
+  array-part-reads.Asked,
+  array-part-reads.Learnt,
+  new-zst-reads.Asked,
+  new-zst-reads.Learnt,
+  add-members-below t,
+  add-members.Post,
+  struct-part-reads.Asked,
+  struct-part-reads.Learnt,
+  slice-part-reads.Asked,
+  slice-part-reads.Learnt,
+) (part-at t) part.Post
+part-add-part-3 t c = omega (arith, head-room (c .before .before .before .before .args .s .now) (c .before .before .before .before .args .at) (c .before .before .before .before .args .depth) (sym (c .before .before .head .ensures) ∙ ap headSays (c .enum-told .given .1)))
+
+part-sub-part-2 : (t : ℕ) → part-lts.Need-sub-part-2 (
+  head-reads.Asked,
+  head-reads.Learnt,
+  scalar-reads.Asked,
+  scalar-reads.Learnt,
+  at-tag-reads.Asked,
+  at-tag-reads.Learnt,
+  part-below t,
+  part.Post,
+  array-part-reads.Asked,
+  array-part-reads.Learnt,
+  new-zst-reads.Asked,
+  new-zst-reads.Learnt,
+  add-members-below t,
+  add-members.Post,
+  struct-part-reads.Asked,
+  struct-part-reads.Learnt,
+  slice-part-reads.Asked,
+  slice-part-reads.Learnt,
+) (part-at t) part.Post
+part-sub-part-2 t c = head-room (c .before .before .before .before .args .s .now) (c .before .before .before .before .args .at) (c .before .before .before .before .args .depth) (sym (c .before .before .head .ensures) ∙ ap headSays (c .enum-told .given .1)) .0
+
+part-part-requires-2 : (t : ℕ) → part-lts.Need-part-requires-2 (
+  head-reads.Asked,
+  head-reads.Learnt,
+  scalar-reads.Asked,
+  scalar-reads.Learnt,
+  at-tag-reads.Asked,
+  at-tag-reads.Learnt,
+  part-below t,
+  part.Post,
+  array-part-reads.Asked,
+  array-part-reads.Learnt,
+  new-zst-reads.Asked,
+  new-zst-reads.Learnt,
+  add-members-below t,
+  add-members.Post,
+  struct-part-reads.Asked,
+  struct-part-reads.Learnt,
+  slice-part-reads.Asked,
+  slice-part-reads.Learnt,
+) (part-at t) part.Post
+part-part-requires-2 t c κs = (omega (arith, c .before .before .before .before .pre .0, head-room (c .before .before .before .before .args .s .now) (c .before .before .before .before .args .at) (c .before .before .before .before .args .depth) (sym (c .before .before .head .ensures) ∙ ap headSays (c .enum-told .given .1))), tt)
+
+part-slice-part-requires : (t : ℕ) → part-lts.Need-slice-part-requires (
+  head-reads.Asked,
+  head-reads.Learnt,
+  scalar-reads.Asked,
+  scalar-reads.Learnt,
+  at-tag-reads.Asked,
+  at-tag-reads.Learnt,
+  part-below t,
+  part.Post,
+  array-part-reads.Asked,
+  array-part-reads.Learnt,
+  new-zst-reads.Asked,
+  new-zst-reads.Learnt,
+  add-members-below t,
+  add-members.Post,
+  struct-part-reads.Asked,
+  struct-part-reads.Learnt,
+  slice-part-reads.Asked,
+  slice-part-reads.Learnt,
+) (part-at t) part.Post
+part-slice-part-requires t c κs = search needs
+
+part-enum-known-number-2 : (t : ℕ) → part-lts.Need-enum-known-number-2 (
+  head-reads.Asked,
+  head-reads.Learnt,
+  scalar-reads.Asked,
+  scalar-reads.Learnt,
+  at-tag-reads.Asked,
+  at-tag-reads.Learnt,
+  part-below t,
+  part.Post,
+  array-part-reads.Asked,
+  array-part-reads.Learnt,
+  new-zst-reads.Asked,
+  new-zst-reads.Learnt,
+  add-members-below t,
+  add-members.Post,
+  struct-part-reads.Asked,
+  struct-part-reads.Learnt,
+  slice-part-reads.Asked,
+  slice-part-reads.Learnt,
+) (part-at t) part.Post
+part-enum-known-number-2 t c = search needs
+
+part-returns : (t : ℕ) → part-lts.Need-returns (
+  head-reads.Asked,
+  head-reads.Learnt,
+  scalar-reads.Asked,
+  scalar-reads.Learnt,
+  at-tag-reads.Asked,
+  at-tag-reads.Learnt,
+  part-below t,
+  part.Post,
+  array-part-reads.Asked,
+  array-part-reads.Learnt,
+  new-zst-reads.Asked,
+  new-zst-reads.Learnt,
+  add-members-below t,
+  add-members.Post,
+  struct-part-reads.Asked,
+  struct-part-reads.Learnt,
+  slice-part-reads.Asked,
+  slice-part-reads.Learnt,
+) (part-at t) part.Post
+part-returns t c =
+    c .at-tag .ensures ∙ ap (λ (o : Outcome Layout). atPlace (c .before .before .before .before .before .before .before .args .at) o (λ l. reached (l, c .before .before .before .before .before .before .before .args .at + 1))) (c .before .scalar .ensures .0 ∙ code-scalar target64 (c .before .before .before .code .given .0 .0) (head-room (c .before .before .before .before .before .before .before .args .s .now) (c .before .before .before .before .before .before .before .args .at) (c .before .before .before .before .before .before .before .args .depth) (sym (c .before .before .before .before .before .head .ensures) ∙ ap headSays (c .before .before .before .code .given .1)) .1))
+    ∙ sym (by-head 64 target64 (c .before .before .before .before .before .before .before .args .depth) (c .before .before .before .before .before .before .before .args .s .now) (c .before .before .before .before .before .before .before .args .at) (sym (c .before .before .before .before .before .head .ensures) ∙ ap headSays (c .before .before .before .code .given .1)))
+
+part-returns-2 : (t : ℕ) → part-lts.Need-returns-2 (
+  head-reads.Asked,
+  head-reads.Learnt,
+  scalar-reads.Asked,
+  scalar-reads.Learnt,
+  at-tag-reads.Asked,
+  at-tag-reads.Learnt,
+  part-below t,
+  part.Post,
+  array-part-reads.Asked,
+  array-part-reads.Learnt,
+  new-zst-reads.Asked,
+  new-zst-reads.Learnt,
+  add-members-below t,
+  add-members.Post,
+  struct-part-reads.Asked,
+  struct-part-reads.Learnt,
+  slice-part-reads.Asked,
+  slice-part-reads.Learnt,
+) (part-at t) part.Post
+part-returns-2 t c =
+    c .array-part .ensures ∙ ap (λ (p : Placed Part). goOn p (made (c .before .before .before .before .before .before .before .args .at) (λ l. arrayFor 64 l (c .before .before .before .count .given .0 .0)))) (c .before .part .ensures)
+    ∙ sym (by-head 64 target64 (c .before .before .before .before .before .before .before .args .depth) (c .before .before .before .before .before .before .before .args .s .now) (c .before .before .before .before .before .before .before .args .at) (sym (c .before .before .before .before .before .head .ensures) ∙ ap headSays (c .before .before .before .count .given .1)))
+
+part-returns-3 : (t : ℕ) → part-lts.Need-returns-3 (
+  head-reads.Asked,
+  head-reads.Learnt,
+  scalar-reads.Asked,
+  scalar-reads.Learnt,
+  at-tag-reads.Asked,
+  at-tag-reads.Learnt,
+  part-below t,
+  part.Post,
+  array-part-reads.Asked,
+  array-part-reads.Learnt,
+  new-zst-reads.Asked,
+  new-zst-reads.Learnt,
+  add-members-below t,
+  add-members.Post,
+  struct-part-reads.Asked,
+  struct-part-reads.Learnt,
+  slice-part-reads.Asked,
+  slice-part-reads.Learnt,
+) (part-at t) part.Post
+part-returns-3 t c =
+    c .struct-part .ensures ∙ ap (λ (p : Placed Part). goOn p (closed 64 (c .before .before .before .before .before .before .before .before .before .before .before .args .at))) (c .before .add-members .ensures)
+    ∙ sym (by-head 64 target64 (c .before .before .before .before .before .before .before .before .before .before .before .args .depth) (c .before .before .before .before .before .before .before .before .before .before .before .args .s .now) (c .before .before .before .before .before .before .before .before .before .before .before .args .at) (sym (c .before .before .before .before .before .before .before .before .before .head .ensures) ∙ ap headSays (c .before .before .before .before .before .before .before .align .given .1)) ∙ body-on 64 (partFor 64 target64 (c .before .before .before .before .before .before .before .before .before .before .before .args .depth - 1) (c .before .before .before .before .before .before .before .before .before .before .before .args .s .now)) (c .before .before .before .before .before .before .before .before .before .before .before .args .at) (c .before .before .before .before .before .before .before .align .given .0 .0) (c .before .before .before .before .before .before .before .align .given .0 .1 .0) (c .before .before .before .before .before .before .before .align .given .0 .1 .1 .0) (told-by layoutSays (c .before .before .before .before .before .new-zst .ensures .0) (c .before .before .before .empty .given .1)))
+
+part-returns-4 : (t : ℕ) → part-lts.Need-returns-4 (
+  head-reads.Asked,
+  head-reads.Learnt,
+  scalar-reads.Asked,
+  scalar-reads.Learnt,
+  at-tag-reads.Asked,
+  at-tag-reads.Learnt,
+  part-below t,
+  part.Post,
+  array-part-reads.Asked,
+  array-part-reads.Learnt,
+  new-zst-reads.Asked,
+  new-zst-reads.Learnt,
+  add-members-below t,
+  add-members.Post,
+  struct-part-reads.Asked,
+  struct-part-reads.Learnt,
+  slice-part-reads.Asked,
+  slice-part-reads.Learnt,
+) (part-at t) part.Post
+part-returns-4 t c =
+    sym (by-head 64 target64 (c .before .before .before .before .before .before .before .before .before .args .depth) (c .before .before .before .before .before .before .before .before .before .args .s .now) (c .before .before .before .before .before .before .before .before .before .args .at) (sym (c .before .before .before .before .before .before .before .head .ensures) ∙ ap headSays (c .before .before .before .before .before .align .given .1)) ∙ body-off 64 (partFor 64 target64 (c .before .before .before .before .before .before .before .before .before .args .depth - 1) (c .before .before .before .before .before .before .before .before .before .args .s .now)) (c .before .before .before .before .before .before .before .before .before .args .at) (c .before .before .before .before .before .align .given .0 .0) (c .before .before .before .before .before .align .given .0 .1 .0) (c .before .before .before .before .before .align .given .0 .1 .1 .0) (told-by layoutSays (c .before .before .before .new-zst .ensures .0) (c .before .number .given .1)))
+
+part-returns-5 : (t : ℕ) → part-lts.Need-returns-5 (
+  head-reads.Asked,
+  head-reads.Learnt,
+  scalar-reads.Asked,
+  scalar-reads.Learnt,
+  at-tag-reads.Asked,
+  at-tag-reads.Learnt,
+  part-below t,
+  part.Post,
+  array-part-reads.Asked,
+  array-part-reads.Learnt,
+  new-zst-reads.Asked,
+  new-zst-reads.Learnt,
+  add-members-below t,
+  add-members.Post,
+  struct-part-reads.Asked,
+  struct-part-reads.Learnt,
+  slice-part-reads.Asked,
+  slice-part-reads.Learnt,
+) (part-at t) part.Post
+part-returns-5 t c =
+    c .slice-part .ensures ∙ ap (λ (p : Placed Part). goOn p (made (c .before .before .before .before .before .before .args .at) (sliceOfFor 64))) (c .before .part2 .ensures)
+    ∙ sym (by-head 64 target64 (c .before .before .before .before .before .before .args .depth) (c .before .before .before .before .before .before .args .s .now) (c .before .before .before .before .before .before .args .at) (sym (c .before .before .before .before .head .ensures) ∙ ap headSays (c .before .before .enum-told .given .1)))
+
+part-returns-6 : (t : ℕ) → part-lts.Need-returns-6 (
+  head-reads.Asked,
+  head-reads.Learnt,
+  scalar-reads.Asked,
+  scalar-reads.Learnt,
+  at-tag-reads.Asked,
+  at-tag-reads.Learnt,
+  part-below t,
+  part.Post,
+  array-part-reads.Asked,
+  array-part-reads.Learnt,
+  new-zst-reads.Asked,
+  new-zst-reads.Learnt,
+  add-members-below t,
+  add-members.Post,
+  struct-part-reads.Asked,
+  struct-part-reads.Learnt,
+  slice-part-reads.Asked,
+  slice-part-reads.Learnt,
+) (part-at t) part.Post
+part-returns-6 t c = sym (by-head 64 target64 (c .before .before .before .before .before .args .depth) (c .before .before .before .before .before .args .s .now) (c .before .before .before .before .before .args .at) (sym (c .before .before .before .head .ensures) ∙ ap headSays (c .before .number2 .given .1)))
+
+pub +add-members+part-spec : {M : Type 1} → statement M
++add-members+part-spec = close μ-add-members μ-part (λ t. add-members-lts.spec (
+  part-below t,
+  part.Post,
+  extend-reads.Asked,
+  extend-reads.Learnt,
+  add-members-below t,
+  add-members.Post,
+)
+    (add-members-at t)
+    add-members.Post
+    (add-members-returns t)
+    (add-members-part-requires t)
+    (add-members-enum-known-layout t)
+    (add-members-extend-requires t)
+    (add-members-enum-known-grown t)
+    (add-members-sub-add-members t)
+    (add-members-add-members-requires t)
+    (add-members-enum-known-number t)
+    (add-members-enum-known-number-2 t)
+    (add-members-returns-2 t)
+    (add-members-returns-3 t)
+    (add-members-returns-4 t))
+    λ t. part-lts.spec (
+      head-reads.Asked,
+      head-reads.Learnt,
+      scalar-reads.Asked,
+      scalar-reads.Learnt,
+      at-tag-reads.Asked,
+      at-tag-reads.Learnt,
+      part-below t,
+      part.Post,
+      array-part-reads.Asked,
+      array-part-reads.Learnt,
+      new-zst-reads.Asked,
+      new-zst-reads.Learnt,
+      add-members-below t,
+      add-members.Post,
+      struct-part-reads.Asked,
+      struct-part-reads.Learnt,
+      slice-part-reads.Asked,
+      slice-part-reads.Learnt,
+    )
+    (part-at t)
+    part.Post
+    (part-head-requires t)
+    (part-enum-known-code t)
+    (part-scalar-requires t)
+    (part-add-at-tag t)
+    (part-at-tag-requires t)
+    (part-enum-known-count t)
+    (part-add-part t)
+    (part-add-part-2 t)
+    (part-sub-part t)
+    (part-part-requires t)
+    (part-array-part-requires t)
+    (part-enum-known-align t)
+    (part-new-zst-requires t)
+    (part-enum-known-empty t)
+    (part-add-add-members t)
+    (part-sub-add-members t)
+    (part-add-members-requires t)
+    (part-struct-part-requires t)
+    (part-enum-known-number t)
+    (part-enum-told t)
+    (part-add-part-3 t)
+    (part-sub-part-2 t)
+    (part-part-requires-2 t)
+    (part-slice-part-requires t)
+    (part-enum-known-number-2 t)
+    (part-returns t)
+    (part-returns-2 t)
+    (part-returns-3 t)
+    (part-returns-4 t)
+    (part-returns-5 t)
+    (part-returns-6 t)

@@ -1,0 +1,31 @@
+-- `describe::read` meets its contract. Assumes nothing.
+use mathlib.Core.Path.{sym, ap, _∙_}
+use Rattle.scalar.specs.Scalar.{target64}
+use Rattle.describe.specs.View.{partSays}
+use Rattle.describe.proofs.Ways.{whole-told, whole-on, whole-over, whole-off}
+use borrow.Author.Needs.{needs}
+use Rattle.describe.proofs.read.Statement.{statement}
+use Rattle.describe.proofs.read.Tie as tie
+
+part-requires : tie.Need-part-requires
+part-requires c κs = search needs
+
+enum-known-layout : tie.Need-enum-known-layout
+enum-known-layout c = search needs
+
+enum-known-number : tie.Need-enum-known-number
+enum-known-number c = search needs
+
+returns : tie.Need-returns
+returns c = whole-told 64 target64 (c .before .before .before .before .before .before .args .description .now) (whole-on 64 target64 (c .before .before .before .before .before .before .args .description .now) (sym (c .before .before .before .before .part .ensures) ∙ ap partSays (c .before .before .layout .given .1)) (c .if1 .taken))
+
+returns-2 : tie.Need-returns-2
+returns-2 c = whole-told 64 target64 (c .before .before .before .before .before .before .args .description .now) (whole-over 64 target64 (c .before .before .before .before .before .before .args .description .now) (sym (c .before .before .before .before .part .ensures) ∙ ap partSays (c .before .before .layout .given .1)) (c .if1 .left))
+
+returns-3 : tie.Need-returns-3
+returns-3 c = whole-told 64 target64 (c .before .before .before .before .before .args .description .now) (whole-off 64 target64 (c .before .before .before .before .before .args .description .now) (sym (c .before .before .before .part .ensures) ∙ ap partSays (c .before .number .given .1)))
+
+pub read-spec : {M : Type 1} → statement M
+read-spec =
+    tie.close
+    (tie.spec part-requires enum-known-layout enum-known-number returns returns-2 returns-3)

@@ -1,0 +1,158 @@
+// Nested type descriptions, read into layouts. The stack of open parts is that of the calls.
+ghost use mathlib.Core.Path.{_≡_};
+ghost use Rattle.util_defs.specs.Placed.{reached, atPlace, goOn};
+ghost use Rattle.layout.specs.View.{layoutOf, layoutSays};
+ghost use Rattle.scalar.specs.Scalar.{target64};
+ghost use Rattle.describe_defs.specs.Elements.{arrayFor, sliceOfFor};
+ghost use Rattle.describe_defs.specs.Describe.{addRead, closed, partFor, describedFor};
+ghost use Rattle.describe_defs.specs.Heads.{made};
+ghost use Rattle.describe_defs.specs.Grammar.{ReadMeans};
+ghost use Rattle.describe.specs.View.{partSays, readSays};
+use heads::COUNT_BYTES;
+use heads::HeadAnswer;
+use layout::DstLayout;
+use layout::LayoutAnswer;
+use layout::SizeInfo;
+use util::refusal;
+
+// As many structs, arrays and slices may be open.
+pub const MAX_DEPTH: usize = 16;
+
+// The layout of a part and the place behind its last byte, or the number of the refusal and its place.
+pub enum PartAnswer {
+    Part { layout: DstLayout, next: usize },
+    Refused { number: u64, place: usize },
+}
+
+// The layout of a description, or the number of the refusal and its place.
+pub enum ReadAnswer {
+    Layout(DstLayout),
+    Refused { number: u64, place: u64 },
+}
+
+// The part that ends before next; a refusal of its layout stands at its tag.
+fn at_tag(answer: LayoutAnswer, next: usize, tag: usize) -> PartAnswer
+    ensures { λ r. ⌜ partSays r ≡ atPlace tag (layoutSays answer) (λ l. reached (l, next)) ⌝ }
+{
+    match answer {
+        LayoutAnswer::Layout(layout) => PartAnswer::Part { layout, next },
+        LayoutAnswer::Refused(number) => PartAnswer::Refused { number, place: tag },
+    }
+}
+
+// An array of an element that was read.
+fn array_part(element: PartAnswer, count: u64, tag: usize) -> PartAnswer
+    ensures { λ r. ⌜ partSays r ≡ goOn (partSays element) (made tag (λ l. arrayFor 64 l count)) ⌝ }
+{
+    match element {
+        PartAnswer::Part { layout, next } => at_tag(elements::for_array(layout, count), next, tag),
+        PartAnswer::Refused { number, place } => PartAnswer::Refused { number, place },
+    }
+}
+
+// A slice of it.
+fn slice_part(element: PartAnswer, tag: usize) -> PartAnswer
+    ensures { λ r. ⌜ partSays r ≡ goOn (partSays element) (made tag (sliceOfFor 64)) ⌝ }
+{
+    match element {
+        PartAnswer::Part { layout, next } => at_tag(elements::for_slice_of(layout), next, tag),
+        PartAnswer::Refused { number, place } => PartAnswer::Refused { number, place },
+    }
+}
+
+// A struct whose members were read: closing padding.
+fn struct_part(members: PartAnswer, tag: usize) -> PartAnswer
+    ensures { λ r. ⌜ partSays r ≡ goOn (partSays members) (closed 64 tag) ⌝ }
+{
+    match members {
+        PartAnswer::Part { layout, next } => at_tag(padding::pad_to_align(layout), next, tag),
+        PartAnswer::Refused { number, place } => PartAnswer::Refused { number, place },
+    }
+}
+
+// The part at at, with depth parts more that may be open. It may open a struct.
+pub fn part(s: &[u8], at: usize, depth: usize) -> PartAnswer
+    ensures { λ r. ⌜ partSays r ≡ partFor 64 target64 depth (now (s .entry)) at ⌝ }
+{
+    match heads::head(s, at, depth) {
+        HeadAnswer::Scalar(code) => at_tag(scalar::scalar(code), at + 1, at),
+        HeadAnswer::Array { count } => {
+            array_part(part(s, at + 1 + COUNT_BYTES, depth - 1), count, at)
+        }
+        HeadAnswer::Struct {
+            align,
+            packed,
+            count,
+        } => match make::new_zst(align) {
+            LayoutAnswer::Layout(empty) => {
+                struct_part(
+                    add_members(s, at + 4, depth - 1, count, empty, packed, at),
+                    at,
+                )
+            }
+            LayoutAnswer::Refused(number) => PartAnswer::Refused { number, place: at },
+        },
+        HeadAnswer::Slice => slice_part(part(s, at + 1, depth - 1), at),
+        HeadAnswer::Refused { number, place } => PartAnswer::Refused { number, place },
+    }
+}
+
+// The members left of a struct whose tag is at tag, the next one at at: each read whole, then added to the layout.
+pub fn add_members(
+    s: &[u8],
+    at: usize,
+    depth: usize,
+    left: u64,
+    own: DstLayout,
+    packed: u64,
+    tag: usize,
+) -> PartAnswer
+    ensures { λ r. ⌜
+        partSays r ≡ addRead 64 (partFor 64 target64 depth (now (s .entry))) packed tag left (layoutOf own) at
+        ⌝ }
+{
+    if left == 0 {
+        return PartAnswer::Part {
+            layout: own,
+            next: at,
+        };
+    }
+    match part(s, at, depth) {
+        PartAnswer::Part { layout, next } => match extend::extend(own, layout, packed) {
+            LayoutAnswer::Layout(grown) => add_members(
+                s,
+                next,
+                depth,
+                left - 1,
+                grown,
+                packed,
+                tag,
+            ),
+            LayoutAnswer::Refused(number) => PartAnswer::Refused { number, place: tag },
+        },
+        PartAnswer::Refused { number, place } => PartAnswer::Refused { number, place },
+    }
+}
+
+// The layout that the bytes describe.
+pub fn read(description: &[u8]) -> ReadAnswer
+    ensures answer { λ r. ⌜ readSays r ≡ describedFor 64 target64 (now (description .entry)) ⌝ }
+    ensures meaning { λ r. ⌜ ReadMeans 64 target64 (now (description .entry)) (readSays r) ⌝ }
+{
+    match part(description, 0, MAX_DEPTH) {
+        PartAnswer::Part { layout, next } => {
+            if next == description.len() {
+                ReadAnswer::Layout(layout)
+            } else {
+                ReadAnswer::Refused {
+                    number: refusal::BYTES_LEFT_OVER,
+                    place: next as u64,
+                }
+            }
+        }
+        PartAnswer::Refused { number, place } => ReadAnswer::Refused {
+            number,
+            place: place as u64,
+        },
+    }
+}

@@ -1,0 +1,112 @@
+-- A part is read by its head, and what is read by the code's steps. Assumes nothing.
+use mathlib.Core.Path.{_≡_, refl, sym, ap, subst, _∙_}
+use mathlib.Core.Bool.{Bool, true, false, cond}
+use mathlib.Core.List.{List}
+use Prim.Native.Nat.{ℕ, zero, suc, _+_, _-_, _≤_, _<_}
+use native.Mathlib.Omega.{arith}
+use lib.ListN.{length}
+use Rattle.util_defs.specs.Refusal.{Outcome, answered, refused}
+use Rattle.util_defs.specs.Placed.{Placed, reached, stopped, atPlace, goOn}
+use Rattle.layout_defs.specs.Layout.{Layout}
+use Rattle.scalar.specs.Scalar.{Target, scalarLayout}
+use Rattle.compose_defs.specs.Compose.{ported, beginFor, memberStep}
+use Rattle.describe_defs.specs.Describe.{Part, Reader, Form, array, struct, slice, Tag, code, opens, unknown, tagOf, byteAt, countAt, powerAt}
+use Rattle.describe_defs.specs.Describe.{addRead, closed, structBody, structAt, arrayAt, sliceAt, formAt, tagged, taggedAt, partFor}
+use Rattle.describe_defs.specs.Heads.{Head, codeHead, arrayHead, structHead, sliceHead, packedHead, alignedHead, formHead, opening, tagHead, headAt, made, bodyAt}
+use Rattle.describe_defs.proofs.Steps.{not-stopped, reached-one, went, byte-found, power-found, count-found, TagMeans, tag-means}
+
+-- reading on from what reading on gave
+assoc : {R S T : Type 0} (p : Placed R) (f : R → Placed S) (g : S → Placed T) → goOn (goOn p f) g ≡ goOn p (λ x. goOn (f x) g)
+assoc (reached x) f g = refl
+assoc (stopped k i) f g = refl
+
+-- where each step goes on alike
+alike : {S T : Type 0} (p : Placed S) (f g : S → Placed T) → ((x : S) → f x ≡ g x) → goOn p f ≡ goOn p g
+alike (reached x) f g h = h x
+alike (stopped k i) f g h = refl
+
+module _ (w : ℕ) (target : Target) (part : Reader) (s : List ℕ) (t : ℕ) where
+  form-by-head : (f : Form) → formAt w part s t f ≡ goOn (formHead s t f) (bodyAt w target part t)
+  unfolding arrayAt structAt sliceAt
+  form-by-head array = sym (assoc (countAt s (t + 1)) (λ n. reached (arrayHead n)) (bodyAt w target part t))
+  form-by-head struct =
+      alike (powerAt s (t + 1)) _ _ (λ a.
+      alike (powerAt s (t + 2)) _ _ (λ p. sym (assoc (byteAt s (t + 3)) (λ n. reached (structHead a p n)) (bodyAt w target part t)))
+      ∙ sym (assoc (powerAt s (t + 2)) (packedHead s t a) (bodyAt w target part t)))
+      ∙ sym (assoc (powerAt s (t + 1)) (alignedHead s t) (bodyAt w target part t))
+  form-by-head slice = refl
+
+  tag-by-head : (inside : Form → Placed Part) (d b : ℕ) → ((f : Form) → inside f ≡ goOn (opening d s t f) (bodyAt w target part t))
+      → (g : Tag) → tagged target t b inside g ≡ goOn (tagHead d s t b g) (bodyAt w target part t)
+  tag-by-head inside d b h code = refl
+  tag-by-head inside d b h (opens f) = h f
+  tag-by-head inside d b h unknown = refl
+
+  tagged-by-head : (inside : Form → Placed Part) (d : ℕ) → ((f : Form) → inside f ≡ goOn (opening d s t f) (bodyAt w target part t))
+      → taggedAt target s t inside ≡ goOn (headAt d s t) (bodyAt w target part t)
+  unfolding headAt
+  tagged-by-head inside d h =
+      alike (byteAt s t) _ _ (λ b. tag-by-head inside d b h (tagOf b)) ∙ sym (assoc (byteAt s t) (λ b. tagHead d s t b (tagOf b)) (bodyAt w target part t))
+
+pub part-by-head : (w : ℕ) (target : Target) (d : ℕ) (s : List ℕ) (t : ℕ) → partFor w target d s t ≡ goOn (headAt d s t) (bodyAt w target (partFor w target (d - 1) s) t)
+unfolding partFor
+part-by-head w target zero s t = tagged-by-head w target (partFor w target (0 - 1) s) s t (λ f. stopped 35 t) 0 (λ f. refl)
+part-by-head w target (suc d) s t =
+    let e : suc d - 1 ≡ d = omega arith in
+    rw e (tagged-by-head w target (partFor w target d s) s t (formAt w (partFor w target d s) s t) (suc d) (form-by-head w target (partFor w target d s) s t))
+
+-- what a head has found: the level and the bytes that it needs
+abbrev pub Room : ℕ → List ℕ → ℕ → Head → Type 0
+Room d s t (codeHead b) = (t < length s) × (b ≤ 8)
+Room d s t (arrayHead n) = (0 < d) × (t + 5 ≤ length s)
+Room d s t (structHead align packing n) = (0 < d) × (t + 4 ≤ length s)
+Room d s t sliceHead = (0 < d) × (t + 1 ≤ length s)
+
+module _ (s : List ℕ) (t : ℕ) where
+  form-room : (d : ℕ) (f : Form) (h : Head) → t < length s → formHead s t f ≡ reached h → Room (suc d) s t h
+  form-room d array h l e =
+      let x = went (countAt s (t + 1)) (λ n. reached (arrayHead n)) e in
+      let c = count-found s (t + 1) (x .first) in
+      subst (Room (suc d) s t) (reached-one (x .then)) (omega arith, omega (arith, c .0))
+  form-room d struct h l e =
+      let x = went (powerAt s (t + 1)) (alignedHead s t) e in
+      let y = went (powerAt s (t + 2)) (packedHead s t (x .to)) (x .then) in
+      let z = went (byteAt s (t + 3)) (λ n. reached (structHead (x .to) (y .to) n)) (y .then) in
+      let c = byte-found s (t + 3) (z .first) in
+      subst (Room (suc d) s t) (reached-one (z .then)) (omega arith, omega (arith, c .within))
+  form-room d slice h l e = subst (Room (suc d) s t) (reached-one e) (omega arith, omega arith)
+
+  tag-room : (d b : ℕ) (g : Tag) (h : Head) → t < length s → TagMeans b g → tagHead d s t b g ≡ reached h → Room d s t h
+  tag-room d b code h l m e = subst (Room d s t) (reached-one e) (l, m)
+  tag-room zero b (opens f) h l m e = absurd (not-stopped e)
+  tag-room (suc d) b (opens f) h l m e = form-room d f h l e
+  tag-room d b unknown h l m e = absurd (not-stopped e)
+
+  pub head-room : (d : ℕ) {h : Head} → headAt d s t ≡ reached h → Room d s t h
+  unfolding headAt
+  head-room d {h} e =
+      let x = went (byteAt s t) (λ b. tagHead d s t b (tagOf b)) e in
+      tag-room d (x .to) (tagOf (x .to)) h (byte-found s t (x .first) .within) (tag-means (x .to)) (x .then)
+
+-- the members by what the code tests
+module _ (w : ℕ) (part : Reader) (packing t : ℕ) (l : Layout) (i : ℕ) where
+  pub add-stop : (n : ℕ) {k p : ℕ} → (n ≡ 0 → ⊥) → part i ≡ stopped k p → addRead w part packing t n l i ≡ stopped k p
+  unfolding addRead
+  add-stop zero f e = absurd (f refl)
+  add-stop (suc n) f e = rw e
+
+  pub add-off : (n : ℕ) {m : Layout} {j k : ℕ} → (n ≡ 0 → ⊥) → part i ≡ reached (m, j) → memberStep w ported packing l (answered m) ≡ refused k → addRead w part packing t n l i ≡ stopped k t
+  unfolding addRead
+  add-off zero f e g = absurd (f refl)
+  add-off (suc n) f e g = rw (e, g)
+
+  pub add-on : (n : ℕ) {m l′ : Layout} {j : ℕ} → (n ≡ 0 → ⊥) → part i ≡ reached (m, j) → memberStep w ported packing l (answered m) ≡ answered l′
+      → addRead w part packing t n l i ≡ addRead w part packing t (n - 1) l′ j
+  unfolding addRead
+  add-on zero f e g = absurd (f refl)
+  add-on (suc n) f e g = let d : suc n - 1 ≡ n = omega arith in rw (d, e, g)
+
+  pub add-none : (n : ℕ) → n ≡ 0 → addRead w part packing t n l i ≡ reached (l, i)
+  unfolding addRead
+  add-none zero e = refl
+  add-none (suc n) e = absurd (omega arith)

@@ -1,0 +1,7 @@
+-- What is proved of type descriptions.
+pub mod Elements
+pub mod Steps
+pub mod Grammar
+pub mod Meaning
+pub mod Heads
+pub mod Worked

@@ -1,0 +1,80 @@
+-- The grammar of type descriptions (document 02, request 4), without refusals: which bytes describe a type, and which layout it
+-- has. Assumes nothing.
+use mathlib.Core.Path.{_≡_}
+use mathlib.Core.List.{List, [], _∷_, map}
+use Prim.Native.Nat.{ℕ, zero, suc, _+_, _≤_, _<_}
+use lib.ListN.{length, take, drop, getD}
+use Rattle.util_defs.specs.Refusal.{Outcome, answered}
+use Rattle.util_defs.specs.Placed.{Placed, reached, stopped}
+use Rattle.layout_defs.specs.Layout.{Layout}
+use Rattle.scalar.specs.Scalar.{Target, greatestCode, scalarLayout}
+use Rattle.words.specs.Bytes.{valueOf}
+use Rattle.compose_defs.specs.Compose.{Composed, composed, refusedAt, Member, ported, composeStruct}
+use Rattle.describe_defs.specs.Elements.{arrayFor, sliceOfFor}
+use Rattle.describe_defs.specs.Describe.{Part, countLength, greatestPower, powerOf, greatestDepth}
+
+-- bytes from a place to another, and the layout that they stand for
+abbrev pub Stands : Type 1
+Stands = ℕ → ℕ → Layout → Type 0
+
+-- b is the byte at i
+pub record IsByte (s : List ℕ) (i b : ℕ) : Type 0 where
+  pub within : i < length s
+  pub is : getD s i 0 ≡ b
+
+-- the byte at i stands for an alignment or a packing: 0 none, else 1 + the power
+pub record IsPower (s : List ℕ) (i a : ℕ) : Type 0 where
+  pub byte : ℕ
+  pub at : IsByte s i byte
+  pub most : byte ≤ 1 + greatestPower
+  pub is : a ≡ powerOf byte
+
+-- parts one behind the other, and their layouts
+pub data Run (Inner : Stands) : ℕ → ℕ → List Layout → Type 0 where
+  none : {i : ℕ} → Run Inner i i []
+  one : {i j k : ℕ} {m : Layout} {ms : List Layout} → Inner i j m → Run Inner j k ms → Run Inner i k (m ∷ ms)
+
+-- layouts as the members of a composition
+abbrev pub members : List Layout → List Member
+members ms = map answered ms
+
+-- the header of a struct at t: the tag 17, alignment and packing, and the member count
+pub record Header (s : List ℕ) (t align packing n : ℕ) : Type 0 where
+  pub tag : IsByte s t 17
+  pub aligned : IsPower s (t + 1) align
+  pub packed : IsPower s (t + 2) packing
+  pub count : IsByte s (t + 3) n
+
+-- a scalar: its code
+pub data ScalarIs (target : Target) (s : List ℕ) : ℕ → ℕ → Layout → Type 0 where
+  aCode : {t b : ℕ} → IsByte s t b → b ≤ greatestCode → ScalarIs target s t (t + 1) (scalarLayout target b)
+
+-- a part: a scalar; an array, 16, a count and an element; a struct, its header and so many members, whose layout is that of their
+-- composition; a slice, 18 and an element
+pub data PartIs (w : ℕ) (target : Target) (s : List ℕ) (Inner : Stands) : ℕ → ℕ → Layout → Type 0 where
+  aScalar : {t j : ℕ} {l : Layout} → ScalarIs target s t j l → PartIs w target s Inner t j l
+  anArray : {t j : ℕ} {m l : Layout} → IsByte s t 16 → t + 1 + countLength ≤ length s → Inner (t + 1 + countLength) j m
+      → arrayFor w m (valueOf (take countLength (drop (t + 1) s))) ≡ answered l → PartIs w target s Inner t j l
+  aStruct : {t j align packing : ℕ} {ms : List Layout} {l : Layout} → Header s t align packing (length ms)
+      → Run Inner (t + 4) j ms → composeStruct w ported align packing (members ms) ≡ composed l → PartIs w target s Inner t j l
+  aSlice : {t j : ℕ} {m l : Layout} → IsByte s t 18 → Inner (t + 1) j m → sliceOfFor w m ≡ answered l
+      → PartIs w target s Inner t j l
+
+-- a part with so many more that may be open
+unfoldable pub Describes : ℕ → Target → ℕ → List ℕ → Stands
+Describes w target zero s = ScalarIs target s
+Describes w target (suc d) s = PartIs w target s (Describes w target d s)
+
+-- the bytes are a description of the layout
+abbrev pub Description : ℕ → Target → List ℕ → Layout → Type 0
+Description w target s l = Describes w target greatestDepth s 0 (length s) l
+
+-- what reading means: a layout is the one that the bytes describe; a refusal, that they describe none
+abbrev pub ReadMeans : ℕ → Target → List ℕ → Placed Layout → Type 0
+ReadMeans w target s (reached l) = Description w target s l
+ReadMeans w target s (stopped k i) = (l : Layout) → Description w target s l → ⊥
+
+-- "The result is the one composition by hand would give": of a struct at t whose members are read as far as j
+abbrev pub byHand : ℕ → ℕ → Composed → Placed Part
+byHand t j (composed l) = reached (l, j)
+byHand t j (refusedAt k place) = stopped k t

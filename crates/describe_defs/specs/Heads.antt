@@ -1,0 +1,53 @@
+-- The head of a part: its tag, and what stands between that and the parts in it. A part is read by its head (`part-by-head`).
+-- Assumes nothing.
+use mathlib.Core.List.{List}
+use Prim.Native.Nat.{ℕ, zero, suc, _+_}
+use Rattle.util_defs.specs.Refusal.{Outcome}
+use Rattle.util_defs.specs.Placed.{Placed, reached, stopped, atPlace, goOn}
+use Rattle.layout_defs.specs.Layout.{Layout}
+use Rattle.scalar.specs.Scalar.{Target, scalarLayout}
+use Rattle.describe_defs.specs.Elements.{arrayFor, sliceOfFor}
+use Rattle.describe_defs.specs.Describe.{Part, Reader, Form, array, struct, slice, Tag, code, opens, unknown, tagOf}
+use Rattle.describe_defs.specs.Describe.{byteAt, countLength, countAt, powerAt, structBody}
+
+pub data Head : Type 0 where
+  codeHead : (scalar : ℕ) → Head
+  arrayHead : (count : ℕ) → Head
+  structHead : (align packing count : ℕ) → Head
+  sliceHead : Head
+
+-- the head of an array, a struct or a slice whose tag is at t
+abbrev pub packedHead : List ℕ → ℕ → ℕ → ℕ → Placed Head
+packedHead s t align packing = goOn (byteAt s (t + 3)) (λ n. reached (structHead align packing n))
+
+abbrev pub alignedHead : List ℕ → ℕ → ℕ → Placed Head
+alignedHead s t align = goOn (powerAt s (t + 2)) (packedHead s t align)
+
+abbrev pub formHead : List ℕ → ℕ → Form → Placed Head
+formHead s t array = goOn (countAt s (t + 1)) (λ n. reached (arrayHead n))
+formHead s t struct = goOn (powerAt s (t + 1)) (alignedHead s t)
+formHead s t slice = reached sliceHead
+
+-- with so many parts more that may be open
+abbrev pub opening : ℕ → List ℕ → ℕ → Form → Placed Head
+opening zero s t f = stopped 35 t
+opening (suc d) s t f = formHead s t f
+
+abbrev pub tagHead : ℕ → List ℕ → ℕ → ℕ → Tag → Placed Head
+tagHead d s t b code = reached (codeHead b)
+tagHead d s t b (opens f) = opening d s t f
+tagHead d s t b unknown = stopped 34 t
+
+unfoldable pub headAt : ℕ → List ℕ → ℕ → Placed Head
+headAt d s t = goOn (byteAt s t) (λ b. tagHead d s t b (tagOf b))
+
+-- a part of which some step makes another layout
+abbrev pub made : ℕ → (Layout → Outcome Layout) → Part → Placed Part
+made t f x = atPlace t (f (x .0)) (λ l. reached (l, x .1))
+
+-- a part behind its head, the parts in it read by the level below
+abbrev pub bodyAt : ℕ → Target → Reader → ℕ → Head → Placed Part
+bodyAt w target part t (codeHead b) = reached (scalarLayout target b, t + 1)
+bodyAt w target part t (arrayHead n) = goOn (part (t + 1 + countLength)) (made t (λ l. arrayFor w l n))
+bodyAt w target part t (structHead align packing n) = structBody w part t align packing n
+bodyAt w target part t sliceHead = goOn (part (t + 1)) (made t (sliceOfFor w))

@@ -1,0 +1,4 @@
+pub mod Elements
+pub mod Describe
+pub mod Heads
+pub mod Grammar

@@ -1,0 +1,2 @@
+-- What is proved of heads.
+pub mod Ways

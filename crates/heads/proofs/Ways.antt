@@ -1,0 +1,105 @@
+-- The ways out of reading a head. Assumes nothing.
+use mathlib.Core.Path.{_≡_, refl, sym, ap, _∙_}
+use mathlib.Core.List.{List}
+use Prim.Native.Nat.{ℕ, zero, suc, _+_, _-_, _*_, _%_, _^_, _≤_, _<_, max}
+use native.Mathlib.Nat.{pow-le-pow-right, mod-eq-of-lt, max-eq-left, max-eq-right}
+use native.Mathlib.Omega.{arith}
+use borrow.Author.Tests.{lt-ltb, le-ltb, le-leb, lt-leb, eq-eqb, ne-eqb}
+use lib.ListN.{length, take, drop, getD}
+use lib.Seq.{drop-cons}
+use Rattle.util_defs.specs.Placed.{Placed, reached, stopped, goOn}
+use Rattle.words.specs.Bytes.{valueOf}
+use Rattle.words.proofs.LittleEndian.{value-parts}
+use Rattle.describe_defs.specs.Describe.{Form, Tag, code, opens, unknown, array, struct, slice, tagOf, byteAt, countAt, powerAt}
+use Rattle.describe_defs.specs.Heads.{Head, codeHead, arrayHead, structHead, sliceHead, packedHead, alignedHead, formHead, opening, tagHead, headAt}
+use Rattle.describe_defs.proofs.Steps.{TagMeans, tag-means}
+
+-- a byte is a number of one byte, and four of them a count
+byte-value : (s : List ℕ) (i : ℕ) → i < length s → valueOf (take 1 (drop i s)) ≡ getD s i 0
+unfolding valueOf
+byte-value s i h = let e : getD s i 0 + 256 * 0 ≡ getD s i 0 = omega arith in rw (drop-cons s i 0 h) e
+
+pub joined-count : (s : List ℕ) (i : ℕ) {a b c d : ℕ} → i + 4 ≤ length s → a ≡ getD s i 0 → b ≡ getD s (i + 1) 0 → c ≡ getD s (i + 2) 0 → d ≡ getD s (i + 3) 0
+    → a + 256 * b + 65536 * c + 16777216 * d ≡ valueOf (take 4 (drop i s))
+joined-count s i h ea eb ec ed =
+    omega (
+      arith,
+      value-parts s 1 3 i (i + 1) refl (omega arith),
+      value-parts s 1 2 (i + 1) (i + 2) (omega arith) (omega arith),
+      value-parts s 1 1 (i + 2) (i + 3) (omega arith) (omega arith),
+      byte-value s i (omega arith),
+      byte-value s (i + 1) (omega arith),
+      byte-value s (i + 2) (omega arith),
+      byte-value s (i + 3) (omega arith),
+    )
+
+module _ (s : List ℕ) (i : ℕ) where
+  pub count-cut : length s ≤ i → stopped 33 i ≡ countAt s i
+  count-cut h = let e : max i (length s) ≡ i = max-eq-left h in sym (rw (lt-leb (i + 4) (length s) (omega arith), e))
+
+  pub count-short : i < length s → length s - i < 4 → stopped 33 (length s) ≡ countAt s i
+  count-short h g = let e : max i (length s) ≡ length s = max-eq-right (omega arith) in sym (rw (lt-leb (i + 4) (length s) (omega arith), e))
+
+  pub count-whole : i + 4 ≤ length s → {n : ℕ} → n ≡ valueOf (take 4 (drop i s)) → reached n ≡ countAt s i
+  count-whole h e = sym (rw (le-leb (i + 4) (length s) h, e))
+
+  pub power-cut : length s ≤ i → stopped 33 i ≡ powerAt s i
+  power-cut h = sym (rw (le-ltb i (length s) h))
+
+  pub power-above : i < length s → 64 < getD s i 0 → stopped 34 i ≡ powerAt s i
+  power-above h g = sym (rw (lt-ltb i (length s) h, lt-leb (getD s i 0) 64 g))
+
+  pub power-none : i < length s → getD s i 0 ≡ 0 → reached 0 ≡ powerAt s i
+  power-none h e = sym (rw (lt-ltb i (length s) h, e))
+
+  shifted : (p : ℕ) → p ≤ 63 → 1 * 2 ^ p % 2 ^ 64 ≡ 2 ^ p
+  shifted p h = let b : 2 ^ p ≤ 2 ^ 63 = pow-le-pow-right (omega arith) h in omega arith
+
+  pub power-some : i < length s → getD s i 0 ≤ 64 → (getD s i 0 ≡ 0 → ⊥) → reached (1 * 2 ^ (getD s i 0 - 1) % 2 ^ 64) ≡ powerAt s i
+  power-some h g f =
+      ap reached (shifted (getD s i 0 - 1) (omega arith)) ∙ sym (rw (lt-ltb i (length s) h, le-leb (getD s i 0) 64 g, ne-eqb (getD s i 0) 0 f))
+
+-- the head by its tag
+module _ (d : ℕ) (s : List ℕ) (t : ℕ) where
+  pub head-cut : length s ≤ t → stopped 33 t ≡ headAt d s t
+  unfolding headAt
+  head-cut h = sym (rw (le-ltb t (length s) h))
+
+  pub head-code : {b : ℕ} → t < length s → getD s t 0 ≤ 8 → b ≡ getD s t 0 → reached (codeHead b) ≡ headAt d s t
+  unfolding headAt
+  head-code h g e = sym (rw (lt-ltb t (length s) h, le-leb (getD s t 0) 8 g, e))
+
+  pub head-unknown : t < length s → 8 < getD s t 0 → (getD s t 0 ≡ 16 → ⊥) → (getD s t 0 ≡ 17 → ⊥) → (getD s t 0 ≡ 18 → ⊥) → stopped 34 t ≡ headAt d s t
+  unfolding headAt
+  head-unknown h g a b c =
+      sym (rw (lt-ltb t (length s) h, lt-leb (getD s t 0) 8 g, ne-eqb (getD s t 0) 16 a, ne-eqb (getD s t 0) 17 b, ne-eqb (getD s t 0) 18 c))
+
+  -- one that opens a part
+  pub head-array : t < length s → getD s t 0 ≡ 16 → headAt d s t ≡ opening d s t array
+  unfolding headAt
+  head-array h e = rw (lt-ltb t (length s) h, e)
+
+  pub head-struct : t < length s → getD s t 0 ≡ 17 → headAt d s t ≡ opening d s t struct
+  unfolding headAt
+  head-struct h e = rw (lt-ltb t (length s) h, e)
+
+  pub head-slice : t < length s → getD s t 0 ≡ 18 → headAt d s t ≡ opening d s t slice
+  unfolding headAt
+  head-slice h e = rw (lt-ltb t (length s) h, e)
+
+  pub opened : (f : Form) → (d ≡ 0 → ⊥) → opening d s t f ≡ formHead s t f
+  opened = open-by d
+    where
+      open-by : (e : ℕ) (f : Form) → (e ≡ 0 → ⊥) → opening e s t f ≡ formHead s t f
+      open-by zero f n = absurd (n refl)
+      open-by (suc e) f n = refl
+
+  pub head-deep : t < length s → 16 ≤ getD s t 0 → getD s t 0 ≤ 18 → d ≡ 0 → stopped 35 t ≡ headAt d s t
+  unfolding headAt
+  head-deep h a b e = sym (rw (lt-ltb t (length s) h) (go d e (tagOf (getD s t 0)) (tag-means (getD s t 0))))
+    where
+      go : (n : ℕ) → n ≡ 0 → (g : Tag) → TagMeans (getD s t 0) g → tagHead n s t (getD s t 0) g ≡ stopped 35 t
+      go zero e code m = absurd (omega (arith, a, m))
+      go zero e (opens f) m = refl
+      go zero e unknown m = absurd (omega (arith, a, b, m .1 .0, m .1 .1 .0, m .1 .1 .1))
+      go (suc n) e g m = absurd (omega arith)
