@@ -14,9 +14,9 @@ use Rattle.compose_defs.specs.Compose.{ported, beginFor, memberStep}
 use Rattle.compose_defs.proofs.Compositions.{step-on, begin-own, begin-on}
 use Rattle.describe_defs.specs.Describe.{Part, Reader, addRead, closed, structBody, partFor, wholly, describedFor}
 use Rattle.describe_defs.specs.Heads.{Head, headAt, bodyAt}
-use Rattle.describe_defs.specs.Grammar.{ReadMeans}
+use Rattle.describe_defs.specs.Faults.{ScalarsAccepted, ReadMeans}
 use Rattle.describe_defs.proofs.Heads.{part-by-head}
-use Rattle.describe_defs.proofs.Meaning.{read-means}
+use Rattle.describe_defs.proofs.Reading.{read-means}
 
 -- a code is a scalar
 pub code-scalar : (target : Target) (code : ℕ) → code ≤ 8 → scalarFor target code ≡ answered (scalarLayout target code)
@@ -40,8 +40,8 @@ pub step-is : (w packing : ℕ) (l m : Layout) {o : Outcome Layout} → extendFo
 step-is w packing l m e = step-on w ported packing l m refl ∙ e
 
 -- the whole, and what it means
-pub whole-told : (w : ℕ) (target : Target) (s : List ℕ) {r : Placed Layout} → r ≡ describedFor w target s → (r ≡ describedFor w target s) × ReadMeans w target s r
-whole-told w target s {r} e = (e, read-means w target s r (sym e))
+pub whole-told : (w : ℕ) (target : Target) → ScalarsAccepted w target → (s : List ℕ) {r : Placed Layout} → r ≡ describedFor w target s → (r ≡ describedFor w target s) × ReadMeans w target s r
+whole-told w target good s {r} e = (e, read-means w target s good r (sym e))
 
 module _ (w : ℕ) (target : Target) (s : List ℕ) where
   pub whole-on : {l : Layout} {j : ℕ} → partFor w target 16 s 0 ≡ reached (l, j) → j ≡ length s → reached l ≡ describedFor w target s

@@ -6,7 +6,7 @@ ghost use Rattle.scalar.specs.Scalar.{target64};
 ghost use Rattle.describe_defs.specs.Elements.{arrayFor, sliceOfFor};
 ghost use Rattle.describe_defs.specs.Describe.{addRead, closed, partFor, describedFor};
 ghost use Rattle.describe_defs.specs.Heads.{made};
-ghost use Rattle.describe_defs.specs.Grammar.{ReadMeans};
+ghost use Rattle.describe_defs.specs.Faults.{ReadMeans};
 ghost use Rattle.describe.specs.View.{partSays, readSays};
 use heads::COUNT_BYTES;
 use heads::HeadAnswer;

@@ -17,7 +17,8 @@ use Rattle.compose_defs.specs.Compose.{Composed, composed, refusedAt, andThen, 
 use Rattle.describe_defs.specs.Elements.{arrayFor, sliceOfFor}
 use Rattle.describe_defs.specs.Describe.{Part, Reader, Form, array, struct, slice, Tag, code, opens, unknown, tagOf, byteAt, countAt, powerAt}
 use Rattle.describe_defs.specs.Describe.{addRead, closed, structBody, structAt, arrayAt, sliceAt, formAt, tagged, taggedAt, partFor, wholly, describedFor}
-use Rattle.describe_defs.specs.Grammar.{Stands, IsByte, IsPower, Run, none, one, members, Header, ScalarIs, PartIs, Describes, Description, ReadMeans, byHand}
+use Rattle.describe_defs.specs.Grammar.{Stands, IsByte, IsPower, Run, none, one, members, Header, ScalarIs, PartIs, Describes, Description, byHand}
+use Rattle.describe_defs.specs.Faults.{tagByte}
 use Rattle.describe_defs.specs.Grammar.{aCode, aScalar, anArray, aStruct, aSlice}
 use Rattle.describe_defs.proofs.Steps.{not-stopped, reached-one, Went, went, Passed, went-at, byte-found, byte-is, power-found, power-is, count-found, count-is, TagMeans, tag-means, tag-code}
 
@@ -36,8 +37,8 @@ pub record Added (w : ℕ) (Inner : Stands) (packing n k i j : ℕ) (l r : Layou
   pub adds : addMembers (memberStep w ported packing) k l (members ms) ≡ composed r
 
 -- a composition by its steps
-added-one : (w packing k : ℕ) (l m : Layout) (ms : List Layout) {l′ r : Layout} → memberStep w ported packing l (answered m) ≡ answered l′
-    → addMembers (memberStep w ported packing) (suc k) l′ (members ms) ≡ composed r → addMembers (memberStep w ported packing) k l (members (m ∷ ms)) ≡ composed r
+pub added-one : (w packing k : ℕ) (l m : Layout) (ms : List Layout) {l′ : Layout} {c : Composed} → memberStep w ported packing l (answered m) ≡ answered l′
+    → addMembers (memberStep w ported packing) (suc k) l′ (members ms) ≡ c → addMembers (memberStep w ported packing) k l (members (m ∷ ms)) ≡ c
 unfolding addMembers
 added-one w packing k l m ms e f = rw e f
 
@@ -128,11 +129,6 @@ module _ (w : ℕ) (target : Target) (s : List ℕ) (t : ℕ) where
   given part Inner g (aSlice {j = j} {m = m} h q e) = tagged-slice (formAt w part s t) h ∙ slice-is part (g (t + 1) j m q) e
 
   -- what the reader finds, the grammar says: by what the tag opens
-  abbrev tagByte : Form → ℕ
-  tagByte array = 16
-  tagByte struct = 17
-  tagByte slice = 18
-
   by-tag : (Is : Layout → ℕ → Type 0) (inside : Form → Placed Part) {j : ℕ} {l : Layout} → ((b : ℕ) → IsByte s t b → b ≤ 8 → Is (scalarLayout target b) (t + 1))
       → ((f : Form) → IsByte s t (tagByte f) → inside f ≡ reached (l, j) → Is l j) → taggedAt target s t inside ≡ reached (l, j) → Is l j
   by-tag Is inside {j} {l} p q e = let x = went (byteAt s t) (λ b. tagged target t b inside (tagOf b)) e in go (x .to) (byte-found s t (x .first)) (tagOf (x .to)) (tag-means (x .to)) (x .then)

@@ -3,5 +3,8 @@ pub mod Elements
 pub mod Steps
 pub mod Grammar
 pub mod Meaning
+pub mod Accepted
+pub mod Faults
+pub mod Reading
 pub mod Heads
 pub mod Worked

@@ -15,7 +15,7 @@ use Rattle.compose_defs.specs.Compose.{ported, composeStruct, structFor}
 use Rattle.compose_defs.specs.Places.{listed}
 use Rattle.describe_defs.specs.Describe.{Part, partFor, wholly, describedFor, formAt}
 use Rattle.describe_defs.specs.Grammar.{Stands, IsByte, Run, none, one, members, Header, ScalarIs, aCode, PartIs, aScalar, anArray, aStruct, aSlice}
-use Rattle.describe_defs.specs.Grammar.{Describes, Description, ReadMeans, byHand}
+use Rattle.describe_defs.specs.Grammar.{Describes, Description, byHand}
 use Rattle.describe_defs.proofs.Steps.{not-stopped, reached-one, went, went-if}
 use Rattle.describe_defs.proofs.Grammar.{Gives, tagged-struct, struct-is, body-by-hand, reads, describes}
 
@@ -26,7 +26,7 @@ Past s i j = (i < j) × (j ≤ length s)
 scalar-past : (target : Target) (s : List ℕ) {i j : ℕ} {l : Layout} → ScalarIs target s i j l → Past s i j
 scalar-past target s (aCode h p) = omega (arith, h .within)
 
-run-past : (s : List ℕ) (Inner : Stands) → ((i j : ℕ) (m : Layout) → Inner i j m → Past s i j) → {i j : ℕ} {ms : List Layout} → Run Inner i j ms → i ≤ length s → (i ≤ j) × (j ≤ length s)
+pub run-past : (s : List ℕ) (Inner : Stands) → ((i j : ℕ) (m : Layout) → Inner i j m → Past s i j) → {i j : ℕ} {ms : List Layout} → Run Inner i j ms → i ≤ length s → (i ≤ j) × (j ≤ length s)
 run-past s Inner f none h = omega arith
 run-past s Inner f (one {i = i} {j = j} {m = m} p r) h =
     let x = f i j m p in
@@ -40,7 +40,7 @@ part-past w target s Inner f (aStruct h r e) = omega (arith, h .count .within, r
 part-past w target s Inner f (aSlice {t = t} {j = j} {m = m} h q e) = omega (arith, f (t + 1) j m q)
 
 module _ (w : ℕ) (target : Target) (s : List ℕ) where
-  described-past : (d i j : ℕ) (l : Layout) → Describes w target d s i j l → Past s i j
+  pub described-past : (d i j : ℕ) (l : Layout) → Describes w target d s i j l → Past s i j
   unfolding Describes
   described-past zero i j l h = scalar-past target s h
   described-past (suc d) i j l h = part-past w target s (Describes w target d s) (described-past d) h
@@ -67,10 +67,6 @@ module _ (w : ℕ) (target : Target) (s : List ℕ) where
 
   pub one-layout : (l m : Layout) → Description w target s l → Description w target s m → l ≡ m
   one-layout l m h g = reached-one (sym (accepted h) ∙ accepted g)
-
-  pub read-means : (r : Placed Layout) → describedFor w target s ≡ r → ReadMeans w target s r
-  read-means (reached l) e = accepts e
-  read-means (stopped k i) e = λ l h. not-stopped (sym e ∙ accepted h)
 
   -- ---- "The result is the one composition by hand would give": of its members' layouts, and of a list of their records
   pub as-by-hand : (d t : ℕ) {j align packing : ℕ} {ms : List Layout} → Header s t align packing (length ms) → Run (Describes w target d s) (t + 4) j ms

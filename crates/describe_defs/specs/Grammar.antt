@@ -69,11 +69,6 @@ Describes w target (suc d) s = PartIs w target s (Describes w target d s)
 abbrev pub Description : ℕ → Target → List ℕ → Layout → Type 0
 Description w target s l = Describes w target greatestDepth s 0 (length s) l
 
--- what reading means: a layout is the one that the bytes describe; a refusal, that they describe none
-abbrev pub ReadMeans : ℕ → Target → List ℕ → Placed Layout → Type 0
-ReadMeans w target s (reached l) = Description w target s l
-ReadMeans w target s (stopped k i) = (l : Layout) → Description w target s l → ⊥
-
 -- "The result is the one composition by hand would give": of a struct at t whose members are read as far as j
 abbrev pub byHand : ℕ → ℕ → Composed → Placed Part
 byHand t j (composed l) = reached (l, j)

@@ -2,3 +2,4 @@ pub mod Elements
 pub mod Describe
 pub mod Heads
 pub mod Grammar
+pub mod Faults
