@@ -22,7 +22,7 @@ use Rattle.compose_defs.proofs.Modifiers.{not-composed}
 use Rattle.describe_defs.specs.Elements.{elementSize, elementFor, arrayFor, sliceOfFor}
 use Rattle.describe_defs.specs.Describe.{Part, Reader, Form, array, struct, slice, Tag, code, opens, unknown, tagOf, byteAt, countAt, powerOf, powerAt}
 use Rattle.describe_defs.specs.Describe.{addRead, closed, structBody, structAt, arrayAt, sliceAt, formAt, tagged, taggedAt, partFor, wholly, describedFor}
-use Rattle.describe_defs.specs.Grammar.{Stands, IsByte, IsPower, Run, none, one, members, Header, Describes, Description, byHand}
+use Rattle.describe_defs.specs.Grammar.{Stands, IsByte, IsPower, Run, none, one, members, Header, Describes, Description}
 use Rattle.describe_defs.specs.Faults as F
 use Rattle.describe_defs.specs.Faults.{tagByte, UnknownTag, BadPower, noPower, powerAbove, BadHeader, badAlign, badPacking, noCount, ScalarsAccepted}
 use Rattle.describe_defs.specs.Faults.{MembersOf, Comes, first, element, sliced, member, Fault, ReadMeans}
@@ -77,7 +77,7 @@ module _ (s : List ℕ) (i : ℕ) (h : i ≤ length s) {k j : ℕ} where
     where
       judged : (b : ℕ) → IsByte s i b → (t : Bool) → leb b 64 ≡ t → cond t (reached (powerOf b)) (stopped 34 i) ≡ stopped k j → BadPower s i k j
       judged b x true g e = absurd (not-stopped (sym e))
-      judged b x false g e = stopped-as (BadPower s i) e (powerAbove x (leb-false b 64 g))
+      judged b x false g e = stopped-as (BadPower s i) e (powerAbove x (omega (arith, leb-false b 64 g)))
 
       go : Halted (byteAt s i) (λ b. cond (leb b 64) (reached (powerOf b)) (stopped 34 i)) k j → BadPower s i k j
       go (before e) = let x = byte-stops e in stopped-as (BadPower s i) (x .1) (noPower (x .0))
@@ -185,7 +185,7 @@ module _ (w : ℕ) (target : Target) (good : ScalarsAccepted w target) (s : List
       on b h unknown m e = stopped-as (Fault w target s) e (F.unknownTag c h (not-tag m))
 
       go : Halted (byteAt s t) (λ b. tagged target t b inside (tagOf b)) k i → Fault w target s k i
-      go (before x) = let y = byte-stops s t (comes-within c) x in stopped-as (Fault w target s) (y .1) (F.noTag c (y .0))
+      go (before x) = let y = byte-stops s t (comes-within c) x in stopped-as (Fault w target s) (y .1) (F.noTag c (omega (arith, y .0)))
       go (behind b x y) = on b (byte-found s t x) (tagOf b) (tag-means b) y
 
   -- a refusal of the level below
@@ -213,7 +213,7 @@ module _ (w : ℕ) (target : Target) (good : ScalarsAccepted w target) (s : List
               stopped-as (Fault w target s) b
               (array-judged w (x .0) (described-accepted w target good s d (t + 1 + 4) (x .1) (x .0) v) (λ q. Fault w target s q t) _ (ap (arrayFor w (x .0)) (u .1) ∙ a)
               (λ r. F.arrayOfTrailing c o r)
-              (λ r. F.arrayPasses c o r))
+              (λ r. F.arrayPasses c o (omega (arith, r))))
 
           read : (n : ℕ) → countAt s (t + 1) ≡ reached n → Halted (part (t + 1 + 4)) (judge n) k i → Fault w target s k i
           read n y (before z) = below (t + 1 + 4) k i (element c h (count-found s (t + 1) y .0)) z
@@ -249,7 +249,7 @@ module _ (w : ℕ) (target : Target) (good : ScalarsAccepted w target) (s : List
           Inner = Describes w target d s
 
           members-fault : (l : Layout) → beginFor w ported align packing ≡ answered l → Broke w part Inner packing t n 0 l (t + 4) k i → Fault w target s k i
-          members-fault l b (inMember {j = j} {ms = ms} r u q a z) = below j k i (member {l = r} c (record { header = h; run = u }) q (rw (b, a))) z
+          members-fault l b (inMember {j = j} {ms = ms} r u q a z) = below j k i (member {l = r} c (record { header = h; run = u }) (omega (arith, q)) (rw (b, a))) z
           members-fault l b (inStep {ms = ms} q′ place u q a z) = stopped-as (Fault w target s) z (F.ofMembers {place = place} c (record { header = h; run = u }) q (rw (b, a)))
 
           closed-fault : (l : Layout) (x : Part) → beginFor w ported align packing ≡ answered l → addRead w part packing t n l (t + 4) ≡ reached x
@@ -276,7 +276,7 @@ module _ (w : ℕ) (target : Target) (good : ScalarsAccepted w target) (s : List
           counted a p x y (before z) =
               let u = power-found s (t + 2) y in
               let v = byte-stops s (t + 3) (omega (arith, u .at .within)) z in
-              stopped-as (Fault w target s) (v .1) (F.inHeader c h (noCount (power-found s (t + 1) x) u (v .0)))
+              stopped-as (Fault w target s) (v .1) (F.inHeader c h (noCount (power-found s (t + 1) x) u (omega (arith, v .0))))
           counted a p x y (behind n z e) =
               body-fault (record { tag = h; aligned = power-found s (t + 1) x; packed = power-found s (t + 2) y; count = byte-found s (t + 3) z }) e
 
@@ -308,7 +308,7 @@ module _ (w : ℕ) (target : Target) (good : ScalarsAccepted w target) (s : List
           let u = describes w target s 16 0 (x .1) (x .0) y in
           let v = described-past w target s 16 0 (x .1) (x .0) u in
           let z = eqb-false (x .1) (length s) g in
-          stopped-as (Fault w target s) e (F.leftOver (x .0) u (below (v .1) z))
+          stopped-as (Fault w target s) e (F.leftOver (x .0) u (let y = below (v .1) z in omega (arith, y)))
         where
           below : {a b : ℕ} → a ≤ b → (a ≡ b → ⊥) → a < b
           below {a} {b} h n = omega (arith, h, n)

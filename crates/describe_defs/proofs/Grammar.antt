@@ -17,9 +17,10 @@ use Rattle.compose_defs.specs.Compose.{Composed, composed, refusedAt, andThen, 
 use Rattle.describe_defs.specs.Elements.{arrayFor, sliceOfFor}
 use Rattle.describe_defs.specs.Describe.{Part, Reader, Form, array, struct, slice, Tag, code, opens, unknown, tagOf, byteAt, countAt, powerAt}
 use Rattle.describe_defs.specs.Describe.{addRead, closed, structBody, structAt, arrayAt, sliceAt, formAt, tagged, taggedAt, partFor, wholly, describedFor}
-use Rattle.describe_defs.specs.Grammar.{Stands, IsByte, IsPower, Run, none, one, members, Header, ScalarIs, PartIs, Describes, Description, byHand}
+use Rattle.describe_defs.specs.Grammar.{Stands, IsByte, IsPower, Run, none, one, members, Header, ScalarIs, PartIs, Describes, Description}
 use Rattle.describe_defs.specs.Faults.{tagByte}
 use Rattle.describe_defs.specs.Grammar.{aCode, aScalar, anArray, aStruct, aSlice}
+use Rattle.describe_defs.specs.ByHand.{byHand}
 use Rattle.describe_defs.proofs.Steps.{not-stopped, reached-one, Went, went, Passed, went-at, byte-found, byte-is, power-found, power-is, count-found, count-is, TagMeans, tag-means, tag-code}
 
 -- a reader gives what the grammar says of the level below, and finds nothing else

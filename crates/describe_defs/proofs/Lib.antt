@@ -4,6 +4,7 @@ pub mod Steps
 pub mod Grammar
 pub mod Meaning
 pub mod Accepted
+pub mod ByHand
 pub mod Faults
 pub mod Reading
 pub mod Heads

@@ -15,7 +15,8 @@ use Rattle.compose_defs.specs.Compose.{ported, composeStruct, structFor}
 use Rattle.compose_defs.specs.Places.{listed}
 use Rattle.describe_defs.specs.Describe.{Part, partFor, wholly, describedFor, formAt}
 use Rattle.describe_defs.specs.Grammar.{Stands, IsByte, Run, none, one, members, Header, ScalarIs, aCode, PartIs, aScalar, anArray, aStruct, aSlice}
-use Rattle.describe_defs.specs.Grammar.{Describes, Description, byHand}
+use Rattle.describe_defs.specs.Grammar.{Describes, Description}
+use Rattle.describe_defs.specs.ByHand.{OneLayout, byHand, AsByHand, AsByRecords}
 use Rattle.describe_defs.proofs.Steps.{not-stopped, reached-one, went, went-if}
 use Rattle.describe_defs.proofs.Grammar.{Gives, tagged-struct, struct-is, body-by-hand, reads, describes}
 
@@ -65,18 +66,16 @@ module _ (w : ℕ) (target : Target) (s : List ℕ) where
       let g = describes w target s 16 0 (x .to .1) (x .to .0) (x .first) in
       subst (λ (j : ℕ). Describes w target 16 s 0 j l) (eqb-true (x .to .1) (length s) (y .0)) (subst (λ (m : Layout). Describes w target 16 s 0 (x .to .1) m) (y .1) g)
 
-  pub one-layout : (l m : Layout) → Description w target s l → Description w target s m → l ≡ m
+  pub one-layout : OneLayout w target s
   one-layout l m h g = reached-one (sym (accepted h) ∙ accepted g)
 
   -- ---- "The result is the one composition by hand would give": of its members' layouts, and of a list of their records
-  pub as-by-hand : (d t : ℕ) {j align packing : ℕ} {ms : List Layout} → Header s t align packing (length ms) → Run (Describes w target d s) (t + 4) j ms
-      → partFor w target (suc d) s t ≡ byHand t j (composeStruct w ported align packing (members ms))
+  pub as-by-hand : AsByHand w target s
   unfolding partFor
-  as-by-hand d t {j} {align} {packing} h r =
+  as-by-hand d t j align packing ms h r =
       tagged-struct w target s t (formAt w (partFor w target d s) s t) (h .tag) ∙ struct-is w target s t (partFor w target d s) h
       ∙ body-by-hand w (partFor w target d s) (Describes w target d s) packing t (reads w target s d) align r
 
-  pub as-by-records : (d t : ℕ) (rs : List ℕ) {j align packing : ℕ} {ms : List Layout} → Header s t align packing (length ms) → Run (Describes w target d s) (t + 4) j ms
-      → length rs % 48 ≡ 0 → listed w rs ≡ members ms → partFor w target (suc d) s t ≡ byHand t j (structFor w ported align packing rs)
+  pub as-by-records : AsByRecords w target s
   unfolding structFor
-  as-by-records d t rs {j} {align} {packing} h r e f = as-by-hand d t h r ∙ rw (eq-eqb (length rs % 48) 0 e, f)
+  as-by-records d t j align packing ms rs h r e f = as-by-hand d t j align packing ms h r ∙ rw (eq-eqb (length rs % 48) 0 e, f)

@@ -19,10 +19,11 @@ use Rattle.compose_defs.proofs.Modifiers.{not-composed}
 use Rattle.describe_defs.specs.Elements.{arrayFor, sliceOfFor}
 use Rattle.describe_defs.specs.Describe.{Part, Reader, Form, array, struct, slice, unknown, tagOf, byteAt, countAt, powerAt}
 use Rattle.describe_defs.specs.Describe.{addRead, closed, structBody, structAt, arrayAt, sliceAt, formAt, tagged, taggedAt, partFor, wholly, describedFor}
-use Rattle.describe_defs.specs.Grammar.{Stands, IsByte, IsPower, Run, none, one, members, Header, Describes, Description, byHand}
+use Rattle.describe_defs.specs.Grammar.{Stands, IsByte, IsPower, Run, none, one, members, Header, Describes, Description}
 use Rattle.describe_defs.specs.Faults as F
 use Rattle.describe_defs.specs.Faults.{tagByte, UnknownTag, BadPower, noPower, powerAbove, BadHeader, badAlign, badPacking, noCount, ScalarsAccepted}
 use Rattle.describe_defs.specs.Faults.{MembersOf, Comes, first, element, sliced, member, Fault, ReadMeans}
+use Rattle.describe_defs.specs.ByHand.{byHand}
 use Rattle.describe_defs.proofs.Steps.{not-stopped, byte-is, power-is, count-is}
 use Rattle.describe_defs.proofs.Elements.{array-off, slice-off}
 use Rattle.describe_defs.proofs.Grammar.{Gives, tagged-array, tagged-struct, tagged-slice, struct-is, reads}
@@ -167,7 +168,8 @@ module _ (w : ℕ) (target : Target) (s : List ℕ) where
       stops k t c
       (tagged-struct w target s t (formAt w (partFor w target d s) s t) (m .header .tag) ∙ struct-is w target s t (partFor w target d s) (m .header)
       ∙ body-refused w (partFor w target d s) (Describes w target d s) p t (reads w target s d) a (m .run) h e)
-  fault-stops good (F.ofStruct {d = d} {t = t} {j = j} {k = k} c m e) = stops k t c (as-by-hand w target s d t (m .header) (m .run) ∙ ap (byHand t j) e)
+  fault-stops good (F.ofStruct {d = d} {t = t} {align = a} {packing = p} {j = j} {k = k} {ms = ms} c m e) =
+      stops k t c (as-by-hand w target s d t j a p ms (m .header) (m .run) ∙ ap (byHand t j) e)
   fault-stops good (F.leftOver {i = i} l h g) = rw (reads w target s 16 0 i l h, ne-eqb i (length s) (λ z. omega (arith, z, g)))
 
   -- ---- what reading means, and that nothing else meets it

@@ -52,6 +52,11 @@ slices-in-array : gives (16 ∷ 2 ∷ 0 ∷ 0 ∷ 0 ∷ 18 ∷ 0 ∷ []) ≡ sto
 unfolding describedFor partFor arrayAt sliceAt arrayFor sliceOfFor unless powerOfTwo valueOf
 slices-in-array = refl
 
+-- and not before: an unknown tag in a slice that is an array's element stands before 36
+judged-late : gives (16 ∷ 2 ∷ 0 ∷ 0 ∷ 0 ∷ 18 ∷ 20 ∷ []) ≡ stopped 34 6
+unfolding describedFor partFor arrayAt sliceAt valueOf
+judged-late = refl
+
 array-past : gives (16 ∷ 255 ∷ 255 ∷ 255 ∷ 255 ∷ 16 ∷ 255 ∷ 255 ∷ 255 ∷ 255 ∷ 3 ∷ []) ≡ stopped 37 0
 unfolding describedFor partFor arrayAt arrayFor unless powerOfTwo valueOf
 array-past = refl

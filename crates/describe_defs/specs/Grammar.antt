@@ -4,14 +4,13 @@ use mathlib.Core.Path.{_≡_}
 use mathlib.Core.List.{List, [], _∷_, map}
 use Prim.Native.Nat.{ℕ, zero, suc, _+_, _≤_, _<_}
 use lib.ListN.{length, take, drop, getD}
-use Rattle.util_defs.specs.Refusal.{Outcome, answered}
-use Rattle.util_defs.specs.Placed.{Placed, reached, stopped}
+use Rattle.util_defs.specs.Refusal.{answered}
 use Rattle.layout_defs.specs.Layout.{Layout}
 use Rattle.scalar.specs.Scalar.{Target, greatestCode, scalarLayout}
 use Rattle.words.specs.Bytes.{valueOf}
-use Rattle.compose_defs.specs.Compose.{Composed, composed, refusedAt, Member, ported, composeStruct}
+use Rattle.compose_defs.specs.Compose.{composed, Member, ported, composeStruct}
 use Rattle.describe_defs.specs.Elements.{arrayFor, sliceOfFor}
-use Rattle.describe_defs.specs.Describe.{Part, countLength, greatestPower, powerOf, greatestDepth}
+use Rattle.describe_defs.specs.Describe.{countLength, greatestPower, powerOf, greatestDepth}
 
 -- bytes from a place to another, and the layout that they stand for
 abbrev pub Stands : Type 1
@@ -68,8 +67,3 @@ Describes w target (suc d) s = PartIs w target s (Describes w target d s)
 -- the bytes are a description of the layout
 abbrev pub Description : ℕ → Target → List ℕ → Layout → Type 0
 Description w target s l = Describes w target greatestDepth s 0 (length s) l
-
--- "The result is the one composition by hand would give": of a struct at t whose members are read as far as j
-abbrev pub byHand : ℕ → ℕ → Composed → Placed Part
-byHand t j (composed l) = reached (l, j)
-byHand t j (refusedAt k place) = stopped k t

@@ -3,3 +3,4 @@ pub mod Describe
 pub mod Heads
 pub mod Grammar
 pub mod Faults
+pub mod ByHand
