@@ -17,3 +17,4 @@ mod OfPlaces
 mod OfTyped
 mod OfShort
 mod OfShare
+mod OfDescribe

@@ -1,5 +1,5 @@
 -- The ways of the reading. Assumes nothing.
-use mathlib.Core.Path.{_≡_, refl, sym, ap, subst, _∙_}
+use mathlib.Core.Path.{_≡_, refl, sym, ap, _∙_}
 use mathlib.Core.List.{List}
 use Prim.Native.Nat.{ℕ, _+_, _-_, _≤_}
 use borrow.Author.Tests.{le-ltb, eq-eqb, ne-eqb}
@@ -10,9 +10,9 @@ use Rattle.layout_defs.specs.Layout.{Layout}
 use Rattle.layout_defs.specs.Extend.{extendFor}
 use Rattle.make.specs.Make.{newZstFor}
 use Rattle.scalar.specs.Scalar.{Target, scalarLayout, scalarFor}
-use Rattle.compose_defs.specs.Compose.{ported, beginFor, memberStep}
+use Rattle.compose_defs.specs.Compose.{ported, memberStep}
 use Rattle.compose_defs.proofs.Compositions.{step-on, begin-own, begin-on}
-use Rattle.describe_defs.specs.Describe.{Part, Reader, addRead, closed, structBody, partFor, wholly, describedFor}
+use Rattle.describe_defs.specs.Describe.{Reader, addRead, closed, structBody, partFor, describedFor}
 use Rattle.describe_defs.specs.Heads.{Head, headAt, bodyAt}
 use Rattle.describe_defs.specs.Faults.{ScalarsAccepted, ReadMeans}
 use Rattle.describe_defs.proofs.Heads.{part-by-head}

@@ -1,12 +1,11 @@
 -- A layout that bytes describe is accepted: the own causes of a layout, 1 and 2, do not arise in reading. Assumes nothing.
-use mathlib.Core.Path.{_≡_, refl, sym, ap, subst, _∙_}
-use mathlib.Core.Bool.{Bool, true, false, cond}
-use mathlib.Core.List.{List, [], _∷_, _++_}
-use Prim.Native.Nat.{ℕ, zero, suc, _+_, _*_, _≤_, _<_}
+use mathlib.Core.Path.{_≡_, refl, sym, subst}
+use mathlib.Core.List.{List, [], _∷_}
+use Prim.Native.Nat.{ℕ, zero, suc, _*_}
 use native.Mathlib.Omega.{arith}
 use borrow.Author.Tests.{not-false, ne-eqb}
 use Rattle.util_defs.specs.Power.{powerOfTwo}
-use Rattle.util_defs.specs.Refusal.{Outcome, answered, refused, unless}
+use Rattle.util_defs.specs.Refusal.{answered, unless}
 use Rattle.util_defs.proofs.Powers.{positive, test-sound, test-below}
 use Rattle.util_defs.proofs.Tables.{answer-is, passed, passed-both, passes}
 use Rattle.layout_defs.specs.Layout.{Layout, layoutCauses, checkFor}
@@ -17,7 +16,7 @@ use Rattle.padding_defs.proofs.Settled.{pad-again}
 use Rattle.scalar.specs.Scalar.{Target, target64}
 use Rattle.compose_defs.proofs.Accepted.{closed}
 use Rattle.describe_defs.specs.Elements.{elementSize, arrayLayout, elementCauses, arrayCauses, arrayFor, sliceOf, sliceOfFor}
-use Rattle.describe_defs.specs.Grammar.{Stands, members, ScalarIs, aCode, PartIs, aScalar, anArray, aStruct, aSlice, Describes}
+use Rattle.describe_defs.specs.Grammar.{Stands, members, aCode, PartIs, aScalar, anArray, aStruct, aSlice, Describes}
 use Rattle.describe_defs.specs.Faults.{ScalarsAccepted}
 
 pub scalars64 : ScalarsAccepted 64 target64

@@ -8,15 +8,15 @@ use borrow.Author.Tests.{eq-eqb}
 use lib.ListN.{length, take, drop, getD, length-append, length-map}
 use lib.Seq.{drop-cons, take-append-seam, drop-append-seam}
 use Rattle.util_defs.specs.Refusal.{answered}
-use Rattle.util_defs.specs.Placed.{Placed, reached, stopped, goOn}
-use Rattle.layout_defs.specs.Layout.{Layout, checkFor}
+use Rattle.util_defs.specs.Placed.{goOn}
+use Rattle.layout_defs.specs.Layout.{Layout}
 use Rattle.scalar.specs.Scalar.{Target, target64, scalarLayout}
 use Rattle.record_defs.specs.Record.{recordBytes, wordsOf, decodeFor}
 use Rattle.record_defs.proofs.Records.{record-length}
 use Rattle.record_defs.proofs.RoundTrips.{Fits, layout-back}
 use Rattle.compose_defs.specs.Compose.{Composed, composed, refusedAt, Member, ported, membersOf, structFor}
 use Rattle.compose_defs.specs.Places.{listed}
-use Rattle.describe_defs.specs.Describe.{powerOf, partFor, wholly, describedFor}
+use Rattle.describe_defs.specs.Describe.{powerOf, wholly, describedFor}
 use Rattle.describe_defs.specs.Grammar.{IsByte, Run, none, one, members, Header, aCode, aScalar, Describes}
 use Rattle.describe_defs.specs.Faults.{ScalarsAccepted}
 use Rattle.describe_defs.specs.ByHand.{byHand, Codes, ofCodes, recordsOf, wholeByHand, AsScalars}

@@ -1,11 +1,11 @@
 -- Arrays and slices of a layout, over any width w. Assumes nothing.
 use mathlib.Core.Path.{_≡_, refl, sym, ap, _∙_}
-use mathlib.Core.Bool.{true, false}
-use mathlib.Core.List.{List, [], _∷_, _++_}
+use mathlib.Core.Bool.{true}
+use mathlib.Core.List.{[], _∷_}
 use Prim.Native.Nat.{ℕ, _*_, _^_, _≤_, _<_}
 use borrow.Author.Tests.{le-ltb, lt-ltb}
 use Rattle.util_defs.specs.Width.{M}
-use Rattle.util_defs.specs.Refusal.{Outcome, answered, refused, Cause, unless, Meets, Decided}
+use Rattle.util_defs.specs.Refusal.{answered, refused, unless, Meets, Decided}
 use Rattle.util_defs.proofs.Refusals.{tells-lt, meets}
 use Rattle.util_defs.proofs.Tables.{answer-is, accepted-as, refused-as, refused-first, accepted-first, decided-both}
 use Rattle.trailing_defs.specs.Size.{Trailing}

@@ -1,11 +1,11 @@
 -- A refusal in reading is the fault that reading comes to, and each such fault is the refusal. Assumes nothing.
 use mathlib.Core.Path.{_≡_, refl, sym, ap, subst, _∙_}
 use mathlib.Core.Bool.{Bool, true, false, cond}
-use mathlib.Core.List.{List, [], _∷_}
+use mathlib.Core.List.{List, []}
 use Prim.Native.Nat.{ℕ, zero, suc, _+_, _*_, _≤_, _<_, max}
 use native.Mathlib.Nat.{max-eq-right}
 use native.Mathlib.Omega.{arith}
-use borrow.Author.Tests.{le-ltb, lt-leb, ne-eqb, ltb-true, ltb-false, leb-false, eqb-false}
+use borrow.Author.Tests.{lt-leb, ne-eqb, ltb-true, ltb-false, leb-false, eqb-false}
 use lib.Dec.{eqb, ltb, leb}
 use lib.ListN.{length, take, drop, getD}
 use Rattle.util_defs.specs.Width.{M}
@@ -17,19 +17,18 @@ use Rattle.layout_defs.specs.Extend.{IsTrailing}
 use Rattle.padding_defs.specs.Pad.{padFor}
 use Rattle.scalar.specs.Scalar.{Target}
 use Rattle.words.specs.Bytes.{valueOf}
-use Rattle.compose_defs.specs.Compose.{Composed, composed, refusedAt, andThen, ported, beginFor, memberStep, addMembers, composeMembers, composeStruct}
-use Rattle.compose_defs.proofs.Modifiers.{not-composed}
+use Rattle.compose_defs.specs.Compose.{composed, refusedAt, ported, beginFor, memberStep, addMembers}
 use Rattle.describe_defs.specs.Elements.{elementSize, elementFor, arrayFor, sliceOfFor}
 use Rattle.describe_defs.specs.Describe.{Part, Reader, Form, array, struct, slice, Tag, code, opens, unknown, tagOf, byteAt, countAt, powerOf, powerAt}
 use Rattle.describe_defs.specs.Describe.{addRead, closed, structBody, structAt, arrayAt, sliceAt, formAt, tagged, taggedAt, partFor, wholly, describedFor}
-use Rattle.describe_defs.specs.Grammar.{Stands, IsByte, IsPower, Run, none, one, members, Header, Describes, Description}
+use Rattle.describe_defs.specs.Grammar.{Stands, IsByte, Run, none, one, members, Header, Describes}
 use Rattle.describe_defs.specs.Faults as F
-use Rattle.describe_defs.specs.Faults.{tagByte, UnknownTag, BadPower, noPower, powerAbove, BadHeader, badAlign, badPacking, noCount, ScalarsAccepted}
-use Rattle.describe_defs.specs.Faults.{MembersOf, Comes, first, element, sliced, member, Fault, ReadMeans}
-use Rattle.describe_defs.proofs.Steps.{not-stopped, byte-found, byte-is, power-found, power-is, count-found, count-is, TagMeans, tag-means}
+use Rattle.describe_defs.specs.Faults.{tagByte, UnknownTag, BadPower, noPower, powerAbove, badAlign, badPacking, noCount, ScalarsAccepted}
+use Rattle.describe_defs.specs.Faults.{Comes, first, element, sliced, member, Fault}
+use Rattle.describe_defs.proofs.Steps.{not-stopped, byte-found, power-found, count-found, TagMeans, tag-means}
 use Rattle.describe_defs.proofs.Elements.{element-trailing, element-sized, array-off, array-past, array-on, slice-off, slice-on}
-use Rattle.describe_defs.proofs.Grammar.{Gives, Finds, Added, added-one, run-found, tagged-array, tagged-struct, tagged-slice, struct-is, reads, describes}
-use Rattle.describe_defs.proofs.Meaning.{run-past, described-past, accepted, accepts, as-by-hand}
+use Rattle.describe_defs.proofs.Grammar.{Finds, added-one, run-found, describes}
+use Rattle.describe_defs.proofs.Meaning.{run-past, described-past}
 use Rattle.describe_defs.proofs.Accepted.{described-accepted}
 
 -- ---- what stops, and where: what is so of a refusal is so of the same one under another name

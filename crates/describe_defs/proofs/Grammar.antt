@@ -1,11 +1,7 @@
 -- The reader accepts exactly the descriptions, and gives their layouts, which are those of compositions by hand. Assumes nothing.
 use mathlib.Core.Path.{_≡_, refl, sym, ap, subst, _∙_}
-use mathlib.Core.Bool.{Bool, true, false, cond}
 use mathlib.Core.List.{List, [], _∷_}
-use Prim.Native.Nat.{ℕ, zero, suc, _+_, _≤_, _<_}
-use native.Mathlib.Omega.{arith}
-use borrow.Author.Tests.{eq-eqb, eqb-true}
-use lib.Dec.{eqb}
+use Prim.Native.Nat.{ℕ, zero, suc, _+_, _≤_}
 use lib.ListN.{length, take, drop}
 use Rattle.util_defs.specs.Refusal.{Outcome, answered, refused}
 use Rattle.util_defs.specs.Placed.{Placed, reached, stopped, atPlace, goOn}
@@ -13,15 +9,15 @@ use Rattle.layout_defs.specs.Layout.{Layout}
 use Rattle.padding_defs.specs.Pad.{padFor}
 use Rattle.scalar.specs.Scalar.{Target, scalarLayout}
 use Rattle.words.specs.Bytes.{valueOf}
-use Rattle.compose_defs.specs.Compose.{Composed, composed, refusedAt, andThen, bind, ported, beginFor, memberStep, addMembers, composeMembers, composeStruct}
+use Rattle.compose_defs.specs.Compose.{Composed, composed, refusedAt, andThen, bind, ported, beginFor, memberStep, addMembers, composeStruct}
 use Rattle.describe_defs.specs.Elements.{arrayFor, sliceOfFor}
 use Rattle.describe_defs.specs.Describe.{Part, Reader, Form, array, struct, slice, Tag, code, opens, unknown, tagOf, byteAt, countAt, powerAt}
-use Rattle.describe_defs.specs.Describe.{addRead, closed, structBody, structAt, arrayAt, sliceAt, formAt, tagged, taggedAt, partFor, wholly, describedFor}
-use Rattle.describe_defs.specs.Grammar.{Stands, IsByte, IsPower, Run, none, one, members, Header, ScalarIs, PartIs, Describes, Description}
+use Rattle.describe_defs.specs.Describe.{addRead, closed, structBody, structAt, arrayAt, sliceAt, formAt, tagged, taggedAt, partFor}
+use Rattle.describe_defs.specs.Grammar.{Stands, IsByte, Run, none, one, members, Header, ScalarIs, PartIs, Describes}
 use Rattle.describe_defs.specs.Faults.{tagByte}
 use Rattle.describe_defs.specs.Grammar.{aCode, aScalar, anArray, aStruct, aSlice}
 use Rattle.describe_defs.specs.ByHand.{byHand}
-use Rattle.describe_defs.proofs.Steps.{not-stopped, reached-one, Went, went, Passed, went-at, byte-found, byte-is, power-found, power-is, count-found, count-is, TagMeans, tag-means, tag-code}
+use Rattle.describe_defs.proofs.Steps.{not-stopped, reached-one, went, went-at, byte-found, byte-is, power-found, power-is, count-found, count-is, TagMeans, tag-means, tag-code}
 
 -- a reader gives what the grammar says of the level below, and finds nothing else
 abbrev pub Gives : Reader → Stands → Type 0

@@ -1,19 +1,18 @@
 -- A part is read by its head, and what is read by the code's steps. Assumes nothing.
-use mathlib.Core.Path.{_≡_, refl, sym, ap, subst, _∙_}
-use mathlib.Core.Bool.{Bool, true, false, cond}
+use mathlib.Core.Path.{_≡_, refl, sym, subst, _∙_}
 use mathlib.Core.List.{List}
 use Prim.Native.Nat.{ℕ, zero, suc, _+_, _-_, _≤_, _<_}
 use native.Mathlib.Omega.{arith}
 use lib.ListN.{length}
-use Rattle.util_defs.specs.Refusal.{Outcome, answered, refused}
-use Rattle.util_defs.specs.Placed.{Placed, reached, stopped, atPlace, goOn}
+use Rattle.util_defs.specs.Refusal.{answered, refused}
+use Rattle.util_defs.specs.Placed.{Placed, reached, stopped, goOn}
 use Rattle.layout_defs.specs.Layout.{Layout}
-use Rattle.scalar.specs.Scalar.{Target, scalarLayout}
-use Rattle.compose_defs.specs.Compose.{ported, beginFor, memberStep}
+use Rattle.scalar.specs.Scalar.{Target}
+use Rattle.compose_defs.specs.Compose.{ported, memberStep}
 use Rattle.describe_defs.specs.Describe.{Part, Reader, Form, array, struct, slice, Tag, code, opens, unknown, tagOf, byteAt, countAt, powerAt}
-use Rattle.describe_defs.specs.Describe.{addRead, closed, structBody, structAt, arrayAt, sliceAt, formAt, tagged, taggedAt, partFor}
-use Rattle.describe_defs.specs.Heads.{Head, codeHead, arrayHead, structHead, sliceHead, packedHead, alignedHead, formHead, opening, tagHead, headAt, made, bodyAt}
-use Rattle.describe_defs.proofs.Steps.{not-stopped, reached-one, went, byte-found, power-found, count-found, TagMeans, tag-means}
+use Rattle.describe_defs.specs.Describe.{addRead, structAt, arrayAt, sliceAt, formAt, tagged, taggedAt, partFor}
+use Rattle.describe_defs.specs.Heads.{Head, codeHead, arrayHead, structHead, sliceHead, packedHead, alignedHead, formHead, opening, tagHead, headAt, bodyAt}
+use Rattle.describe_defs.proofs.Steps.{not-stopped, reached-one, went, byte-found, count-found, TagMeans, tag-means}
 
 -- reading on from what reading on gave
 assoc : {R S T : Type 0} (p : Placed R) (f : R → Placed S) (g : S → Placed T) → goOn (goOn p f) g ≡ goOn p (λ x. goOn (f x) g)

@@ -1,24 +1,22 @@
 -- What reading a description means: it gives the layout that the bytes describe, which is one, and composition by hand gives it too.
 -- Assumes nothing.
-use mathlib.Core.Path.{_≡_, refl, sym, ap, subst, _∙_}
-use mathlib.Core.Bool.{Bool, true, false, cond}
-use mathlib.Core.List.{List, [], _∷_}
-use Prim.Native.Nat.{ℕ, zero, suc, _+_, _%_, _/_, _≤_, _<_}
+use mathlib.Core.Path.{_≡_, refl, sym, subst, _∙_}
+use mathlib.Core.List.{List}
+use Prim.Native.Nat.{ℕ, zero, suc, _+_, _%_, _≤_, _<_}
 use native.Mathlib.Omega.{arith}
 use borrow.Author.Tests.{eq-eqb, eqb-true}
 use lib.Dec.{eqb}
 use lib.ListN.{length}
-use Rattle.util_defs.specs.Placed.{Placed, reached, stopped, goOn}
+use Rattle.util_defs.specs.Placed.{reached}
 use Rattle.layout_defs.specs.Layout.{Layout}
 use Rattle.scalar.specs.Scalar.{Target}
-use Rattle.compose_defs.specs.Compose.{ported, composeStruct, structFor}
-use Rattle.compose_defs.specs.Places.{listed}
+use Rattle.compose_defs.specs.Compose.{structFor}
 use Rattle.describe_defs.specs.Describe.{Part, partFor, wholly, describedFor, formAt}
-use Rattle.describe_defs.specs.Grammar.{Stands, IsByte, Run, none, one, members, Header, ScalarIs, aCode, PartIs, aScalar, anArray, aStruct, aSlice}
+use Rattle.describe_defs.specs.Grammar.{Stands, Run, none, one, members, ScalarIs, aCode, PartIs, aScalar, anArray, aStruct, aSlice}
 use Rattle.describe_defs.specs.Grammar.{Describes, Description}
-use Rattle.describe_defs.specs.ByHand.{OneLayout, byHand, AsByHand, AsByRecords}
-use Rattle.describe_defs.proofs.Steps.{not-stopped, reached-one, went, went-if}
-use Rattle.describe_defs.proofs.Grammar.{Gives, tagged-struct, struct-is, body-by-hand, reads, describes}
+use Rattle.describe_defs.specs.ByHand.{OneLayout, AsByHand, AsByRecords}
+use Rattle.describe_defs.proofs.Steps.{reached-one, went, went-if}
+use Rattle.describe_defs.proofs.Grammar.{tagged-struct, struct-is, body-by-hand, reads, describes}
 
 -- ---- a part moves on within the bytes: what makes the bytes left fall
 abbrev pub Past : List ℕ → ℕ → ℕ → Type 0

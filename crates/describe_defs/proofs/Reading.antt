@@ -1,35 +1,32 @@
 -- Each fault that reading comes to is the refusal; so what reading means is met by nothing else. Assumes nothing.
-use mathlib.Core.Path.{_≡_, refl, sym, ap, subst, _∙_}
-use mathlib.Core.Bool.{Bool, true, false, cond}
-use mathlib.Core.List.{List, [], _∷_}
+use mathlib.Core.Path.{_≡_, sym, ap, _∙_}
+use mathlib.Core.List.{List}
 use Prim.Native.Nat.{ℕ, zero, suc, _+_, _-_, _≤_, _<_}
 use native.Mathlib.Nat.{max-eq-right}
 use native.Mathlib.Omega.{arith}
 use borrow.Author.Tests.{le-ltb, lt-leb, ne-eqb}
-use lib.Dec.{eqb, ltb, leb}
 use lib.ListN.{length, take, drop}
 use Rattle.util_defs.specs.Refusal.{Outcome, answered, refused}
 use Rattle.util_defs.specs.Placed.{Placed, reached, stopped, atPlace, goOn}
 use Rattle.layout_defs.specs.Layout.{Layout}
-use Rattle.layout_defs.specs.Extend.{IsTrailing}
 use Rattle.scalar.specs.Scalar.{Target}
 use Rattle.words.specs.Bytes.{valueOf}
-use Rattle.compose_defs.specs.Compose.{Composed, composed, refusedAt, andThen, ported, beginFor, memberStep, addMembers, composeMembers, composeStruct}
+use Rattle.compose_defs.specs.Compose.{composed, refusedAt, andThen, ported, beginFor, memberStep, addMembers, composeMembers}
 use Rattle.compose_defs.proofs.Modifiers.{not-composed}
 use Rattle.describe_defs.specs.Elements.{arrayFor, sliceOfFor}
-use Rattle.describe_defs.specs.Describe.{Part, Reader, Form, array, struct, slice, unknown, tagOf, byteAt, countAt, powerAt}
-use Rattle.describe_defs.specs.Describe.{addRead, closed, structBody, structAt, arrayAt, sliceAt, formAt, tagged, taggedAt, partFor, wholly, describedFor}
-use Rattle.describe_defs.specs.Grammar.{Stands, IsByte, IsPower, Run, none, one, members, Header, Describes, Description}
+use Rattle.describe_defs.specs.Describe.{Reader, Form, array, struct, slice, byteAt, powerAt}
+use Rattle.describe_defs.specs.Describe.{addRead, closed, structBody, structAt, arrayAt, sliceAt, formAt, partFor, describedFor}
+use Rattle.describe_defs.specs.Grammar.{Stands, IsByte, Run, none, one, members, Describes}
 use Rattle.describe_defs.specs.Faults as F
 use Rattle.describe_defs.specs.Faults.{tagByte, UnknownTag, BadPower, noPower, powerAbove, BadHeader, badAlign, badPacking, noCount, ScalarsAccepted}
-use Rattle.describe_defs.specs.Faults.{MembersOf, Comes, first, element, sliced, member, Fault, ReadMeans}
+use Rattle.describe_defs.specs.Faults.{Comes, first, element, sliced, member, Fault, ReadMeans}
 use Rattle.describe_defs.specs.ByHand.{byHand}
 use Rattle.describe_defs.proofs.Steps.{not-stopped, byte-is, power-is, count-is}
 use Rattle.describe_defs.proofs.Elements.{array-off, slice-off}
 use Rattle.describe_defs.proofs.Grammar.{Gives, tagged-array, tagged-struct, tagged-slice, struct-is, reads}
 use Rattle.describe_defs.proofs.Meaning.{accepted, accepts, as-by-hand}
 use Rattle.describe_defs.proofs.Accepted.{described-accepted}
-use Rattle.describe_defs.proofs.Faults.{comes-within, trailing-refused, array-passes, tag-unknown, fault}
+use Rattle.describe_defs.proofs.Faults.{trailing-refused, array-passes, tag-unknown, fault}
 
 -- ---- a byte and a power that are not there
 byte-missing : (s : List ℕ) (i : ℕ) → i ≡ length s → byteAt s i ≡ stopped 33 i

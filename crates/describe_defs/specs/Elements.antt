@@ -1,5 +1,4 @@
 -- Arrays and slices of a layout (document 02, request 4; the Reference's rules layout.array and layout.slice). Assumes nothing.
-use mathlib.Core.Bool.{true}
 use mathlib.Core.List.{List, [], _∷_, _++_}
 use Prim.Native.Nat.{ℕ, _*_, _<_}
 use lib.Dec.{ltb}

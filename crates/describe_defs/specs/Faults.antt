@@ -68,9 +68,9 @@ module _ (w : ℕ) (target : Target) (s : List ℕ) where
         → MembersOf d t align packing n j ms → length ms < n
         → composeMembers w ported align packing (members ms) ≡ composed l → Comes d j
 
-  -- a refusal and its place. 33: bytes run out, at the first that is missing; 34: a tag is unknown, or a power above the greatest;
-  -- 35: a tag opens one part too many; 36: an element is trailing; 37: an array's size passes M; what refuses to compose a struct,
-  -- of the members so far or of all of them with closing padding; 38: bytes are left over
+  -- a refusal and its place. 33: bytes run out, at the first that is missing. 34: a tag is unknown, or a power above the
+  -- greatest. 35: a tag opens one part too many. 36: an element is trailing. 37: an array's size passes M. What refuses to compose
+  -- a struct, of the members so far, or of all of them with closing padding. 38: bytes are left over
   pub data Fault : ℕ → ℕ → Type 0 where
     noTag : {d t : ℕ} → Comes d t → t ≡ length s → Fault 33 t
     unknownTag : {d t b : ℕ} → Comes d t → IsByte s t b → UnknownTag b → Fault 34 t
