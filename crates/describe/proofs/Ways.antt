@@ -12,10 +12,12 @@ use Rattle.make.specs.Make.{newZstFor}
 use Rattle.scalar.specs.Scalar.{Target, scalarLayout, scalarFor}
 use Rattle.compose_defs.specs.Compose.{ported, memberStep}
 use Rattle.compose_defs.proofs.Compositions.{step-on, begin-own, begin-on}
-use Rattle.describe_defs.specs.Describe.{Reader, addRead, closed, structBody, partFor, describedFor}
+use Rattle.describe_defs.specs.Describe.{Part, Reader, addRead, closed, structBody, partFor, describedFor}
 use Rattle.describe_defs.specs.Heads.{Head, headAt, bodyAt}
+use Rattle.describe_defs.specs.Grammar.{PartMeans}
 use Rattle.describe_defs.specs.Faults.{ScalarsAccepted, ReadMeans}
 use Rattle.describe_defs.proofs.Heads.{part-by-head}
+use Rattle.describe_defs.proofs.Meaning.{part-means}
 use Rattle.describe_defs.proofs.Reading.{read-means}
 
 -- a code is a scalar
@@ -26,6 +28,10 @@ code-scalar target code h = rw (le-ltb 8 code h)
 -- a part by the head that was read
 pub by-head : (w : ℕ) (target : Target) (d : ℕ) (s : List ℕ) (t : ℕ) {h : Placed Head} → headAt d s t ≡ h → partFor w target d s t ≡ goOn h (bodyAt w target (partFor w target (d - 1) s) t)
 by-head w target d s t e = part-by-head w target d s t ∙ ap (λ (p : Placed Head). goOn p (bodyAt w target (partFor w target (d - 1) s) t)) e
+
+-- what was read, and what it means
+pub part-told : (w : ℕ) (target : Target) (d : ℕ) (s : List ℕ) (t : ℕ) {r : Placed Part} → r ≡ partFor w target d s t → (r ≡ partFor w target d s t) × PartMeans w target d s t r
+part-told w target d s t {r} e = (e, part-means w target s d t r (sym e))
 
 -- a struct from its empty layout on
 module _ (w : ℕ) (part : Reader) (t align packing n : ℕ) where

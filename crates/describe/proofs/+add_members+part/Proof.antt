@@ -18,7 +18,7 @@ use Rattle.describe_defs.proofs.Meaning.{moved}
 use Rattle.describe_defs.proofs.Heads.{head-room, add-none, add-stop, add-off, add-on}
 use Rattle.heads.specs.View.{headSays}
 use Rattle.describe.specs.View.{partSays}
-use Rattle.describe.proofs.Ways.{code-scalar, by-head, body-on, body-off, step-is}
+use Rattle.describe.proofs.Ways.{part-told, code-scalar, by-head, body-on, body-off, step-is}
 use Prim.Native.Nat.{ℕ, _+_, _-_, _*_, _<_}
 use borrow.Fn.Kinds.{In}
 use borrow.Fn.PlainCycle.{Measures, is, falls, and}
@@ -127,7 +127,7 @@ add-members-add-members-requires : (t : ℕ) → add-members-lts.Need-add-member
   add-members-below t,
   add-members.Post,
 ) (add-members-at t) add-members.Post
-add-members-add-members-requires t c κs = (omega (arith, c .before .before .before .before .before .before .before .before .before .before .pre .0, moved 64 target64 (c .before .before .before .before .before .before .before .before .before .before .args .s .now) (c .before .before .before .before .before .before .before .before .before .before .args .depth) (c .before .before .before .before .before .before .before .before .before .before .args .at) (c .before .before .before .before .before .layout .given .0 .1 .0) (layoutOf (c .before .before .before .before .before .layout .given .0 .0)) (sym (c .before .before .before .before .before .before .before .part .ensures) ∙ ap partSays (c .before .before .before .before .before .layout .given .1))), tt)
+add-members-add-members-requires t c κs = (omega (arith, c .before .before .before .before .before .before .before .before .before .before .pre .0, moved 64 target64 (c .before .before .before .before .before .before .before .before .before .before .args .s .now) (c .before .before .before .before .before .before .before .before .before .before .args .depth) (c .before .before .before .before .before .before .before .before .before .before .args .at) (c .before .before .before .before .before .layout .given .0 .1 .0) (layoutOf (c .before .before .before .before .before .layout .given .0 .0)) (sym (c .before .before .before .before .before .before .before .part .ensures .0) ∙ ap partSays (c .before .before .before .before .before .layout .given .1))), tt)
 
 add-members-enum-known-number : (t : ℕ) → add-members-lts.Need-enum-known-number (
   part-below t,
@@ -157,7 +157,7 @@ add-members-returns-2 : (t : ℕ) → add-members-lts.Need-returns-2 (
   add-members-below t,
   add-members.Post,
 ) (add-members-at t) add-members.Post
-add-members-returns-2 t c = c .add-members .ensures ∙ sym (add-on 64 (partFor 64 target64 (c .before .before .before .before .before .before .before .before .before .before .before .args .depth) (c .before .before .before .before .before .before .before .before .before .before .before .args .s .now)) (c .before .before .before .before .before .before .before .before .before .before .before .args .packed) (c .before .before .before .before .before .before .before .before .before .before .before .args .tag) (layoutOf (c .before .before .before .before .before .before .before .before .before .before .before .args .own)) (c .before .before .before .before .before .before .before .before .before .before .before .args .at) (c .before .before .before .before .before .before .before .before .before .before .before .args .left) (c .before .before .before .before .before .before .before .before .before .if1 .left) (sym (c .before .before .before .before .before .before .before .before .part .ensures) ∙ ap partSays (c .before .before .before .before .before .before .layout .given .1)) (step-is 64 (c .before .before .before .before .before .before .before .before .before .before .before .args .packed) (layoutOf (c .before .before .before .before .before .before .before .before .before .before .before .args .own)) (layoutOf (c .before .before .before .before .before .before .layout .given .0 .0)) (told-by layoutSays (c .before .before .before .before .extend .ensures .0) (c .before .before .grown .given .1))))
+add-members-returns-2 t c = c .add-members .ensures ∙ sym (add-on 64 (partFor 64 target64 (c .before .before .before .before .before .before .before .before .before .before .before .args .depth) (c .before .before .before .before .before .before .before .before .before .before .before .args .s .now)) (c .before .before .before .before .before .before .before .before .before .before .before .args .packed) (c .before .before .before .before .before .before .before .before .before .before .before .args .tag) (layoutOf (c .before .before .before .before .before .before .before .before .before .before .before .args .own)) (c .before .before .before .before .before .before .before .before .before .before .before .args .at) (c .before .before .before .before .before .before .before .before .before .before .before .args .left) (c .before .before .before .before .before .before .before .before .before .if1 .left) (sym (c .before .before .before .before .before .before .before .before .part .ensures .0) ∙ ap partSays (c .before .before .before .before .before .before .layout .given .1)) (step-is 64 (c .before .before .before .before .before .before .before .before .before .before .before .args .packed) (layoutOf (c .before .before .before .before .before .before .before .before .before .before .before .args .own)) (layoutOf (c .before .before .before .before .before .before .layout .given .0 .0)) (told-by layoutSays (c .before .before .before .before .extend .ensures .0) (c .before .before .grown .given .1))))
 
 add-members-returns-3 : (t : ℕ) → add-members-lts.Need-returns-3 (
   part-below t,
@@ -167,7 +167,7 @@ add-members-returns-3 : (t : ℕ) → add-members-lts.Need-returns-3 (
   add-members-below t,
   add-members.Post,
 ) (add-members-at t) add-members.Post
-add-members-returns-3 t c = sym (add-off 64 (partFor 64 target64 (c .before .before .before .before .before .before .before .before .before .before .args .depth) (c .before .before .before .before .before .before .before .before .before .before .args .s .now)) (c .before .before .before .before .before .before .before .before .before .before .args .packed) (c .before .before .before .before .before .before .before .before .before .before .args .tag) (layoutOf (c .before .before .before .before .before .before .before .before .before .before .args .own)) (c .before .before .before .before .before .before .before .before .before .before .args .at) (c .before .before .before .before .before .before .before .before .before .before .args .left) (c .before .before .before .before .before .before .before .before .if1 .left) (sym (c .before .before .before .before .before .before .before .part .ensures) ∙ ap partSays (c .before .before .before .before .before .layout .given .1)) (step-is 64 (c .before .before .before .before .before .before .before .before .before .before .args .packed) (layoutOf (c .before .before .before .before .before .before .before .before .before .before .args .own)) (layoutOf (c .before .before .before .before .before .layout .given .0 .0)) (told-by layoutSays (c .before .before .before .extend .ensures .0) (c .before .number .given .1))))
+add-members-returns-3 t c = sym (add-off 64 (partFor 64 target64 (c .before .before .before .before .before .before .before .before .before .before .args .depth) (c .before .before .before .before .before .before .before .before .before .before .args .s .now)) (c .before .before .before .before .before .before .before .before .before .before .args .packed) (c .before .before .before .before .before .before .before .before .before .before .args .tag) (layoutOf (c .before .before .before .before .before .before .before .before .before .before .args .own)) (c .before .before .before .before .before .before .before .before .before .before .args .at) (c .before .before .before .before .before .before .before .before .before .before .args .left) (c .before .before .before .before .before .before .before .before .if1 .left) (sym (c .before .before .before .before .before .before .before .part .ensures .0) ∙ ap partSays (c .before .before .before .before .before .layout .given .1)) (step-is 64 (c .before .before .before .before .before .before .before .before .before .before .args .packed) (layoutOf (c .before .before .before .before .before .before .before .before .before .before .args .own)) (layoutOf (c .before .before .before .before .before .layout .given .0 .0)) (told-by layoutSays (c .before .before .before .extend .ensures .0) (c .before .number .given .1))))
 
 add-members-returns-4 : (t : ℕ) → add-members-lts.Need-returns-4 (
   part-below t,
@@ -177,7 +177,7 @@ add-members-returns-4 : (t : ℕ) → add-members-lts.Need-returns-4 (
   add-members-below t,
   add-members.Post,
 ) (add-members-at t) add-members.Post
-add-members-returns-4 t c = sym (add-stop 64 (partFor 64 target64 (c .before .before .before .before .before .before .args .depth) (c .before .before .before .before .before .before .args .s .now)) (c .before .before .before .before .before .before .args .packed) (c .before .before .before .before .before .before .args .tag) (layoutOf (c .before .before .before .before .before .before .args .own)) (c .before .before .before .before .before .before .args .at) (c .before .before .before .before .before .before .args .left) (c .before .before .before .before .if1 .left) (sym (c .before .before .before .part .ensures) ∙ ap partSays (c .before .number2 .given .1)))
+add-members-returns-4 t c = sym (add-stop 64 (partFor 64 target64 (c .before .before .before .before .before .before .args .depth) (c .before .before .before .before .before .before .args .s .now)) (c .before .before .before .before .before .before .args .packed) (c .before .before .before .before .before .before .args .tag) (layoutOf (c .before .before .before .before .before .before .args .own)) (c .before .before .before .before .before .before .args .at) (c .before .before .before .before .before .before .args .left) (c .before .before .before .before .if1 .left) (sym (c .before .before .before .part .ensures .0) ∙ ap partSays (c .before .number2 .given .1)))
 
 part-head-requires : (t : ℕ) → part-lts.Need-head-requires (
   head-reads.Asked,
@@ -750,8 +750,9 @@ part-returns : (t : ℕ) → part-lts.Need-returns (
   slice-part-reads.Learnt,
 ) (part-at t) part.Post
 part-returns t c =
-    c .at-tag .ensures ∙ ap (λ (o : Outcome Layout). atPlace (c .before .before .before .before .before .before .before .args .at) o (λ l. reached (l, c .before .before .before .before .before .before .before .args .at + 1))) (c .before .scalar .ensures .0 ∙ code-scalar target64 (c .before .before .before .code .given .0 .0) (head-room (c .before .before .before .before .before .before .before .args .s .now) (c .before .before .before .before .before .before .before .args .at) (c .before .before .before .before .before .before .before .args .depth) (sym (c .before .before .before .before .before .head .ensures) ∙ ap headSays (c .before .before .before .code .given .1)) .1))
-    ∙ sym (by-head 64 target64 (c .before .before .before .before .before .before .before .args .depth) (c .before .before .before .before .before .before .before .args .s .now) (c .before .before .before .before .before .before .before .args .at) (sym (c .before .before .before .before .before .head .ensures) ∙ ap headSays (c .before .before .before .code .given .1)))
+    part-told 64 target64 (c .before .before .before .before .before .before .before .args .depth) (c .before .before .before .before .before .before .before .args .s .now) (c .before .before .before .before .before .before .before .args .at)
+    (c .at-tag .ensures ∙ ap (λ (o : Outcome Layout). atPlace (c .before .before .before .before .before .before .before .args .at) o (λ l. reached (l, c .before .before .before .before .before .before .before .args .at + 1))) (c .before .scalar .ensures .0 ∙ code-scalar target64 (c .before .before .before .code .given .0 .0) (head-room (c .before .before .before .before .before .before .before .args .s .now) (c .before .before .before .before .before .before .before .args .at) (c .before .before .before .before .before .before .before .args .depth) (sym (c .before .before .before .before .before .head .ensures) ∙ ap headSays (c .before .before .before .code .given .1)) .1))
+    ∙ sym (by-head 64 target64 (c .before .before .before .before .before .before .before .args .depth) (c .before .before .before .before .before .before .before .args .s .now) (c .before .before .before .before .before .before .before .args .at) (sym (c .before .before .before .before .before .head .ensures) ∙ ap headSays (c .before .before .before .code .given .1))))
 
 part-returns-2 : (t : ℕ) → part-lts.Need-returns-2 (
   head-reads.Asked,
@@ -774,8 +775,9 @@ part-returns-2 : (t : ℕ) → part-lts.Need-returns-2 (
   slice-part-reads.Learnt,
 ) (part-at t) part.Post
 part-returns-2 t c =
-    c .array-part .ensures ∙ ap (λ (p : Placed Part). goOn p (made (c .before .before .before .before .before .before .before .args .at) (λ l. arrayFor 64 l (c .before .before .before .count .given .0 .0)))) (c .before .part .ensures)
-    ∙ sym (by-head 64 target64 (c .before .before .before .before .before .before .before .args .depth) (c .before .before .before .before .before .before .before .args .s .now) (c .before .before .before .before .before .before .before .args .at) (sym (c .before .before .before .before .before .head .ensures) ∙ ap headSays (c .before .before .before .count .given .1)))
+    part-told 64 target64 (c .before .before .before .before .before .before .before .args .depth) (c .before .before .before .before .before .before .before .args .s .now) (c .before .before .before .before .before .before .before .args .at)
+    (c .array-part .ensures ∙ ap (λ (p : Placed Part). goOn p (made (c .before .before .before .before .before .before .before .args .at) (λ l. arrayFor 64 l (c .before .before .before .count .given .0 .0)))) (c .before .part .ensures .0)
+    ∙ sym (by-head 64 target64 (c .before .before .before .before .before .before .before .args .depth) (c .before .before .before .before .before .before .before .args .s .now) (c .before .before .before .before .before .before .before .args .at) (sym (c .before .before .before .before .before .head .ensures) ∙ ap headSays (c .before .before .before .count .given .1))))
 
 part-returns-3 : (t : ℕ) → part-lts.Need-returns-3 (
   head-reads.Asked,
@@ -798,8 +800,9 @@ part-returns-3 : (t : ℕ) → part-lts.Need-returns-3 (
   slice-part-reads.Learnt,
 ) (part-at t) part.Post
 part-returns-3 t c =
-    c .struct-part .ensures ∙ ap (λ (p : Placed Part). goOn p (closed 64 (c .before .before .before .before .before .before .before .before .before .before .before .args .at))) (c .before .add-members .ensures)
-    ∙ sym (by-head 64 target64 (c .before .before .before .before .before .before .before .before .before .before .before .args .depth) (c .before .before .before .before .before .before .before .before .before .before .before .args .s .now) (c .before .before .before .before .before .before .before .before .before .before .before .args .at) (sym (c .before .before .before .before .before .before .before .before .before .head .ensures) ∙ ap headSays (c .before .before .before .before .before .before .before .align .given .1)) ∙ body-on 64 (partFor 64 target64 (c .before .before .before .before .before .before .before .before .before .before .before .args .depth - 1) (c .before .before .before .before .before .before .before .before .before .before .before .args .s .now)) (c .before .before .before .before .before .before .before .before .before .before .before .args .at) (c .before .before .before .before .before .before .before .align .given .0 .0) (c .before .before .before .before .before .before .before .align .given .0 .1 .0) (c .before .before .before .before .before .before .before .align .given .0 .1 .1 .0) (told-by layoutSays (c .before .before .before .before .before .new-zst .ensures .0) (c .before .before .before .empty .given .1)))
+    part-told 64 target64 (c .before .before .before .before .before .before .before .before .before .before .before .args .depth) (c .before .before .before .before .before .before .before .before .before .before .before .args .s .now) (c .before .before .before .before .before .before .before .before .before .before .before .args .at)
+    (c .struct-part .ensures ∙ ap (λ (p : Placed Part). goOn p (closed 64 (c .before .before .before .before .before .before .before .before .before .before .before .args .at))) (c .before .add-members .ensures)
+    ∙ sym (by-head 64 target64 (c .before .before .before .before .before .before .before .before .before .before .before .args .depth) (c .before .before .before .before .before .before .before .before .before .before .before .args .s .now) (c .before .before .before .before .before .before .before .before .before .before .before .args .at) (sym (c .before .before .before .before .before .before .before .before .before .head .ensures) ∙ ap headSays (c .before .before .before .before .before .before .before .align .given .1)) ∙ body-on 64 (partFor 64 target64 (c .before .before .before .before .before .before .before .before .before .before .before .args .depth - 1) (c .before .before .before .before .before .before .before .before .before .before .before .args .s .now)) (c .before .before .before .before .before .before .before .before .before .before .before .args .at) (c .before .before .before .before .before .before .before .align .given .0 .0) (c .before .before .before .before .before .before .before .align .given .0 .1 .0) (c .before .before .before .before .before .before .before .align .given .0 .1 .1 .0) (told-by layoutSays (c .before .before .before .before .before .new-zst .ensures .0) (c .before .before .before .empty .given .1))))
 
 part-returns-4 : (t : ℕ) → part-lts.Need-returns-4 (
   head-reads.Asked,
@@ -822,7 +825,8 @@ part-returns-4 : (t : ℕ) → part-lts.Need-returns-4 (
   slice-part-reads.Learnt,
 ) (part-at t) part.Post
 part-returns-4 t c =
-    sym (by-head 64 target64 (c .before .before .before .before .before .before .before .before .before .args .depth) (c .before .before .before .before .before .before .before .before .before .args .s .now) (c .before .before .before .before .before .before .before .before .before .args .at) (sym (c .before .before .before .before .before .before .before .head .ensures) ∙ ap headSays (c .before .before .before .before .before .align .given .1)) ∙ body-off 64 (partFor 64 target64 (c .before .before .before .before .before .before .before .before .before .args .depth - 1) (c .before .before .before .before .before .before .before .before .before .args .s .now)) (c .before .before .before .before .before .before .before .before .before .args .at) (c .before .before .before .before .before .align .given .0 .0) (c .before .before .before .before .before .align .given .0 .1 .0) (c .before .before .before .before .before .align .given .0 .1 .1 .0) (told-by layoutSays (c .before .before .before .new-zst .ensures .0) (c .before .number .given .1)))
+    part-told 64 target64 (c .before .before .before .before .before .before .before .before .before .args .depth) (c .before .before .before .before .before .before .before .before .before .args .s .now) (c .before .before .before .before .before .before .before .before .before .args .at)
+    (sym (by-head 64 target64 (c .before .before .before .before .before .before .before .before .before .args .depth) (c .before .before .before .before .before .before .before .before .before .args .s .now) (c .before .before .before .before .before .before .before .before .before .args .at) (sym (c .before .before .before .before .before .before .before .head .ensures) ∙ ap headSays (c .before .before .before .before .before .align .given .1)) ∙ body-off 64 (partFor 64 target64 (c .before .before .before .before .before .before .before .before .before .args .depth - 1) (c .before .before .before .before .before .before .before .before .before .args .s .now)) (c .before .before .before .before .before .before .before .before .before .args .at) (c .before .before .before .before .before .align .given .0 .0) (c .before .before .before .before .before .align .given .0 .1 .0) (c .before .before .before .before .before .align .given .0 .1 .1 .0) (told-by layoutSays (c .before .before .before .new-zst .ensures .0) (c .before .number .given .1))))
 
 part-returns-5 : (t : ℕ) → part-lts.Need-returns-5 (
   head-reads.Asked,
@@ -845,8 +849,9 @@ part-returns-5 : (t : ℕ) → part-lts.Need-returns-5 (
   slice-part-reads.Learnt,
 ) (part-at t) part.Post
 part-returns-5 t c =
-    c .slice-part .ensures ∙ ap (λ (p : Placed Part). goOn p (made (c .before .before .before .before .before .before .args .at) (sliceOfFor 64))) (c .before .part2 .ensures)
-    ∙ sym (by-head 64 target64 (c .before .before .before .before .before .before .args .depth) (c .before .before .before .before .before .before .args .s .now) (c .before .before .before .before .before .before .args .at) (sym (c .before .before .before .before .head .ensures) ∙ ap headSays (c .before .before .enum-told .given .1)))
+    part-told 64 target64 (c .before .before .before .before .before .before .args .depth) (c .before .before .before .before .before .before .args .s .now) (c .before .before .before .before .before .before .args .at)
+    (c .slice-part .ensures ∙ ap (λ (p : Placed Part). goOn p (made (c .before .before .before .before .before .before .args .at) (sliceOfFor 64))) (c .before .part2 .ensures .0)
+    ∙ sym (by-head 64 target64 (c .before .before .before .before .before .before .args .depth) (c .before .before .before .before .before .before .args .s .now) (c .before .before .before .before .before .before .args .at) (sym (c .before .before .before .before .head .ensures) ∙ ap headSays (c .before .before .enum-told .given .1))))
 
 part-returns-6 : (t : ℕ) → part-lts.Need-returns-6 (
   head-reads.Asked,
@@ -868,7 +873,9 @@ part-returns-6 : (t : ℕ) → part-lts.Need-returns-6 (
   slice-part-reads.Asked,
   slice-part-reads.Learnt,
 ) (part-at t) part.Post
-part-returns-6 t c = sym (by-head 64 target64 (c .before .before .before .before .before .args .depth) (c .before .before .before .before .before .args .s .now) (c .before .before .before .before .before .args .at) (sym (c .before .before .before .head .ensures) ∙ ap headSays (c .before .number2 .given .1)))
+part-returns-6 t c =
+    part-told 64 target64 (c .before .before .before .before .before .args .depth) (c .before .before .before .before .before .args .s .now) (c .before .before .before .before .before .args .at)
+    (sym (by-head 64 target64 (c .before .before .before .before .before .args .depth) (c .before .before .before .before .before .args .s .now) (c .before .before .before .before .before .args .at) (sym (c .before .before .before .head .ensures) ∙ ap headSays (c .before .number2 .given .1))))
 
 pub +add-members+part-spec : {M : Type 1} → statement M
 +add-members+part-spec = close μ-add-members μ-part (λ t. add-members-lts.spec (

@@ -18,13 +18,13 @@ enum-known-number : tie.Need-enum-known-number
 enum-known-number c = search needs
 
 returns : tie.Need-returns
-returns c = whole-told 64 target64 scalars64 (c .before .before .before .before .before .before .args .description .now) (whole-on 64 target64 (c .before .before .before .before .before .before .args .description .now) (sym (c .before .before .before .before .part .ensures) ∙ ap partSays (c .before .before .layout .given .1)) (c .if1 .taken))
+returns c = whole-told 64 target64 scalars64 (c .before .before .before .before .before .before .args .description .now) (whole-on 64 target64 (c .before .before .before .before .before .before .args .description .now) (sym (c .before .before .before .before .part .ensures .0) ∙ ap partSays (c .before .before .layout .given .1)) (c .if1 .taken))
 
 returns-2 : tie.Need-returns-2
-returns-2 c = whole-told 64 target64 scalars64 (c .before .before .before .before .before .before .args .description .now) (whole-over 64 target64 (c .before .before .before .before .before .before .args .description .now) (sym (c .before .before .before .before .part .ensures) ∙ ap partSays (c .before .before .layout .given .1)) (c .if1 .left))
+returns-2 c = whole-told 64 target64 scalars64 (c .before .before .before .before .before .before .args .description .now) (whole-over 64 target64 (c .before .before .before .before .before .before .args .description .now) (sym (c .before .before .before .before .part .ensures .0) ∙ ap partSays (c .before .before .layout .given .1)) (c .if1 .left))
 
 returns-3 : tie.Need-returns-3
-returns-3 c = whole-told 64 target64 scalars64 (c .before .before .before .before .before .args .description .now) (whole-off 64 target64 (c .before .before .before .before .before .args .description .now) (sym (c .before .before .before .part .ensures) ∙ ap partSays (c .before .number .given .1)))
+returns-3 c = whole-told 64 target64 scalars64 (c .before .before .before .before .before .args .description .now) (whole-off 64 target64 (c .before .before .before .before .before .args .description .now) (sym (c .before .before .before .part .ensures .0) ∙ ap partSays (c .before .number .given .1)))
 
 pub read-spec : {M : Type 1} → statement M
 read-spec =
