@@ -5,7 +5,7 @@ use mathlib.Core.List.{List}
 use Prim.Native.Nat.{ℕ, _*_, _^_, _≤_, _<_}
 use Rattle.util_defs.specs.Width.{M}
 use Rattle.util_defs.specs.Refusal.{answered, refused, Meets}
-use Rattle.util_defs.specs.Placed.{Placed, reached, stopped}
+use Rattle.util_defs.specs.Placed.{Placed, reached}
 use Rattle.layout_defs.specs.Layout.{fixed, trailing, Layout, checkFor}
 use Rattle.trailing_defs.specs.Size.{Trailing}
 use Rattle.scalar.specs.Scalar.{Target, scalarLayout}
@@ -14,7 +14,7 @@ use Rattle.record_defs.proofs.RoundTrips.{Fits}
 use Rattle.describe_defs.specs.Elements.{elementFor, arrayCauses, arrayLayout, arrayFor, elementCauses, sliceOf, sliceOfFor}
 use Rattle.describe_defs.specs.Describe.{Part, partFor, describedFor}
 use Rattle.describe_defs.specs.Grammar.{Describes, Description}
-use Rattle.describe_defs.specs.Faults.{ScalarsAccepted, Fault, ReadMeans}
+use Rattle.describe_defs.specs.Faults.{ScalarsAccepted, PartMeans, ReadMeans}
 use Rattle.describe_defs.specs.ByHand.{OneLayout, AsByHand, AsByRecords, AsScalars}
 use Rattle.describe_defs.proofs.Grammar.{Gives, Finds}
 use Rattle.describe_defs.proofs.Meaning.{Past}
@@ -22,7 +22,6 @@ use Rattle.describe_defs.proofs.Elements as Elements
 use Rattle.describe_defs.proofs.Grammar as Grammar
 use Rattle.describe_defs.proofs.Meaning as Meaning
 use Rattle.describe_defs.proofs.Accepted as Accepted
-use Rattle.describe_defs.proofs.Faults as Faults
 use Rattle.describe_defs.proofs.Reading as Reading
 use Rattle.describe_defs.proofs.ByHand as ByHand
 
@@ -81,8 +80,11 @@ as-scalars = ByHand.as-scalars 32
 pub described-accepted : (target : Target) → ScalarsAccepted 32 target → (s : List ℕ) (d i j : ℕ) (l : Layout) → Describes 32 target d s i j l → checkFor 32 l ≡ answered tt
 described-accepted = Accepted.described-accepted 32
 
-pub fault : (target : Target) → ScalarsAccepted 32 target → (s : List ℕ) {k i : ℕ} → describedFor 32 target s ≡ stopped k i → Fault 32 target s k i
-fault target good s {k} {i} = Faults.fault 32 target good s {k = k} {i = i}
+pub part-means : (target : Target) (s : List ℕ) → ScalarsAccepted 32 target → (d t : ℕ) (r : Placed Part) → partFor 32 target d s t ≡ r → PartMeans 32 target s d t r
+part-means = Reading.part-means 32
+
+pub one-part-reading : (target : Target) (s : List ℕ) → ScalarsAccepted 32 target → (d t : ℕ) (r : Placed Part) → PartMeans 32 target s d t r → partFor 32 target d s t ≡ r
+one-part-reading = Reading.one-part-reading 32
 
 pub read-means : (target : Target) (s : List ℕ) → ScalarsAccepted 32 target → (r : Placed Layout) → describedFor 32 target s ≡ r → ReadMeans 32 target s r
 read-means = Reading.read-means 32

@@ -14,11 +14,9 @@ use Rattle.compose_defs.specs.Compose.{ported, memberStep}
 use Rattle.compose_defs.proofs.Compositions.{step-on, begin-own, begin-on}
 use Rattle.describe_defs.specs.Describe.{Part, Reader, addRead, closed, structBody, partFor, describedFor}
 use Rattle.describe_defs.specs.Heads.{Head, headAt, bodyAt}
-use Rattle.describe_defs.specs.Grammar.{PartMeans}
-use Rattle.describe_defs.specs.Faults.{ScalarsAccepted, ReadMeans}
+use Rattle.describe_defs.specs.Faults.{ScalarsAccepted, PartMeans, ReadMeans}
 use Rattle.describe_defs.proofs.Heads.{part-by-head}
-use Rattle.describe_defs.proofs.Meaning.{part-means}
-use Rattle.describe_defs.proofs.Reading.{read-means}
+use Rattle.describe_defs.proofs.Reading.{part-means, read-means}
 
 -- a code is a scalar
 pub code-scalar : (target : Target) (code : ℕ) → code ≤ 8 → scalarFor target code ≡ answered (scalarLayout target code)
@@ -30,8 +28,8 @@ pub by-head : (w : ℕ) (target : Target) (d : ℕ) (s : List ℕ) (t : ℕ) {h 
 by-head w target d s t e = part-by-head w target d s t ∙ ap (λ (p : Placed Head). goOn p (bodyAt w target (partFor w target (d - 1) s) t)) e
 
 -- what was read, and what it means
-pub part-told : (w : ℕ) (target : Target) (d : ℕ) (s : List ℕ) (t : ℕ) {r : Placed Part} → r ≡ partFor w target d s t → (r ≡ partFor w target d s t) × PartMeans w target d s t r
-part-told w target d s t {r} e = (e, part-means w target s d t r (sym e))
+pub part-told : (w : ℕ) (target : Target) → ScalarsAccepted w target → (d : ℕ) (s : List ℕ) (t : ℕ) {r : Placed Part} → r ≡ partFor w target d s t → (r ≡ partFor w target d s t) × PartMeans w target s d t r
+part-told w target good d s t {r} e = (e, part-means w target s good d t r (sym e))
 
 -- a struct from its empty layout on
 module _ (w : ℕ) (part : Reader) (t align packing n : ℕ) where

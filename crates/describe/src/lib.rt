@@ -6,8 +6,7 @@ ghost use Rattle.scalar.specs.Scalar.{target64};
 ghost use Rattle.describe_defs.specs.Elements.{arrayFor, sliceOfFor};
 ghost use Rattle.describe_defs.specs.Describe.{addRead, closed, partFor, describedFor};
 ghost use Rattle.describe_defs.specs.Heads.{made};
-ghost use Rattle.describe_defs.specs.Grammar.{PartMeans};
-ghost use Rattle.describe_defs.specs.Faults.{ReadMeans};
+ghost use Rattle.describe_defs.specs.Faults.{PartMeans, ReadMeans};
 ghost use Rattle.describe.specs.View.{partSays, readSays};
 use heads::COUNT_BYTES;
 use heads::HeadAnswer;
@@ -74,7 +73,7 @@ fn struct_part(members: PartAnswer, tag: usize) -> PartAnswer
 // The part at at, with depth parts more that may be open. It may open a struct.
 pub fn part(s: &[u8], at: usize, depth: usize) -> PartAnswer
     ensures answer { λ r. ⌜ partSays r ≡ partFor 64 target64 depth (now (s .entry)) at ⌝ }
-    ensures meaning { λ r. ⌜ PartMeans 64 target64 depth (now (s .entry)) at (partSays r) ⌝ }
+    ensures meaning { λ r. ⌜ PartMeans 64 target64 (now (s .entry)) depth at (partSays r) ⌝ }
 {
     match heads::head(s, at, depth) {
         HeadAnswer::Scalar(code) => at_tag(scalar::scalar(code), at + 1, at),

@@ -24,11 +24,11 @@ use Rattle.describe_defs.specs.Describe.{addRead, closed, structBody, st
 use Rattle.describe_defs.specs.Grammar.{Stands, IsByte, Run, none, one, members, Header, Describes}
 use Rattle.describe_defs.specs.Faults as F
 use Rattle.describe_defs.specs.Faults.{tagByte, UnknownTag, BadPower, noPower, powerAbove, badAlign, badPacking, noCount, ScalarsAccepted}
-use Rattle.describe_defs.specs.Faults.{Comes, first, element, sliced, member, Fault}
+use Rattle.describe_defs.specs.Faults.{Comes, first, element, sliced, member, PartFault, Fault}
 use Rattle.describe_defs.proofs.Steps.{not-stopped, byte-found, power-found, count-found, TagMeans, tag-means}
 use Rattle.describe_defs.proofs.Elements.{element-trailing, element-sized, array-off, array-past, array-on, slice-off, slice-on}
 use Rattle.describe_defs.proofs.Grammar.{Finds, added-one, run-found, describes}
-use Rattle.describe_defs.proofs.Meaning.{run-past, described-past}
+use Rattle.describe_defs.proofs.Meaning.{described-past}
 use Rattle.describe_defs.proofs.Accepted.{described-accepted}
 
 -- ---- what stops, and where: what is so of a refusal is so of the same one under another name
@@ -63,27 +63,27 @@ halted-at t (answered x) f e = further x refl e
 halted-at t (refused q) f e = here q refl e
 
 -- ---- the byte, the power and the count that stop
-module _ (s : List ℕ) (i : ℕ) (h : i ≤ length s) {k j : ℕ} where
-  byte-stops : byteAt s i ≡ stopped k j → (i ≡ length s) × (_≡_ {A = Placed ℕ} (stopped 33 i) (stopped k j))
+module _ (s : List ℕ) (i : ℕ) {k j : ℕ} where
+  byte-stops : byteAt s i ≡ stopped k j → (length s ≤ i) × (_≡_ {A = Placed ℕ} (stopped 33 i) (stopped k j))
   byte-stops e = go (ltb i (length s)) refl e
     where
-      go : (b : Bool) → ltb i (length s) ≡ b → cond b (reached (getD s i 0)) (stopped 33 i) ≡ stopped k j → (i ≡ length s) × (_≡_ {A = Placed ℕ} (stopped 33 i) (stopped k j))
+      go : (b : Bool) → ltb i (length s) ≡ b → cond b (reached (getD s i 0)) (stopped 33 i) ≡ stopped k j → (length s ≤ i) × (_≡_ {A = Placed ℕ} (stopped 33 i) (stopped k j))
       go true g e = absurd (not-stopped (sym e))
-      go false g e = let z = ltb-false i (length s) g in (omega arith, e)
+      go false g e = (ltb-false i (length s) g, e)
 
-  power-stops : powerAt s i ≡ stopped k j → BadPower s i k j
-  power-stops e = go (halted (byteAt s i) (λ b. cond (leb b 64) (reached (powerOf b)) (stopped 34 i)) e)
+  power-stops : i ≤ length s → powerAt s i ≡ stopped k j → BadPower s i k j
+  power-stops h e = go (halted (byteAt s i) (λ b. cond (leb b 64) (reached (powerOf b)) (stopped 34 i)) e)
     where
       judged : (b : ℕ) → IsByte s i b → (t : Bool) → leb b 64 ≡ t → cond t (reached (powerOf b)) (stopped 34 i) ≡ stopped k j → BadPower s i k j
       judged b x true g e = absurd (not-stopped (sym e))
       judged b x false g e = stopped-as (BadPower s i) e (powerAbove x (omega (arith, leb-false b 64 g)))
 
       go : Halted (byteAt s i) (λ b. cond (leb b 64) (reached (powerOf b)) (stopped 34 i)) k j → BadPower s i k j
-      go (before e) = let x = byte-stops e in stopped-as (BadPower s i) (x .1) (noPower (x .0))
+      go (before e) = let x = byte-stops e in stopped-as (BadPower s i) (x .1) (noPower (omega (arith, h, x .0)))
       go (behind b x e) = judged b (byte-found s i x) (leb b 64) refl e
 
-  count-stops : countAt s i ≡ stopped k j → (length s < i + 4) × (_≡_ {A = Placed ℕ} (stopped 33 (length s)) (stopped k j))
-  count-stops e = go (leb (i + 4) (length s)) refl e
+  count-stops : i ≤ length s → countAt s i ≡ stopped k j → (length s < i + 4) × (_≡_ {A = Placed ℕ} (stopped 33 (length s)) (stopped k j))
+  count-stops h e = go (leb (i + 4) (length s)) refl e
     where
       go : (b : Bool) → leb (i + 4) (length s) ≡ b → cond b (reached (valueOf (take 4 (drop i s)))) (stopped 33 (max i (length s))) ≡ stopped k j
           → (length s < i + 4) × (_≡_ {A = Placed ℕ} (stopped 33 (length s)) (stopped k j))
@@ -166,136 +166,142 @@ tag-unknown b h = rw (lt-leb b 8 (h .0), ne-eqb b 16 (h .1 array), ne-eqb b 17 (
 
 -- ---- a refusal is the fault that reading comes to
 module _ (w : ℕ) (target : Target) (good : ScalarsAccepted w target) (s : List ℕ) where
-  pub comes-within : {d t : ℕ} → Comes w target s d t → t ≤ length s
-  comes-within first = omega arith
-  comes-within (element c h p) = p
-  comes-within (sliced c h) = omega (arith, h .within)
-  comes-within (member {d = d} c m h e) = run-past s (Describes w target d s) (described-past w target s d) (m .run) (omega (arith, m .header .count .within)) .1
+  module _ (depth start : ℕ) where
+    -- what is come to, and the refusal there
+    abbrev To : ℕ → ℕ → Type 0
+    To = Comes w target s depth start
 
-  by-tag : {d t k i : ℕ} → Comes w target s d t → (inside : Form → Placed Part) → ((f : Form) → IsByte s t (tagByte f) → inside f ≡ stopped k i → Fault w target s k i)
-      → taggedAt target s t inside ≡ stopped k i → Fault w target s k i
-  by-tag {d} {t} {k} {i} c inside q e = go (halted (byteAt s t) (λ b. tagged target t b inside (tagOf b)) e)
-    where
-      on : (b : ℕ) → IsByte s t b → (g : Tag) → TagMeans b g → tagged target t b inside g ≡ stopped k i → Fault w target s k i
-      on b h code m e = absurd (not-stopped (sym e))
-      on b h (opens array) m e = q array (subst (IsByte s t) m h) e
-      on b h (opens struct) m e = q struct (subst (IsByte s t) m h) e
-      on b h (opens slice) m e = q slice (subst (IsByte s t) m h) e
-      on b h unknown m e = stopped-as (Fault w target s) e (F.unknownTag c h (not-tag m))
+    abbrev Refusal : ℕ → ℕ → Type 0
+    Refusal = PartFault w target s depth start
 
-      go : Halted (byteAt s t) (λ b. tagged target t b inside (tagOf b)) k i → Fault w target s k i
-      go (before x) = let y = byte-stops s t (comes-within c) x in stopped-as (Fault w target s) (y .1) (F.noTag c (omega (arith, y .0)))
-      go (behind b x y) = on b (byte-found s t x) (tagOf b) (tag-means b) y
+    by-tag : {d t k i : ℕ} → To d t → (inside : Form → Placed Part) → ((f : Form) → IsByte s t (tagByte f) → inside f ≡ stopped k i → Refusal k i)
+        → taggedAt target s t inside ≡ stopped k i → Refusal k i
+    by-tag {d} {t} {k} {i} c inside q e = go (halted (byteAt s t) (λ b. tagged target t b inside (tagOf b)) e)
+      where
+        on : (b : ℕ) → IsByte s t b → (g : Tag) → TagMeans b g → tagged target t b inside g ≡ stopped k i → Refusal k i
+        on b h code m e = absurd (not-stopped (sym e))
+        on b h (opens array) m e = q array (subst (IsByte s t) m h) e
+        on b h (opens struct) m e = q struct (subst (IsByte s t) m h) e
+        on b h (opens slice) m e = q slice (subst (IsByte s t) m h) e
+        on b h unknown m e = stopped-as (Refusal) e (F.unknownTag c h (not-tag m))
 
-  -- a refusal of the level below
-  abbrev Below : ℕ → Type 0
-  Below d = (t k i : ℕ) → Comes w target s d t → partFor w target d s t ≡ stopped k i → Fault w target s k i
+        go : Halted (byteAt s t) (λ b. tagged target t b inside (tagOf b)) k i → Refusal k i
+        go (before x) = let y = byte-stops s t x in stopped-as (Refusal) (y .1) (F.noTag c (omega (arith, y .0)))
+        go (behind b x y) = on b (byte-found s t x) (tagOf b) (tag-means b) y
 
-  module _ (d : ℕ) where
-    abbrev part : Reader
-    part = partFor w target d s
+    -- a refusal of the level below
+    abbrev Below : ℕ → Type 0
+    Below d = (t k i : ℕ) → To d t → partFor w target d s t ≡ stopped k i → Refusal k i
 
-    module _ (below : Below d) {t k i : ℕ} (c : Comes w target s (suc d) t) where
-      array-fault : IsByte s t 16 → arrayAt w part s t ≡ stopped k i → Fault w target s k i
-      unfolding arrayAt
-      array-fault h e = counted (halted (countAt s (t + 1)) (λ n. goOn (part (t + 1 + 4)) (judge n)) e)
-        where
-          judge : ℕ → Part → Placed Part
-          judge n x = atPlace t (arrayFor w (x .0) n) (λ l. reached (l, x .1))
+    module _ (d : ℕ) where
+      abbrev part : Reader
+      part = partFor w target d s
 
-          judged : (n : ℕ) (x : Part) → countAt s (t + 1) ≡ reached n → part (t + 1 + 4) ≡ reached x → HaltedAt {T = Part} t (arrayFor w (x .0) n) (λ l. reached (l, x .1)) k i → Fault w target s k i
-          judged n x y z (further l a b) = absurd (not-stopped (sym b))
-          judged n x y z (here q a b) =
-              let u = count-found s (t + 1) y in
-              let v = describes w target s d (t + 1 + 4) (x .1) (x .0) z in
-              let o : F.ArrayOf w target s d t (x .0) = record { tag = h; count = u .0; next = x .1; element = v } in
-              stopped-as (Fault w target s) b
-              (array-judged w (x .0) (described-accepted w target good s d (t + 1 + 4) (x .1) (x .0) v) (λ q. Fault w target s q t) _ (ap (arrayFor w (x .0)) (u .1) ∙ a)
-              (λ r. F.arrayOfTrailing c o r)
-              (λ r. F.arrayPasses c o (omega (arith, r))))
+      module _ (below : Below d) {t k i : ℕ} (c : To (suc d) t) where
+        array-fault : IsByte s t 16 → arrayAt w part s t ≡ stopped k i → Refusal k i
+        unfolding arrayAt
+        array-fault h e = counted (halted (countAt s (t + 1)) (λ n. goOn (part (t + 1 + 4)) (judge n)) e)
+          where
+            judge : ℕ → Part → Placed Part
+            judge n x = atPlace t (arrayFor w (x .0) n) (λ l. reached (l, x .1))
 
-          read : (n : ℕ) → countAt s (t + 1) ≡ reached n → Halted (part (t + 1 + 4)) (judge n) k i → Fault w target s k i
-          read n y (before z) = below (t + 1 + 4) k i (element c h (count-found s (t + 1) y .0)) z
-          read n y (behind x z e) = judged n x y z (halted-at {T = Part} t (arrayFor w (x .0) n) (λ l. reached (l, x .1)) e)
+            judged : (n : ℕ) (x : Part) → countAt s (t + 1) ≡ reached n → part (t + 1 + 4) ≡ reached x → HaltedAt {T = Part} t (arrayFor w (x .0) n) (λ l. reached (l, x .1)) k i → Refusal k i
+            judged n x y z (further l a b) = absurd (not-stopped (sym b))
+            judged n x y z (here q a b) =
+                let u = count-found s (t + 1) y in
+                let v = describes w target s d (t + 1 + 4) (x .1) (x .0) z in
+                let o : F.ArrayOf w target s d t (x .0) = record { tag = h; count = u .0; next = x .1; element = v } in
+                stopped-as (Refusal) b
+                (array-judged w (x .0) (described-accepted w target good s d (t + 1 + 4) (x .1) (x .0) v) (λ q. Refusal q t) _ (ap (arrayFor w (x .0)) (u .1) ∙ a)
+                (λ r. F.arrayOfTrailing c o r)
+                (λ r. F.arrayPasses c o (omega (arith, r))))
 
-          counted : Halted (countAt s (t + 1)) (λ n. goOn (part (t + 1 + 4)) (judge n)) k i → Fault w target s k i
-          counted (before y) = let z = count-stops s (t + 1) (omega (arith, h .within)) y in stopped-as (Fault w target s) (z .1) (F.countCut c h (z .0))
-          counted (behind n y e) = read n y (halted (part (t + 1 + 4)) (judge n) e)
+            read : (n : ℕ) → countAt s (t + 1) ≡ reached n → Halted (part (t + 1 + 4)) (judge n) k i → Refusal k i
+            read n y (before z) = below (t + 1 + 4) k i (element c h (count-found s (t + 1) y .0)) z
+            read n y (behind x z e) = judged n x y z (halted-at {T = Part} t (arrayFor w (x .0) n) (λ l. reached (l, x .1)) e)
 
-      slice-fault : IsByte s t 18 → sliceAt w part t ≡ stopped k i → Fault w target s k i
-      unfolding sliceAt
-      slice-fault h e = read (halted (part (t + 1)) judge e)
-        where
-          judge : Part → Placed Part
-          judge x = atPlace t (sliceOfFor w (x .0)) (λ l. reached (l, x .1))
+            counted : Halted (countAt s (t + 1)) (λ n. goOn (part (t + 1 + 4)) (judge n)) k i → Refusal k i
+            counted (before y) = let z = count-stops s (t + 1) (omega (arith, h .within)) y in stopped-as (Refusal) (z .1) (F.countCut c h (z .0))
+            counted (behind n y e) = read n y (halted (part (t + 1 + 4)) (judge n) e)
 
-          judged : (x : Part) → part (t + 1) ≡ reached x → HaltedAt {T = Part} t (sliceOfFor w (x .0)) (λ l. reached (l, x .1)) k i → Fault w target s k i
-          judged x z (further l a b) = absurd (not-stopped (sym b))
-          judged x z (here q a b) =
-              let v = describes w target s d (t + 1) (x .1) (x .0) z in
-              stopped-as (Fault w target s) b
-              (slice-judged w (x .0) (described-accepted w target good s d (t + 1) (x .1) (x .0) v) (λ q. Fault w target s q t) a
-              (λ r. F.sliceOfTrailing c (record { tag = h; next = x .1; element = v }) r))
+        slice-fault : IsByte s t 18 → sliceAt w part t ≡ stopped k i → Refusal k i
+        unfolding sliceAt
+        slice-fault h e = read (halted (part (t + 1)) judge e)
+          where
+            judge : Part → Placed Part
+            judge x = atPlace t (sliceOfFor w (x .0)) (λ l. reached (l, x .1))
 
-          read : Halted (part (t + 1)) judge k i → Fault w target s k i
-          read (before z) = below (t + 1) k i (sliced c h) z
-          read (behind x z e) = judged x z (halted-at {T = Part} t (sliceOfFor w (x .0)) (λ l. reached (l, x .1)) e)
+            judged : (x : Part) → part (t + 1) ≡ reached x → HaltedAt {T = Part} t (sliceOfFor w (x .0)) (λ l. reached (l, x .1)) k i → Refusal k i
+            judged x z (further l a b) = absurd (not-stopped (sym b))
+            judged x z (here q a b) =
+                let v = describes w target s d (t + 1) (x .1) (x .0) z in
+                stopped-as (Refusal) b
+                (slice-judged w (x .0) (described-accepted w target good s d (t + 1) (x .1) (x .0) v) (λ q. Refusal q t) a
+                (λ r. F.sliceOfTrailing c (record { tag = h; next = x .1; element = v }) r))
 
-      body-fault : {align packing n : ℕ} → Header s t align packing n → structBody w part t align packing n ≡ stopped k i → Fault w target s k i
-      body-fault {align} {packing} {n} h e = begun (halted-at t (beginFor w ported align packing) (λ l. goOn (addRead w part packing t n l (t + 4)) (closed w t)) e)
-        where
-          Inner : Stands
-          Inner = Describes w target d s
+            read : Halted (part (t + 1)) judge k i → Refusal k i
+            read (before z) = below (t + 1) k i (sliced c h) z
+            read (behind x z e) = judged x z (halted-at {T = Part} t (sliceOfFor w (x .0)) (λ l. reached (l, x .1)) e)
 
-          members-fault : (l : Layout) → beginFor w ported align packing ≡ answered l → Broke w part Inner packing t n 0 l (t + 4) k i → Fault w target s k i
-          members-fault l b (inMember {j = j} {ms = ms} r u q a z) = below j k i (member {l = r} c (record { header = h; run = u }) (omega (arith, q)) (rw (b, a))) z
-          members-fault l b (inStep {ms = ms} q′ place u q a z) = stopped-as (Fault w target s) z (F.ofMembers {place = place} c (record { header = h; run = u }) q (rw (b, a)))
+        body-fault : {align packing n : ℕ} → Header s t align packing n → structBody w part t align packing n ≡ stopped k i → Refusal k i
+        body-fault {align} {packing} {n} h e = begun (halted-at t (beginFor w ported align packing) (λ l. goOn (addRead w part packing t n l (t + 4)) (closed w t)) e)
+          where
+            Inner : Stands
+            Inner = Describes w target d s
 
-          closed-fault : (l : Layout) (x : Part) → beginFor w ported align packing ≡ answered l → addRead w part packing t n l (t + 4) ≡ reached x
-              → HaltedAt {T = Part} t (padFor w (x .0)) (λ l. reached (l, x .1)) k i → Fault w target s k i
-          closed-fault l x b y (further m a z) = absurd (not-stopped (sym z))
-          closed-fault l x b y (here q a z) =
-              let r = run-found w part Inner packing t (describes w target s d) n 0 (t + 4) (x .1) l (x .0) y in
-              stopped-as (Fault w target s) z
-              (F.ofStruct {place = length (members (r .ms))} c (record { header = subst (Header s t align packing) (sym (r .count)) h; run = r .run }) (rw (b, r .adds, a)))
+            members-fault : (l : Layout) → beginFor w ported align packing ≡ answered l → Broke w part Inner packing t n 0 l (t + 4) k i → Refusal k i
+            members-fault l b (inMember {j = j} {ms = ms} r u q a z) = below j k i (member {l = r} c (record { header = h; run = u }) (omega (arith, q)) (rw (b, a))) z
+            members-fault l b (inStep {ms = ms} q′ place u q a z) = stopped-as (Refusal) z (F.ofMembers {place = place} c (record { header = h; run = u }) q (rw (b, a)))
 
-          added : (l : Layout) → beginFor w ported align packing ≡ answered l → Halted (addRead w part packing t n l (t + 4)) (closed w t) k i → Fault w target s k i
-          added l b (before y) = members-fault l b (broke w part Inner packing t (describes w target s d) n 0 l (t + 4) y)
-          added l b (behind x y e) = closed-fault l x b y (halted-at {T = Part} t (padFor w (x .0)) (λ l. reached (l, x .1)) e)
+            closed-fault : (l : Layout) (x : Part) → beginFor w ported align packing ≡ answered l → addRead w part packing t n l (t + 4) ≡ reached x
+                → HaltedAt {T = Part} t (padFor w (x .0)) (λ l. reached (l, x .1)) k i → Refusal k i
+            closed-fault l x b y (further m a z) = absurd (not-stopped (sym z))
+            closed-fault l x b y (here q a z) =
+                let r = run-found w part Inner packing t (describes w target s d) n 0 (t + 4) (x .1) l (x .0) y in
+                stopped-as (Refusal) z
+                (F.ofStruct {place = length (members (r .ms))} c (record { header = subst (Header s t align packing) (sym (r .count)) h; run = r .run }) (rw (b, r .adds, a)))
 
-          begun : HaltedAt t (beginFor w ported align packing) (λ l. goOn (addRead w part packing t n l (t + 4)) (closed w t)) k i → Fault w target s k i
-          begun (here q b z) = stopped-as (Fault w target s) z (F.ofMembers {place = 0} {ms = []} c (record { header = h; run = none }) (omega arith) (rw b))
-          begun (further l b e) = added l b (halted (addRead w part packing t n l (t + 4)) (closed w t) e)
+            added : (l : Layout) → beginFor w ported align packing ≡ answered l → Halted (addRead w part packing t n l (t + 4)) (closed w t) k i → Refusal k i
+            added l b (before y) = members-fault l b (broke w part Inner packing t (describes w target s d) n 0 l (t + 4) y)
+            added l b (behind x y e) = closed-fault l x b y (halted-at {T = Part} t (padFor w (x .0)) (λ l. reached (l, x .1)) e)
 
-      struct-fault : IsByte s t 17 → structAt w part s t ≡ stopped k i → Fault w target s k i
-      unfolding structAt
-      struct-fault h e = aligned (halted (powerAt s (t + 1)) (λ align. goOn (powerAt s (t + 2)) (λ packing. goOn (byteAt s (t + 3)) (λ n. structBody w part t align packing n))) e)
-        where
-          counted : (a p : ℕ) → powerAt s (t + 1) ≡ reached a → powerAt s (t + 2) ≡ reached p → Halted (byteAt s (t + 3)) (λ n. structBody w part t a p n) k i → Fault w target s k i
-          counted a p x y (before z) =
-              let u = power-found s (t + 2) y in
-              let v = byte-stops s (t + 3) (omega (arith, u .at .within)) z in
-              stopped-as (Fault w target s) (v .1) (F.inHeader c h (noCount (power-found s (t + 1) x) u (omega (arith, v .0))))
-          counted a p x y (behind n z e) =
-              body-fault (record { tag = h; aligned = power-found s (t + 1) x; packed = power-found s (t + 2) y; count = byte-found s (t + 3) z }) e
+            begun : HaltedAt t (beginFor w ported align packing) (λ l. goOn (addRead w part packing t n l (t + 4)) (closed w t)) k i → Refusal k i
+            begun (here q b z) = stopped-as (Refusal) z (F.ofMembers {place = 0} {ms = []} c (record { header = h; run = none }) (omega arith) (rw b))
+            begun (further l b e) = added l b (halted (addRead w part packing t n l (t + 4)) (closed w t) e)
 
-          packed : (a : ℕ) → powerAt s (t + 1) ≡ reached a → Halted (powerAt s (t + 2)) (λ packing. goOn (byteAt s (t + 3)) (λ n. structBody w part t a packing n)) k i → Fault w target s k i
-          packed a x (before y) = let u = power-found s (t + 1) x in F.inHeader c h (badPacking u (power-stops s (t + 2) (omega (arith, u .at .within)) y))
-          packed a x (behind p y e) = counted a p x y (halted (byteAt s (t + 3)) (λ n. structBody w part t a p n) e)
+        struct-fault : IsByte s t 17 → structAt w part s t ≡ stopped k i → Refusal k i
+        unfolding structAt
+        struct-fault h e = aligned (halted (powerAt s (t + 1)) (λ align. goOn (powerAt s (t + 2)) (λ packing. goOn (byteAt s (t + 3)) (λ n. structBody w part t align packing n))) e)
+          where
+            counted : (a p : ℕ) → powerAt s (t + 1) ≡ reached a → powerAt s (t + 2) ≡ reached p → Halted (byteAt s (t + 3)) (λ n. structBody w part t a p n) k i → Refusal k i
+            counted a p x y (before z) =
+                let u = power-found s (t + 2) y in
+                let v = byte-stops s (t + 3) z in
+                stopped-as (Refusal) (v .1) (F.inHeader c h (noCount (power-found s (t + 1) x) u (omega (arith, v .0, u .at .within))))
+            counted a p x y (behind n z e) =
+                body-fault (record { tag = h; aligned = power-found s (t + 1) x; packed = power-found s (t + 2) y; count = byte-found s (t + 3) z }) e
 
-          aligned : Halted (powerAt s (t + 1)) (λ align. goOn (powerAt s (t + 2)) (λ packing. goOn (byteAt s (t + 3)) (λ n. structBody w part t align packing n))) k i → Fault w target s k i
-          aligned (before x) = F.inHeader c h (badAlign (power-stops s (t + 1) (omega (arith, h .within)) x))
-          aligned (behind a x e) = packed a x (halted (powerAt s (t + 2)) (λ packing. goOn (byteAt s (t + 3)) (λ n. structBody w part t a packing n)) e)
+            packed : (a : ℕ) → powerAt s (t + 1) ≡ reached a → Halted (powerAt s (t + 2)) (λ packing. goOn (byteAt s (t + 3)) (λ n. structBody w part t a packing n)) k i → Refusal k i
+            packed a x (before y) = let u = power-found s (t + 1) x in F.inHeader c h (badPacking u (power-stops s (t + 2) (omega (arith, u .at .within)) y))
+            packed a x (behind p y e) = counted a p x y (halted (byteAt s (t + 3)) (λ n. structBody w part t a p n) e)
 
-      form-fault : (f : Form) → IsByte s t (tagByte f) → formAt w part s t f ≡ stopped k i → Fault w target s k i
-      form-fault array h e = array-fault h e
-      form-fault struct h e = struct-fault h e
-      form-fault slice h e = slice-fault h e
+            aligned : Halted (powerAt s (t + 1)) (λ align. goOn (powerAt s (t + 2)) (λ packing. goOn (byteAt s (t + 3)) (λ n. structBody w part t align packing n))) k i → Refusal k i
+            aligned (before x) = F.inHeader c h (badAlign (power-stops s (t + 1) (omega (arith, h .within)) x))
+            aligned (behind a x e) = packed a x (halted (powerAt s (t + 2)) (λ packing. goOn (byteAt s (t + 3)) (λ n. structBody w part t a packing n)) e)
 
-  part-fault : (d : ℕ) → Below d
-  unfolding partFor
-  part-fault zero t k i c e = by-tag c (λ f. stopped 35 t) (λ f h e. stopped-as (Fault w target s) e (F.tooDeep c f h)) e
-  part-fault (suc d) t k i c e = by-tag c (formAt w (partFor w target d s) s t) (form-fault d (part-fault d) c) e
+        form-fault : (f : Form) → IsByte s t (tagByte f) → formAt w part s t f ≡ stopped k i → Refusal k i
+        form-fault array h e = array-fault h e
+        form-fault struct h e = struct-fault h e
+        form-fault slice h e = slice-fault h e
+
+    part-fault : (d : ℕ) → Below d
+    unfolding partFor
+    part-fault zero t k i c e = by-tag c (λ f. stopped 35 t) (λ f h e. stopped-as (Refusal) e (F.tooDeep c f h)) e
+    part-fault (suc d) t k i c e = by-tag c (formAt w (partFor w target d s) s t) (form-fault d (part-fault d) c) e
+
+  -- of the part that is read
+  pub part-stops : (depth start : ℕ) {k i : ℕ} → partFor w target depth s start ≡ stopped k i → PartFault w target s depth start k i
+  part-stops depth start {k} {i} e = part-fault depth start depth start k i first e
 
   pub fault : {k i : ℕ} → describedFor w target s ≡ stopped k i → Fault w target s k i
   unfolding describedFor
@@ -313,5 +319,5 @@ module _ (w : ℕ) (target : Target) (good : ScalarsAccepted w target) (s : List
           below {a} {b} h n = omega (arith, h, n)
 
       go : Halted (partFor w target 16 s 0) (wholly s) k i → Fault w target s k i
-      go (before x) = part-fault 16 0 k i first x
+      go (before x) = F.inPart (part-stops 16 0 x)
       go (behind x y e) = over x y (eqb (x .1) (length s)) refl e

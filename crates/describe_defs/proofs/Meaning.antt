@@ -7,15 +7,15 @@ use native.Mathlib.Omega.{arith}
 use borrow.Author.Tests.{eq-eqb, eqb-true}
 use lib.Dec.{eqb}
 use lib.ListN.{length}
-use Rattle.util_defs.specs.Placed.{Placed, reached, stopped}
+use Rattle.util_defs.specs.Placed.{reached}
 use Rattle.layout_defs.specs.Layout.{Layout}
 use Rattle.scalar.specs.Scalar.{Target}
 use Rattle.compose_defs.specs.Compose.{structFor}
 use Rattle.describe_defs.specs.Describe.{Part, partFor, wholly, describedFor, formAt}
 use Rattle.describe_defs.specs.Grammar.{Stands, Run, none, one, members, ScalarIs, aCode, PartIs, aScalar, anArray, aStruct, aSlice}
-use Rattle.describe_defs.specs.Grammar.{Describes, Description, PartMeans}
+use Rattle.describe_defs.specs.Grammar.{Describes, Description}
 use Rattle.describe_defs.specs.ByHand.{OneLayout, AsByHand, AsByRecords}
-use Rattle.describe_defs.proofs.Steps.{not-stopped, reached-one, went, went-if}
+use Rattle.describe_defs.proofs.Steps.{reached-one, went, went-if}
 use Rattle.describe_defs.proofs.Grammar.{tagged-struct, struct-is, body-by-hand, reads, describes}
 
 -- ---- a part moves on within the bytes: what makes the bytes left fall
@@ -50,11 +50,6 @@ module _ (w : ℕ) (target : Target) (s : List ℕ) where
   -- ---- bytes from a place on describe one layout, and end at one place
   pub one-part : (d i : ℕ) {j k : ℕ} {l m : Layout} → Describes w target d s i j l → Describes w target d s i k m → _≡_ {A = Part} (l, j) (m, k)
   one-part d i {j} {k} {l} {m} h g = reached-one (sym (reads w target s d i j l h) ∙ reads w target s d i k m g)
-
-  -- what reading a part means
-  pub part-means : (d t : ℕ) (r : Placed Part) → partFor w target d s t ≡ r → PartMeans w target d s t r
-  part-means d t (reached x) e = describes w target s d t (x .1) (x .0) e
-  part-means d t (stopped k i) e = λ j l h. not-stopped (sym e ∙ reads w target s d t j l h)
 
   -- ---- the whole
   pub accepted : {l : Layout} → Description w target s l → describedFor w target s ≡ reached l

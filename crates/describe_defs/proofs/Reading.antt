@@ -14,26 +14,26 @@ use Rattle.words.specs.Bytes.{valueOf}
 use Rattle.compose_defs.specs.Compose.{composed, refusedAt, andThen, ported, beginFor, memberStep, addMembers, composeMembers}
 use Rattle.compose_defs.proofs.Modifiers.{not-composed}
 use Rattle.describe_defs.specs.Elements.{arrayFor, sliceOfFor}
-use Rattle.describe_defs.specs.Describe.{Reader, Form, array, struct, slice, byteAt, powerAt}
+use Rattle.describe_defs.specs.Describe.{Part, Reader, Form, array, struct, slice, byteAt, powerAt}
 use Rattle.describe_defs.specs.Describe.{addRead, closed, structBody, structAt, arrayAt, sliceAt, formAt, partFor, describedFor}
 use Rattle.describe_defs.specs.Grammar.{Stands, IsByte, Run, none, one, members, Describes}
 use Rattle.describe_defs.specs.Faults as F
 use Rattle.describe_defs.specs.Faults.{tagByte, UnknownTag, BadPower, noPower, powerAbove, BadHeader, badAlign, badPacking, noCount, ScalarsAccepted}
-use Rattle.describe_defs.specs.Faults.{Comes, first, element, sliced, member, Fault, ReadMeans}
+use Rattle.describe_defs.specs.Faults.{Comes, first, element, sliced, member, PartFault, PartMeans, Fault, ReadMeans}
 use Rattle.describe_defs.specs.ByHand.{byHand}
 use Rattle.describe_defs.proofs.Steps.{not-stopped, byte-is, power-is, count-is}
 use Rattle.describe_defs.proofs.Elements.{array-off, slice-off}
-use Rattle.describe_defs.proofs.Grammar.{Gives, tagged-array, tagged-struct, tagged-slice, struct-is, reads}
+use Rattle.describe_defs.proofs.Grammar.{Gives, tagged-array, tagged-struct, tagged-slice, struct-is, reads, describes}
 use Rattle.describe_defs.proofs.Meaning.{accepted, accepts, as-by-hand}
 use Rattle.describe_defs.proofs.Accepted.{described-accepted}
-use Rattle.describe_defs.proofs.Faults.{trailing-refused, array-passes, tag-unknown, fault}
+use Rattle.describe_defs.proofs.Faults.{trailing-refused, array-passes, tag-unknown, part-stops, fault}
 
 -- ---- a byte and a power that are not there
-byte-missing : (s : List ℕ) (i : ℕ) → i ≡ length s → byteAt s i ≡ stopped 33 i
-byte-missing s i e = rw (le-ltb i (length s) (omega (arith, e)))
+byte-missing : (s : List ℕ) (i : ℕ) → length s ≤ i → byteAt s i ≡ stopped 33 i
+byte-missing s i h = rw (le-ltb i (length s) h)
 
 power-missing : (s : List ℕ) (i : ℕ) {k j : ℕ} → BadPower s i k j → powerAt s i ≡ stopped k j
-power-missing s i (noPower e) = rw (byte-missing s i e)
+power-missing s i (noPower e) = rw (byte-missing s i (omega (arith, e)))
 power-missing s i (powerAbove {b = b} h g) = rw (byte-is s i h, lt-leb b 64 g)
 
 -- ---- members that are added, and what comes then
@@ -92,11 +92,11 @@ module _ (w : ℕ) (part : Reader) (Inner : Stands) (packing t : ℕ) (g : Gives
       go (answered b) e = rw (add-off 0 b u e n h)
       go (refused q) e = let x : q ≡ k = cc in ap (λ (c : ℕ). stopped c t) x
 
--- ---- the whole stops where a part does that reading comes to
+-- ---- a part stops where one does that reading comes to
 module _ (w : ℕ) (target : Target) (s : List ℕ) where
-  stops : {d t : ℕ} (k i : ℕ) → Comes w target s d t → partFor w target d s t ≡ stopped k i → describedFor w target s ≡ stopped k i
-  unfolding describedFor partFor arrayAt sliceAt
-  stops k i first e = rw e
+  stops : {depth start d t : ℕ} (k i : ℕ) → Comes w target s depth start d t → partFor w target d s t ≡ stopped k i → partFor w target depth s start ≡ stopped k i
+  unfolding partFor arrayAt sliceAt
+  stops k i first e = e
   stops k i (element {d = d} {t = t} c h p) e = stops k i c (tagged-array w target s t (formAt w (partFor w target d s) s t) h ∙ rw (count-is s (t + 1) p, e))
   stops k i (sliced {d = d} {t = t} c h) e = stops k i c (tagged-slice w target s t (formAt w (partFor w target d s) s t) h ∙ rw e)
   stops k i (member {d = d} {t = t} {align = a} {packing = p} c m h f) e =
@@ -105,7 +105,7 @@ module _ (w : ℕ) (target : Target) (s : List ℕ) where
       ∙ body-stops w (partFor w target d s) (Describes w target d s) p t (reads w target s d) a (m .run) h f e)
 
   -- a part by its tag, whatever may be open
-  no-tag : (d t : ℕ) → t ≡ length s → partFor w target d s t ≡ stopped 33 t
+  no-tag : (d t : ℕ) → length s ≤ t → partFor w target d s t ≡ stopped 33 t
   unfolding partFor
   no-tag zero t e = rw (byte-missing s t e)
   no-tag (suc d) t e = rw (byte-missing s t e)
@@ -125,7 +125,7 @@ module _ (w : ℕ) (target : Target) (s : List ℕ) where
   unfolding structAt
   header-stops part t (badAlign x) = rw (power-missing s (t + 1) x)
   header-stops part t (badPacking h x) = rw (power-is s (t + 1) h, power-missing s (t + 2) x)
-  header-stops part t (noCount h g e) = rw (power-is s (t + 1) h, power-is s (t + 2) g, byte-missing s (t + 3) e)
+  header-stops part t (noCount h g e) = rw (power-is s (t + 1) h, power-is s (t + 2) g, byte-missing s (t + 3) (omega (arith, e)))
 
   count-cut : (part : Reader) (t : ℕ) → t < length s → length s < t + 1 + 4 → arrayAt w part s t ≡ stopped 33 (length s)
   unfolding arrayAt
@@ -143,33 +143,45 @@ module _ (w : ℕ) (target : Target) (s : List ℕ) where
   slice-stops d t {m} x e =
       tagged-slice w target s t (formAt w (partFor w target d s) s t) (x .tag) ∙ rw (reads w target s d (t + 1) (x .next) m (x .element), e)
 
-  fault-stops : ScalarsAccepted w target → {k i : ℕ} → Fault w target s k i → describedFor w target s ≡ stopped k i
-  unfolding describedFor partFor
-  fault-stops good (F.noTag {d = d} {t = t} c e) = stops 33 t c (no-tag d t e)
-  fault-stops good (F.unknownTag {d = d} {t = t} c h u) = stops 34 t c (unknown-tag d t h u)
-  fault-stops good (F.tooDeep {t = t} c f h) = stops 35 t c (too-deep t f h)
-  fault-stops good (F.countCut {d = d} {t = t} c h g) =
+  part-fault-stops : ScalarsAccepted w target → {depth start k i : ℕ} → PartFault w target s depth start k i → partFor w target depth s start ≡ stopped k i
+  unfolding partFor
+  part-fault-stops good (F.noTag {d = d} {t = t} c e) = stops 33 t c (no-tag d t e)
+  part-fault-stops good (F.unknownTag {d = d} {t = t} c h u) = stops 34 t c (unknown-tag d t h u)
+  part-fault-stops good (F.tooDeep {t = t} c f h) = stops 35 t c (too-deep t f h)
+  part-fault-stops good (F.countCut {d = d} {t = t} c h g) =
       stops 33 (length s) c (tagged-array w target s t (formAt w (partFor w target d s) s t) h ∙ count-cut (partFor w target d s) t (h .within) g)
-  fault-stops good (F.inHeader {d = d} {t = t} {k = k} {i = i} c h x) =
+  part-fault-stops good (F.inHeader {d = d} {t = t} {k = k} {i = i} c h x) =
       stops k i c (tagged-struct w target s t (formAt w (partFor w target d s) s t) h ∙ header-stops (partFor w target d s) t x)
-  fault-stops good (F.arrayOfTrailing {d = d} {t = t} {m = m} c x h) =
+  part-fault-stops good (F.arrayOfTrailing {d = d} {t = t} {m = m} c x h) =
       let ok = described-accepted w target good s d (t + 1 + 4) (x .next) m (x .element) in
       stops 36 t c (array-stops d t x (sym (array-off w m _ (sym (trailing-refused w m ok h)))))
-  fault-stops good (F.sliceOfTrailing {d = d} {t = t} {m = m} c x h) =
+  part-fault-stops good (F.sliceOfTrailing {d = d} {t = t} {m = m} c x h) =
       let ok = described-accepted w target good s d (t + 1) (x .next) m (x .element) in
       stops 36 t c (slice-stops d t x (sym (slice-off w m (sym (trailing-refused w m ok h)))))
-  fault-stops good (F.arrayPasses {d = d} {t = t} {m = m} c x h) =
+  part-fault-stops good (F.arrayPasses {d = d} {t = t} {m = m} c x h) =
       let ok = described-accepted w target good s d (t + 1 + 4) (x .next) m (x .element) in
       stops 37 t c (array-stops d t x (sym (array-passes w m ok _ h)))
-  fault-stops good (F.ofMembers {d = d} {t = t} {align = a} {packing = p} {k = k} c m h e) =
+  part-fault-stops good (F.ofMembers {d = d} {t = t} {align = a} {packing = p} {k = k} c m h e) =
       stops k t c
       (tagged-struct w target s t (formAt w (partFor w target d s) s t) (m .header .tag) ∙ struct-is w target s t (partFor w target d s) (m .header)
       ∙ body-refused w (partFor w target d s) (Describes w target d s) p t (reads w target s d) a (m .run) h e)
-  fault-stops good (F.ofStruct {d = d} {t = t} {align = a} {packing = p} {j = j} {k = k} {ms = ms} c m e) =
+  part-fault-stops good (F.ofStruct {d = d} {t = t} {align = a} {packing = p} {j = j} {k = k} {ms = ms} c m e) =
       stops k t c (as-by-hand w target s d t j a p ms (m .header) (m .run) ∙ ap (byHand t j) e)
+
+  fault-stops : ScalarsAccepted w target → {k i : ℕ} → Fault w target s k i → describedFor w target s ≡ stopped k i
+  unfolding describedFor
+  fault-stops good (F.inPart x) = rw (part-fault-stops good x)
   fault-stops good (F.leftOver {i = i} l h g) = rw (reads w target s 16 0 i l h, ne-eqb i (length s) (λ z. omega (arith, z, g)))
 
   -- ---- what reading means, and that nothing else meets it
+  pub part-means : ScalarsAccepted w target → (d t : ℕ) (r : Placed Part) → partFor w target d s t ≡ r → PartMeans w target s d t r
+  part-means good d t (reached x) e = describes w target s d t (x .1) (x .0) e
+  part-means good d t (stopped k i) e = ((λ j l h. not-stopped (sym e ∙ reads w target s d t j l h)), part-stops w target good s d t e)
+
+  pub one-part-reading : ScalarsAccepted w target → (d t : ℕ) (r : Placed Part) → PartMeans w target s d t r → partFor w target d s t ≡ r
+  one-part-reading good d t (reached x) h = reads w target s d t (x .1) (x .0) h
+  one-part-reading good d t (stopped k i) h = part-fault-stops good (h .1)
+
   pub read-means : ScalarsAccepted w target → (r : Placed Layout) → describedFor w target s ≡ r → ReadMeans w target s r
   read-means good (reached l) e = accepts w target s e
   read-means good (stopped k i) e = ((λ l h. not-stopped (sym e ∙ accepted w target s h)), fault w target good s e)

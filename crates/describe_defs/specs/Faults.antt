@@ -13,7 +13,7 @@ use Rattle.scalar.specs.Scalar.{Target, greatestCode, scalarLayout}
 use Rattle.words.specs.Bytes.{valueOf}
 use Rattle.compose_defs.specs.Compose.{composed, refusedAt, ported, composeMembers, composeStruct}
 use Rattle.describe_defs.specs.Elements.{elementSize}
-use Rattle.describe_defs.specs.Describe.{Form, array, struct, slice, countLength, greatestPower, greatestDepth}
+use Rattle.describe_defs.specs.Describe.{Part, Form, array, struct, slice, countLength, greatestPower, greatestDepth}
 use Rattle.describe_defs.specs.Grammar.{IsByte, IsPower, Run, members, Header, Describes, Description}
 
 -- the tags that open a part; a byte that is none of them and no scalar's code
@@ -59,37 +59,50 @@ module _ (w : ℕ) (target : Target) (s : List ℕ) where
     pub header : Header s t align packing n
     pub run : Run (Describes w target d s) (t + 4) j ms
 
-  -- reading comes to a part at t, with d more that may be open: the first; an element; a member, once those before it are added
-  pub data Comes : ℕ → ℕ → Type 0 where
-    first : Comes greatestDepth 0
-    element : {d t : ℕ} → Comes (suc d) t → IsByte s t 16 → t + 1 + countLength ≤ length s → Comes d (t + 1 + countLength)
-    sliced : {d t : ℕ} → Comes (suc d) t → IsByte s t 18 → Comes d (t + 1)
-    member : {d t align packing n j : ℕ} {ms : List Layout} {l : Layout} → Comes (suc d) t
-        → MembersOf d t align packing n j ms → length ms < n
-        → composeMembers w ported align packing (members ms) ≡ composed l → Comes d j
+  -- a part at a place is read, with so many more that may be open
+  module _ (depth start : ℕ) where
+    -- reading comes to a part at t, with d more that may be open: the first; an element; a member, once those before it are added
+    pub data Comes : ℕ → ℕ → Type 0 where
+      first : Comes depth start
+      element : {d t : ℕ} → Comes (suc d) t → IsByte s t 16 → t + 1 + countLength ≤ length s → Comes d (t + 1 + countLength)
+      sliced : {d t : ℕ} → Comes (suc d) t → IsByte s t 18 → Comes d (t + 1)
+      member : {d t align packing n j : ℕ} {ms : List Layout} {l : Layout} → Comes (suc d) t
+          → MembersOf d t align packing n j ms → length ms < n
+          → composeMembers w ported align packing (members ms) ≡ composed l → Comes d j
 
-  -- a refusal and its place. 33: bytes run out, at the first that is missing. 34: a tag is unknown, or a power above the
-  -- greatest. 35: a tag opens one part too many. 36: an element is trailing. 37: an array's size passes M. What refuses to compose
-  -- a struct, of the members so far, or of all of them with closing padding. 38: bytes are left over
+    -- a refusal and its place. 33: bytes run out, at the first that is missing. 34: a tag is unknown, or a power above the
+    -- greatest. 35: a tag opens one part too many. 36: an element is trailing. 37: an array's size passes M. What refuses to
+    -- compose a struct, of the members so far, or of all of them with closing padding
+    pub data PartFault : ℕ → ℕ → Type 0 where
+      noTag : {d t : ℕ} → Comes d t → length s ≤ t → PartFault 33 t
+      unknownTag : {d t b : ℕ} → Comes d t → IsByte s t b → UnknownTag b → PartFault 34 t
+      tooDeep : {t : ℕ} → Comes zero t → (f : Form) → IsByte s t (tagByte f) → PartFault 35 t
+      countCut : {d t : ℕ} → Comes (suc d) t → IsByte s t 16 → length s < t + 1 + countLength → PartFault 33 (length s)
+      inHeader : {d t k i : ℕ} → Comes (suc d) t → IsByte s t 17 → BadHeader s t k i → PartFault k i
+      arrayOfTrailing : {d t : ℕ} {m : Layout} → Comes (suc d) t → ArrayOf d t m → IsTrailing (m .info) → PartFault 36 t
+      sliceOfTrailing : {d t : ℕ} {m : Layout} → Comes (suc d) t → SliceOf d t m → IsTrailing (m .info) → PartFault 36 t
+      arrayPasses : {d t : ℕ} {m : Layout} → Comes (suc d) t → ArrayOf d t m
+          → M w < elementSize m * valueOf (take countLength (drop (t + 1) s)) → PartFault 37 t
+      ofMembers : {d t align packing n j k place : ℕ} {ms : List Layout} → Comes (suc d) t
+          → MembersOf d t align packing n j ms → length ms ≤ n
+          → composeMembers w ported align packing (members ms) ≡ refusedAt k place → PartFault k t
+      ofStruct : {d t align packing j k place : ℕ} {ms : List Layout} → Comes (suc d) t
+          → MembersOf d t align packing (length ms) j ms
+          → composeStruct w ported align packing (members ms) ≡ refusedAt k place → PartFault k t
+
+    -- what reading a part means: it stands in the bytes from its place to behind its last byte; a refusal, that none stands
+    -- there, and the fault
+    abbrev pub PartMeans : Placed Part → Type 0
+    PartMeans (reached x) = Describes w target depth s start (x .1) (x .0)
+    PartMeans (stopped k i) = ((j : ℕ) (l : Layout) → Describes w target depth s start j l → ⊥) × PartFault k i
+
+  -- of a description: that of its part, or 38: bytes are left over
   pub data Fault : ℕ → ℕ → Type 0 where
-    noTag : {d t : ℕ} → Comes d t → t ≡ length s → Fault 33 t
-    unknownTag : {d t b : ℕ} → Comes d t → IsByte s t b → UnknownTag b → Fault 34 t
-    tooDeep : {t : ℕ} → Comes zero t → (f : Form) → IsByte s t (tagByte f) → Fault 35 t
-    countCut : {d t : ℕ} → Comes (suc d) t → IsByte s t 16 → length s < t + 1 + countLength → Fault 33 (length s)
-    inHeader : {d t k i : ℕ} → Comes (suc d) t → IsByte s t 17 → BadHeader s t k i → Fault k i
-    arrayOfTrailing : {d t : ℕ} {m : Layout} → Comes (suc d) t → ArrayOf d t m → IsTrailing (m .info) → Fault 36 t
-    sliceOfTrailing : {d t : ℕ} {m : Layout} → Comes (suc d) t → SliceOf d t m → IsTrailing (m .info) → Fault 36 t
-    arrayPasses : {d t : ℕ} {m : Layout} → Comes (suc d) t → ArrayOf d t m
-        → M w < elementSize m * valueOf (take countLength (drop (t + 1) s)) → Fault 37 t
-    ofMembers : {d t align packing n j k place : ℕ} {ms : List Layout} → Comes (suc d) t
-        → MembersOf d t align packing n j ms → length ms ≤ n
-        → composeMembers w ported align packing (members ms) ≡ refusedAt k place → Fault k t
-    ofStruct : {d t align packing j k place : ℕ} {ms : List Layout} → Comes (suc d) t
-        → MembersOf d t align packing (length ms) j ms
-        → composeStruct w ported align packing (members ms) ≡ refusedAt k place → Fault k t
+    inPart : {k i : ℕ} → PartFault greatestDepth 0 k i → Fault k i
     leftOver : {i : ℕ} (l : Layout) → Describes w target greatestDepth s 0 i l → i < length s → Fault 38 i
 
-  -- what reading means: a layout is the one that the bytes describe; a refusal, that they describe none, and the fault
+  -- what reading a description means: a layout is the one that the bytes describe; a refusal, that they describe none, and the
+  -- fault
   abbrev pub ReadMeans : Placed Layout → Type 0
   ReadMeans (reached l) = Description w target s l
   ReadMeans (stopped k i) = ((l : Layout) → Description w target s l → ⊥) × Fault k i

@@ -5,13 +5,12 @@ use mathlib.Core.List.{List, [], _∷_, map}
 use Prim.Native.Nat.{ℕ, zero, suc, _+_, _≤_, _<_}
 use lib.ListN.{length, take, drop, getD}
 use Rattle.util_defs.specs.Refusal.{answered}
-use Rattle.util_defs.specs.Placed.{Placed, reached, stopped}
 use Rattle.layout_defs.specs.Layout.{Layout}
 use Rattle.scalar.specs.Scalar.{Target, greatestCode, scalarLayout}
 use Rattle.words.specs.Bytes.{valueOf}
 use Rattle.compose_defs.specs.Compose.{composed, Member, ported, composeStruct}
 use Rattle.describe_defs.specs.Elements.{arrayFor, sliceOfFor}
-use Rattle.describe_defs.specs.Describe.{Part, countLength, greatestPower, powerOf, greatestDepth}
+use Rattle.describe_defs.specs.Describe.{countLength, greatestPower, powerOf, greatestDepth}
 
 -- bytes from a place to another, and the layout that they stand for
 abbrev pub Stands : Type 1
@@ -68,8 +67,3 @@ Describes w target (suc d) s = PartIs w target s (Describes w target d s)
 -- the bytes are a description of the layout
 abbrev pub Description : ℕ → Target → List ℕ → Layout → Type 0
 Description w target s l = Describes w target greatestDepth s 0 (length s) l
-
--- what reading a part means: it stands in the bytes from its place to behind its last byte; a refusal, that none stands there
-abbrev pub PartMeans : ℕ → Target → ℕ → List ℕ → ℕ → Placed Part → Type 0
-PartMeans w target d s t (reached x) = Describes w target d s t (x .1) (x .0)
-PartMeans w target d s t (stopped k i) = (j : ℕ) (l : Layout) → Describes w target d s t j l → ⊥

@@ -18,6 +18,7 @@ use Rattle.describe_defs.proofs.Meaning.{moved}
 use Rattle.describe_defs.proofs.Heads.{head-room, add-none, add-stop, add-off, add-on}
 use Rattle.heads.specs.View.{headSays}
 use Rattle.describe.specs.View.{partSays}
+use Rattle.describe_defs.proofs.Accepted.{scalars64}
 use Rattle.describe.proofs.Ways.{part-told, code-scalar, by-head, body-on, body-off, step-is}
 use Prim.Native.Nat.{ℕ, _+_, _-_, _*_, _<_}
 use borrow.Fn.Kinds.{In}
@@ -750,7 +751,7 @@ part-returns : (t : ℕ) → part-lts.Need-returns (
   slice-part-reads.Learnt,
 ) (part-at t) part.Post
 part-returns t c =
-    part-told 64 target64 (c .before .before .before .before .before .before .before .args .depth) (c .before .before .before .before .before .before .before .args .s .now) (c .before .before .before .before .before .before .before .args .at)
+    part-told 64 target64 scalars64 (c .before .before .before .before .before .before .before .args .depth) (c .before .before .before .before .before .before .before .args .s .now) (c .before .before .before .before .before .before .before .args .at)
     (c .at-tag .ensures ∙ ap (λ (o : Outcome Layout). atPlace (c .before .before .before .before .before .before .before .args .at) o (λ l. reached (l, c .before .before .before .before .before .before .before .args .at + 1))) (c .before .scalar .ensures .0 ∙ code-scalar target64 (c .before .before .before .code .given .0 .0) (head-room (c .before .before .before .before .before .before .before .args .s .now) (c .before .before .before .before .before .before .before .args .at) (c .before .before .before .before .before .before .before .args .depth) (sym (c .before .before .before .before .before .head .ensures) ∙ ap headSays (c .before .before .before .code .given .1)) .1))
     ∙ sym (by-head 64 target64 (c .before .before .before .before .before .before .before .args .depth) (c .before .before .before .before .before .before .before .args .s .now) (c .before .before .before .before .before .before .before .args .at) (sym (c .before .before .before .before .before .head .ensures) ∙ ap headSays (c .before .before .before .code .given .1))))
 
@@ -775,7 +776,7 @@ part-returns-2 : (t : ℕ) → part-lts.Need-returns-2 (
   slice-part-reads.Learnt,
 ) (part-at t) part.Post
 part-returns-2 t c =
-    part-told 64 target64 (c .before .before .before .before .before .before .before .args .depth) (c .before .before .before .before .before .before .before .args .s .now) (c .before .before .before .before .before .before .before .args .at)
+    part-told 64 target64 scalars64 (c .before .before .before .before .before .before .before .args .depth) (c .before .before .before .before .before .before .before .args .s .now) (c .before .before .before .before .before .before .before .args .at)
     (c .array-part .ensures ∙ ap (λ (p : Placed Part). goOn p (made (c .before .before .before .before .before .before .before .args .at) (λ l. arrayFor 64 l (c .before .before .before .count .given .0 .0)))) (c .before .part .ensures .0)
     ∙ sym (by-head 64 target64 (c .before .before .before .before .before .before .before .args .depth) (c .before .before .before .before .before .before .before .args .s .now) (c .before .before .before .before .before .before .before .args .at) (sym (c .before .before .before .before .before .head .ensures) ∙ ap headSays (c .before .before .before .count .given .1))))
 
@@ -800,7 +801,7 @@ part-returns-3 : (t : ℕ) → part-lts.Need-returns-3 (
   slice-part-reads.Learnt,
 ) (part-at t) part.Post
 part-returns-3 t c =
-    part-told 64 target64 (c .before .before .before .before .before .before .before .before .before .before .before .args .depth) (c .before .before .before .before .before .before .before .before .before .before .before .args .s .now) (c .before .before .before .before .before .before .before .before .before .before .before .args .at)
+    part-told 64 target64 scalars64 (c .before .before .before .before .before .before .before .before .before .before .before .args .depth) (c .before .before .before .before .before .before .before .before .before .before .before .args .s .now) (c .before .before .before .before .before .before .before .before .before .before .before .args .at)
     (c .struct-part .ensures ∙ ap (λ (p : Placed Part). goOn p (closed 64 (c .before .before .before .before .before .before .before .before .before .before .before .args .at))) (c .before .add-members .ensures)
     ∙ sym (by-head 64 target64 (c .before .before .before .before .before .before .before .before .before .before .before .args .depth) (c .before .before .before .before .before .before .before .before .before .before .before .args .s .now) (c .before .before .before .before .before .before .before .before .before .before .before .args .at) (sym (c .before .before .before .before .before .before .before .before .before .head .ensures) ∙ ap headSays (c .before .before .before .before .before .before .before .align .given .1)) ∙ body-on 64 (partFor 64 target64 (c .before .before .before .before .before .before .before .before .before .before .before .args .depth - 1) (c .before .before .before .before .before .before .before .before .before .before .before .args .s .now)) (c .before .before .before .before .before .before .before .before .before .before .before .args .at) (c .before .before .before .before .before .before .before .align .given .0 .0) (c .before .before .before .before .before .before .before .align .given .0 .1 .0) (c .before .before .before .before .before .before .before .align .given .0 .1 .1 .0) (told-by layoutSays (c .before .before .before .before .before .new-zst .ensures .0) (c .before .before .before .empty .given .1))))
 
@@ -825,7 +826,7 @@ part-returns-4 : (t : ℕ) → part-lts.Need-returns-4 (
   slice-part-reads.Learnt,
 ) (part-at t) part.Post
 part-returns-4 t c =
-    part-told 64 target64 (c .before .before .before .before .before .before .before .before .before .args .depth) (c .before .before .before .before .before .before .before .before .before .args .s .now) (c .before .before .before .before .before .before .before .before .before .args .at)
+    part-told 64 target64 scalars64 (c .before .before .before .before .before .before .before .before .before .args .depth) (c .before .before .before .before .before .before .before .before .before .args .s .now) (c .before .before .before .before .before .before .before .before .before .args .at)
     (sym (by-head 64 target64 (c .before .before .before .before .before .before .before .before .before .args .depth) (c .before .before .before .before .before .before .before .before .before .args .s .now) (c .before .before .before .before .before .before .before .before .before .args .at) (sym (c .before .before .before .before .before .before .before .head .ensures) ∙ ap headSays (c .before .before .before .before .before .align .given .1)) ∙ body-off 64 (partFor 64 target64 (c .before .before .before .before .before .before .before .before .before .args .depth - 1) (c .before .before .before .before .before .before .before .before .before .args .s .now)) (c .before .before .before .before .before .before .before .before .before .args .at) (c .before .before .before .before .before .align .given .0 .0) (c .before .before .before .before .before .align .given .0 .1 .0) (c .before .before .before .before .before .align .given .0 .1 .1 .0) (told-by layoutSays (c .before .before .before .new-zst .ensures .0) (c .before .number .given .1))))
 
 part-returns-5 : (t : ℕ) → part-lts.Need-returns-5 (
@@ -849,7 +850,7 @@ part-returns-5 : (t : ℕ) → part-lts.Need-returns-5 (
   slice-part-reads.Learnt,
 ) (part-at t) part.Post
 part-returns-5 t c =
-    part-told 64 target64 (c .before .before .before .before .before .before .args .depth) (c .before .before .before .before .before .before .args .s .now) (c .before .before .before .before .before .before .args .at)
+    part-told 64 target64 scalars64 (c .before .before .before .before .before .before .args .depth) (c .before .before .before .before .before .before .args .s .now) (c .before .before .before .before .before .before .args .at)
     (c .slice-part .ensures ∙ ap (λ (p : Placed Part). goOn p (made (c .before .before .before .before .before .before .args .at) (sliceOfFor 64))) (c .before .part2 .ensures .0)
     ∙ sym (by-head 64 target64 (c .before .before .before .before .before .before .args .depth) (c .before .before .before .before .before .before .args .s .now) (c .before .before .before .before .before .before .args .at) (sym (c .before .before .before .before .head .ensures) ∙ ap headSays (c .before .before .enum-told .given .1))))
 
@@ -874,7 +875,7 @@ part-returns-6 : (t : ℕ) → part-lts.Need-returns-6 (
   slice-part-reads.Learnt,
 ) (part-at t) part.Post
 part-returns-6 t c =
-    part-told 64 target64 (c .before .before .before .before .before .args .depth) (c .before .before .before .before .before .args .s .now) (c .before .before .before .before .before .args .at)
+    part-told 64 target64 scalars64 (c .before .before .before .before .before .args .depth) (c .before .before .before .before .before .args .s .now) (c .before .before .before .before .before .args .at)
     (sym (by-head 64 target64 (c .before .before .before .before .before .args .depth) (c .before .before .before .before .before .args .s .now) (c .before .before .before .before .before .args .at) (sym (c .before .before .before .head .ensures) ∙ ap headSays (c .before .number2 .given .1))))
 
 pub +add-members+part-spec : {M : Type 1} → statement M
