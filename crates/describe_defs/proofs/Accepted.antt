@@ -1,7 +1,7 @@
 -- A layout that bytes describe is accepted: the own causes of a layout, 1 and 2, do not arise in reading. Assumes nothing.
 use mathlib.Core.Path.{_≡_, refl, sym, subst}
 use mathlib.Core.List.{List, [], _∷_}
-use Prim.Native.Nat.{ℕ, zero, suc, _*_}
+use Prim.Native.Nat.{ℕ, zero, suc}
 use native.Mathlib.Omega.{arith}
 use borrow.Author.Tests.{not-false, ne-eqb}
 use Rattle.util_defs.specs.Power.{powerOfTwo}
@@ -15,7 +15,7 @@ use Rattle.padding_defs.specs.Pad.{paddingNeeds, padded, padCauses, padFor}
 use Rattle.padding_defs.proofs.Settled.{pad-again}
 use Rattle.scalar.specs.Scalar.{Target, target64}
 use Rattle.compose_defs.proofs.Accepted.{closed}
-use Rattle.describe_defs.specs.Elements.{elementSize, arrayLayout, elementCauses, arrayCauses, arrayFor, sliceOf, sliceOfFor}
+use Rattle.describe_defs.specs.Elements.{arrayLayout, elementCauses, arrayCauses, arrayFor, sliceOf, sliceOfFor}
 use Rattle.describe_defs.specs.Grammar.{Stands, members, aCode, PartIs, aScalar, anArray, aStruct, aSlice, Describes}
 use Rattle.describe_defs.specs.Faults.{ScalarsAccepted}
 
@@ -45,7 +45,7 @@ module _ (w : ℕ) where
   array-accepted m n e =
       let x = passed (arrayCauses w m n) (arrayLayout m n) e in
       subst (λ (l : Layout). checkFor w l ≡ answered tt) (sym (answer-is (arrayCauses w m n) (arrayLayout m n) e))
-      (fixed-accepted w (m .align) (elementSize m * n) (m .mark) (m .modifier) (not-false (powerOfTwo w (m .align)) (x .0)))
+      (fixed-accepted w (m .align) _ _ _ (not-false (powerOfTwo w (m .align)) (x .0)))
 
   pub slice-accepted : (m : Layout) {l : Layout} → sliceOfFor w m ≡ answered l → checkFor w l ≡ answered tt
   unfolding sliceOfFor checkFor unless
