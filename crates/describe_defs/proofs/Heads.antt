@@ -11,8 +11,10 @@ use Rattle.scalar.specs.Scalar.{Target}
 use Rattle.compose_defs.specs.Compose.{ported, memberStep}
 use Rattle.describe_defs.specs.Describe.{Part, Reader, Form, array, struct, slice, Tag, code, opens, unknown, tagOf, byteAt, countAt, powerAt}
 use Rattle.describe_defs.specs.Describe.{addRead, structAt, arrayAt, sliceAt, formAt, tagged, taggedAt, partFor}
-use Rattle.describe_defs.specs.Heads.{Head, codeHead, arrayHead, structHead, sliceHead, packedHead, alignedHead, formHead, opening, tagHead, headAt, bodyAt}
-use Rattle.describe_defs.proofs.Steps.{not-stopped, reached-one, went, byte-found, count-found, TagMeans, tag-means}
+use Rattle.describe_defs.specs.Heads.{Head, codeHead, arrayHead, structHead, sliceHead, packedHead, alignedHead, formHead, opening, tagHead, headAt, bodyAt, HeadIs, HeadMeans}
+use Rattle.describe_defs.specs.Grammar.{IsByte, Header}
+use Rattle.describe_defs.specs.Faults.{tagByte}
+use Rattle.describe_defs.proofs.Steps.{not-stopped, reached-one, went, byte-found, byte-is, power-found, power-is, count-found, count-is, TagMeans, tag-means, tag-code}
 
 -- reading on from what reading on gave
 assoc : {R S T : Type 0} (p : Placed R) (f : R → Placed S) (g : S → Placed T) → goOn (goOn p f) g ≡ goOn p (λ x. goOn (f x) g)
@@ -109,3 +111,53 @@ module _ (w : ℕ) (part : Reader) (packing t : ℕ) (l : Layout) (i : ℕ) wher
   unfolding addRead
   add-none zero e = refl
   add-none (suc n) e = absurd (omega arith)
+
+-- what reading a head means
+module _ (s : List ℕ) (t : ℕ) where
+  form-found : (d : ℕ) (f : Form) (h : Head) → IsByte s t (tagByte f) → opening d s t f ≡ reached h → HeadIs d s t h
+  form-found zero f h b e = absurd (not-stopped e)
+  form-found (suc d) array h b e =
+      let x = went (countAt s (t + 1)) (λ n. reached (arrayHead n)) e in
+      subst (HeadIs (suc d) s t) (reached-one (x .then)) (omega arith, (b, count-found s (t + 1) (x .first)))
+  form-found (suc d) struct h b e =
+      let x = went (powerAt s (t + 1)) (alignedHead s t) e in
+      let y = went (powerAt s (t + 2)) (packedHead s t (x .to)) (x .then) in
+      let z = went (byteAt s (t + 3)) (λ n. reached (structHead (x .to) (y .to) n)) (y .then) in
+      let g : Header s t (x .to) (y .to) (z .to) = record { tag = b; aligned = power-found s (t + 1) (x .first); packed = power-found s (t + 2) (y .first); count = byte-found s (t + 3) (z .first) } in
+      subst (HeadIs (suc d) s t) (reached-one (z .then)) (omega arith, g)
+  form-found (suc d) slice h b e = subst (HeadIs (suc d) s t) (reached-one e) (omega arith, b)
+
+  pub head-found : (d : ℕ) (h : Head) → headAt d s t ≡ reached h → HeadIs d s t h
+  unfolding headAt
+  head-found d h e =
+      let x = went (byteAt s t) (λ b. tagHead d s t b (tagOf b)) e in
+      go (x .to) (byte-found s t (x .first)) (tagOf (x .to)) (tag-means (x .to)) (x .then)
+    where
+      go : (b : ℕ) → IsByte s t b → (g : Tag) → TagMeans b g → tagHead d s t b g ≡ reached h → HeadIs d s t h
+      go b i code m e = subst (HeadIs d s t) (reached-one e) (i, m)
+      go b i (opens array) m e = form-found d array h (subst (IsByte s t) m i) e
+      go b i (opens struct) m e = form-found d struct h (subst (IsByte s t) m i) e
+      go b i (opens slice) m e = form-found d slice h (subst (IsByte s t) m i) e
+      go b i unknown m e = absurd (not-stopped e)
+
+  pub head-is : (d : ℕ) (h : Head) → HeadIs d s t h → headAt d s t ≡ reached h
+  unfolding headAt
+  head-is d (codeHead b) h = rw (byte-is s t (h .0), tag-code b (h .1))
+  head-is zero (arrayHead n) h = absurd (omega (arith, h .0))
+  head-is (suc d) (arrayHead n) h = rw (byte-is s t (h .1 .0), count-is s (t + 1) (h .1 .1 .0), h .1 .1 .1)
+  head-is zero (structHead a p n) h = absurd (omega (arith, h .0))
+  head-is (suc d) (structHead a p n) h =
+      let g = h .1 in
+      rw (byte-is s t (g .tag), power-is s (t + 1) (g .aligned), power-is s (t + 2) (g .packed), byte-is s (t + 3) (g .count))
+  head-is zero sliceHead h = absurd (omega (arith, h .0))
+  head-is (suc d) sliceHead h = rw (byte-is s t (h .1))
+
+  pub one-head : (d : ℕ) (h g : Head) → HeadIs d s t h → HeadIs d s t g → h ≡ g
+  one-head d h g x y = reached-one (sym (head-is d h x) ∙ head-is d g y)
+
+  pub head-told : (d : ℕ) {r : Placed Head} → r ≡ headAt d s t → (r ≡ headAt d s t) × HeadMeans d s t r
+  head-told d {r} e = (e, go r (sym e))
+    where
+      go : (r : Placed Head) → headAt d s t ≡ r → HeadMeans d s t r
+      go (reached h) e = head-found d h e
+      go (stopped k i) e = λ h g. not-stopped (sym e ∙ head-is d h g)

@@ -1,14 +1,18 @@
 -- The head of a part: its tag, and what stands between that and the parts in it. A part is read by its head (`part-by-head`).
 -- Assumes nothing.
+use mathlib.Core.Path.{_≡_}
 use mathlib.Core.List.{List}
-use Prim.Native.Nat.{ℕ, zero, suc, _+_}
+use Prim.Native.Nat.{ℕ, zero, suc, _+_, _≤_, _<_}
+use lib.ListN.{length, take, drop}
 use Rattle.util_defs.specs.Refusal.{Outcome}
 use Rattle.util_defs.specs.Placed.{Placed, reached, stopped, atPlace, goOn}
 use Rattle.layout_defs.specs.Layout.{Layout}
-use Rattle.scalar.specs.Scalar.{Target, scalarLayout}
+use Rattle.scalar.specs.Scalar.{Target, greatestCode, scalarLayout}
+use Rattle.words.specs.Bytes.{valueOf}
 use Rattle.describe_defs.specs.Elements.{arrayFor, sliceOfFor}
 use Rattle.describe_defs.specs.Describe.{Part, Reader, Form, array, struct, slice, Tag, code, opens, unknown, tagOf}
 use Rattle.describe_defs.specs.Describe.{byteAt, countLength, countAt, powerAt, structBody}
+use Rattle.describe_defs.specs.Grammar.{IsByte, Header}
 
 pub data Head : Type 0 where
   codeHead : (scalar : ℕ) → Head
@@ -51,3 +55,15 @@ bodyAt w target part t (codeHead b) = reached (scalarLayout target b, t + 1)
 bodyAt w target part t (arrayHead n) = goOn (part (t + 1 + countLength)) (made t (λ l. arrayFor w l n))
 bodyAt w target part t (structHead align packing n) = structBody w part t align packing n
 bodyAt w target part t sliceHead = goOn (part (t + 1)) (made t (sliceOfFor w))
+
+-- what reading a head means: it stands at t, and a part may be opened there; a refusal, that none does
+abbrev pub HeadIs : ℕ → List ℕ → ℕ → Head → Type 0
+HeadIs d s t (codeHead b) = IsByte s t b × (b ≤ greatestCode)
+HeadIs d s t (arrayHead n) =
+    (0 < d) × (IsByte s t 16 × ((t + 1 + countLength ≤ length s) × (valueOf (take countLength (drop (t + 1) s)) ≡ n)))
+HeadIs d s t (structHead align packing n) = (0 < d) × Header s t align packing n
+HeadIs d s t sliceHead = (0 < d) × IsByte s t 18
+
+abbrev pub HeadMeans : ℕ → List ℕ → ℕ → Placed Head → Type 0
+HeadMeans d s t (reached h) = HeadIs d s t h
+HeadMeans d s t (stopped k i) = (h : Head) → HeadIs d s t h → ⊥

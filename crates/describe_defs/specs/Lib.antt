@@ -1,6 +1,6 @@
 pub mod Elements
 pub mod Describe
-pub mod Heads
 pub mod Grammar
+pub mod Heads
 pub mod Faults
 pub mod ByHand

@@ -2,16 +2,16 @@
 use mathlib.Core.Path.{_≡_, refl, sym, ap, _∙_}
 use mathlib.Core.List.{List}
 use Prim.Native.Nat.{ℕ, zero, suc, _+_, _-_, _*_, _%_, _^_, _≤_, _<_, max}
-use native.Mathlib.Nat.{pow-le-pow-right, mod-eq-of-lt, max-eq-left, max-eq-right}
+use native.Mathlib.Nat.{pow-le-pow-right, max-eq-left, max-eq-right}
 use native.Mathlib.Omega.{arith}
-use borrow.Author.Tests.{lt-ltb, le-ltb, le-leb, lt-leb, eq-eqb, ne-eqb}
+use borrow.Author.Tests.{lt-ltb, le-ltb, le-leb, lt-leb, ne-eqb}
 use lib.ListN.{length, take, drop, getD}
 use lib.Seq.{drop-cons}
-use Rattle.util_defs.specs.Placed.{Placed, reached, stopped, goOn}
+use Rattle.util_defs.specs.Placed.{reached, stopped}
 use Rattle.words.specs.Bytes.{valueOf}
 use Rattle.words.proofs.LittleEndian.{value-parts}
-use Rattle.describe_defs.specs.Describe.{Form, Tag, code, opens, unknown, array, struct, slice, tagOf, byteAt, countAt, powerAt}
-use Rattle.describe_defs.specs.Heads.{Head, codeHead, arrayHead, structHead, sliceHead, packedHead, alignedHead, formHead, opening, tagHead, headAt}
+use Rattle.describe_defs.specs.Describe.{Form, Tag, code, opens, unknown, array, struct, slice, tagOf, countAt, powerAt}
+use Rattle.describe_defs.specs.Heads.{codeHead, formHead, opening, tagHead, headAt}
 use Rattle.describe_defs.proofs.Steps.{TagMeans, tag-means}
 
 -- a byte is a number of one byte, and four of them a count

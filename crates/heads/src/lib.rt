@@ -4,7 +4,7 @@ ghost use Prim.Native.Nat.{_+_, _≤_, _<_};
 ghost use lib.ListN.{length, take, drop};
 ghost use Rattle.words.specs.Bytes.{valueOf};
 ghost use Rattle.describe_defs.specs.Describe.{array, struct, countAt, powerAt};
-ghost use Rattle.describe_defs.specs.Heads.{packedHead, alignedHead, formHead, headAt};
+ghost use Rattle.describe_defs.specs.Heads.{packedHead, alignedHead, formHead, headAt, HeadMeans};
 ghost use Rattle.heads.specs.View.{numberRead, headSays};
 use util::refusal;
 
@@ -152,7 +152,8 @@ fn struct_head(s: &[u8], at: usize) -> HeadAnswer
 
 // The head of a part at at, with depth parts more that may be open.
 pub fn head(s: &[u8], at: usize, depth: usize) -> HeadAnswer
-    ensures { λ r. ⌜ headSays r ≡ headAt depth (now (s .entry)) at ⌝ }
+    ensures answer { λ r. ⌜ headSays r ≡ headAt depth (now (s .entry)) at ⌝ }
+    ensures meaning { λ r. ⌜ HeadMeans depth (now (s .entry)) at (headSays r) ⌝ }
 {
     if s.len() <= at {
         return HeadAnswer::Refused {

@@ -266,7 +266,7 @@ part-add-at-tag : (t : ℕ) → part-lts.Need-add-at-tag (
   slice-part-reads.Asked,
   slice-part-reads.Learnt,
 ) (part-at t) part.Post
-part-add-at-tag t c = omega (arith, head-room (c .before .before .before .before .before .before .args .s .now) (c .before .before .before .before .before .before .args .at) (c .before .before .before .before .before .before .args .depth) (sym (c .before .before .before .before .head .ensures) ∙ ap headSays (c .before .before .code .given .1)))
+part-add-at-tag t c = omega (arith, head-room (c .before .before .before .before .before .before .args .s .now) (c .before .before .before .before .before .before .args .at) (c .before .before .before .before .before .before .args .depth) (sym (c .before .before .before .before .head .ensures .0) ∙ ap headSays (c .before .before .code .given .1)))
 
 part-at-tag-requires : (t : ℕ) → part-lts.Need-at-tag-requires (
   head-reads.Asked,
@@ -332,7 +332,7 @@ part-add-part : (t : ℕ) → part-lts.Need-add-part (
   slice-part-reads.Asked,
   slice-part-reads.Learnt,
 ) (part-at t) part.Post
-part-add-part t c = omega (arith, head-room (c .before .before .before .before .before .args .s .now) (c .before .before .before .before .before .args .at) (c .before .before .before .before .before .args .depth) (sym (c .before .before .before .head .ensures) ∙ ap headSays (c .before .count .given .1)))
+part-add-part t c = omega (arith, head-room (c .before .before .before .before .before .args .s .now) (c .before .before .before .before .before .args .at) (c .before .before .before .before .before .args .depth) (sym (c .before .before .before .head .ensures .0) ∙ ap headSays (c .before .count .given .1)))
 
 part-add-part-2 : (t : ℕ) → part-lts.Need-add-part-2 (
   head-reads.Asked,
@@ -354,7 +354,7 @@ part-add-part-2 : (t : ℕ) → part-lts.Need-add-part-2 (
   slice-part-reads.Asked,
   slice-part-reads.Learnt,
 ) (part-at t) part.Post
-part-add-part-2 t c = omega (arith, head-room (c .before .before .before .before .before .args .s .now) (c .before .before .before .before .before .args .at) (c .before .before .before .before .before .args .depth) (sym (c .before .before .before .head .ensures) ∙ ap headSays (c .before .count .given .1)))
+part-add-part-2 t c = omega (arith, head-room (c .before .before .before .before .before .args .s .now) (c .before .before .before .before .before .args .at) (c .before .before .before .before .before .args .depth) (sym (c .before .before .before .head .ensures .0) ∙ ap headSays (c .before .count .given .1)))
 
 part-sub-part : (t : ℕ) → part-lts.Need-sub-part (
   head-reads.Asked,
@@ -376,7 +376,7 @@ part-sub-part : (t : ℕ) → part-lts.Need-sub-part (
   slice-part-reads.Asked,
   slice-part-reads.Learnt,
 ) (part-at t) part.Post
-part-sub-part t c = head-room (c .before .before .before .before .before .args .s .now) (c .before .before .before .before .before .args .at) (c .before .before .before .before .before .args .depth) (sym (c .before .before .before .head .ensures) ∙ ap headSays (c .before .count .given .1)) .0
+part-sub-part t c = head-room (c .before .before .before .before .before .args .s .now) (c .before .before .before .before .before .args .at) (c .before .before .before .before .before .args .depth) (sym (c .before .before .before .head .ensures .0) ∙ ap headSays (c .before .count .given .1)) .0
 
 part-part-requires : (t : ℕ) → part-lts.Need-part-requires (
   head-reads.Asked,
@@ -398,7 +398,7 @@ part-part-requires : (t : ℕ) → part-lts.Need-part-requires (
   slice-part-reads.Asked,
   slice-part-reads.Learnt,
 ) (part-at t) part.Post
-part-part-requires t c κs = (omega (arith, c .before .before .before .before .before .pre .0, head-room (c .before .before .before .before .before .args .s .now) (c .before .before .before .before .before .args .at) (c .before .before .before .before .before .args .depth) (sym (c .before .before .before .head .ensures) ∙ ap headSays (c .before .count .given .1))), tt)
+part-part-requires t c κs = (omega (arith, c .before .before .before .before .before .pre .0, head-room (c .before .before .before .before .before .args .s .now) (c .before .before .before .before .before .args .at) (c .before .before .before .before .before .args .depth) (sym (c .before .before .before .head .ensures .0) ∙ ap headSays (c .before .count .given .1))), tt)
 
 part-array-part-requires : (t : ℕ) → part-lts.Need-array-part-requires (
   head-reads.Asked,
@@ -508,7 +508,7 @@ part-add-add-members : (t : ℕ) → part-lts.Need-add-add-members (
   slice-part-reads.Asked,
   slice-part-reads.Learnt,
 ) (part-at t) part.Post
-part-add-add-members t c = omega (arith, head-room (c .before .before .before .before .before .before .before .before .before .args .s .now) (c .before .before .before .before .before .before .before .before .before .args .at) (c .before .before .before .before .before .before .before .before .before .args .depth) (sym (c .before .before .before .before .before .before .before .head .ensures) ∙ ap headSays (c .before .before .before .before .before .align .given .1)))
+part-add-add-members t c = omega (arith, head-room (c .before .before .before .before .before .before .before .before .before .args .s .now) (c .before .before .before .before .before .before .before .before .before .args .at) (c .before .before .before .before .before .before .before .before .before .args .depth) (sym (c .before .before .before .before .before .before .before .head .ensures .0) ∙ ap headSays (c .before .before .before .before .before .align .given .1)))
 
 part-sub-add-members : (t : ℕ) → part-lts.Need-sub-add-members (
   head-reads.Asked,
@@ -530,7 +530,7 @@ part-sub-add-members : (t : ℕ) → part-lts.Need-sub-add-members (
   slice-part-reads.Asked,
   slice-part-reads.Learnt,
 ) (part-at t) part.Post
-part-sub-add-members t c = head-room (c .before .before .before .before .before .before .before .before .before .args .s .now) (c .before .before .before .before .before .before .before .before .before .args .at) (c .before .before .before .before .before .before .before .before .before .args .depth) (sym (c .before .before .before .before .before .before .before .head .ensures) ∙ ap headSays (c .before .before .before .before .before .align .given .1)) .0
+part-sub-add-members t c = head-room (c .before .before .before .before .before .before .before .before .before .args .s .now) (c .before .before .before .before .before .before .before .before .before .args .at) (c .before .before .before .before .before .before .before .before .before .args .depth) (sym (c .before .before .before .before .before .before .before .head .ensures .0) ∙ ap headSays (c .before .before .before .before .before .align .given .1)) .0
 
 part-add-members-requires : (t : ℕ) → part-lts.Need-add-members-requires (
   head-reads.Asked,
@@ -552,7 +552,7 @@ part-add-members-requires : (t : ℕ) → part-lts.Need-add-members-requires (
   slice-part-reads.Asked,
   slice-part-reads.Learnt,
 ) (part-at t) part.Post
-part-add-members-requires t c κs = (omega (arith, c .before .before .before .before .before .before .before .before .before .pre .0, head-room (c .before .before .before .before .before .before .before .before .before .args .s .now) (c .before .before .before .before .before .before .before .before .before .args .at) (c .before .before .before .before .before .before .before .before .before .args .depth) (sym (c .before .before .before .before .before .before .before .head .ensures) ∙ ap headSays (c .before .before .before .before .before .align .given .1))), tt)
+part-add-members-requires t c κs = (omega (arith, c .before .before .before .before .before .before .before .before .before .pre .0, head-room (c .before .before .before .before .before .before .before .before .before .args .s .now) (c .before .before .before .before .before .before .before .before .before .args .at) (c .before .before .before .before .before .before .before .before .before .args .depth) (sym (c .before .before .before .before .before .before .before .head .ensures .0) ∙ ap headSays (c .before .before .before .before .before .align .given .1))), tt)
 
 part-struct-part-requires : (t : ℕ) → part-lts.Need-struct-part-requires (
   head-reads.Asked,
@@ -640,7 +640,7 @@ part-add-part-3 : (t : ℕ) → part-lts.Need-add-part-3 (
   slice-part-reads.Asked,
   slice-part-reads.Learnt,
 ) (part-at t) part.Post
-part-add-part-3 t c = omega (arith, head-room (c .before .before .before .before .args .s .now) (c .before .before .before .before .args .at) (c .before .before .before .before .args .depth) (sym (c .before .before .head .ensures) ∙ ap headSays (c .enum-told .given .1)))
+part-add-part-3 t c = omega (arith, head-room (c .before .before .before .before .args .s .now) (c .before .before .before .before .args .at) (c .before .before .before .before .args .depth) (sym (c .before .before .head .ensures .0) ∙ ap headSays (c .enum-told .given .1)))
 
 part-sub-part-2 : (t : ℕ) → part-lts.Need-sub-part-2 (
   head-reads.Asked,
@@ -662,7 +662,7 @@ part-sub-part-2 : (t : ℕ) → part-lts.Need-sub-part-2 (
   slice-part-reads.Asked,
   slice-part-reads.Learnt,
 ) (part-at t) part.Post
-part-sub-part-2 t c = head-room (c .before .before .before .before .args .s .now) (c .before .before .before .before .args .at) (c .before .before .before .before .args .depth) (sym (c .before .before .head .ensures) ∙ ap headSays (c .enum-told .given .1)) .0
+part-sub-part-2 t c = head-room (c .before .before .before .before .args .s .now) (c .before .before .before .before .args .at) (c .before .before .before .before .args .depth) (sym (c .before .before .head .ensures .0) ∙ ap headSays (c .enum-told .given .1)) .0
 
 part-part-requires-2 : (t : ℕ) → part-lts.Need-part-requires-2 (
   head-reads.Asked,
@@ -684,7 +684,7 @@ part-part-requires-2 : (t : ℕ) → part-lts.Need-part-requires-2 (
   slice-part-reads.Asked,
   slice-part-reads.Learnt,
 ) (part-at t) part.Post
-part-part-requires-2 t c κs = (omega (arith, c .before .before .before .before .pre .0, head-room (c .before .before .before .before .args .s .now) (c .before .before .before .before .args .at) (c .before .before .before .before .args .depth) (sym (c .before .before .head .ensures) ∙ ap headSays (c .enum-told .given .1))), tt)
+part-part-requires-2 t c κs = (omega (arith, c .before .before .before .before .pre .0, head-room (c .before .before .before .before .args .s .now) (c .before .before .before .before .args .at) (c .before .before .before .before .args .depth) (sym (c .before .before .head .ensures .0) ∙ ap headSays (c .enum-told .given .1))), tt)
 
 part-slice-part-requires : (t : ℕ) → part-lts.Need-slice-part-requires (
   head-reads.Asked,
@@ -752,8 +752,8 @@ part-returns : (t : ℕ) → part-lts.Need-returns (
 ) (part-at t) part.Post
 part-returns t c =
     part-told 64 target64 scalars64 (c .before .before .before .before .before .before .before .args .depth) (c .before .before .before .before .before .before .before .args .s .now) (c .before .before .before .before .before .before .before .args .at)
-    (c .at-tag .ensures ∙ ap (λ (o : Outcome Layout). atPlace (c .before .before .before .before .before .before .before .args .at) o (λ l. reached (l, c .before .before .before .before .before .before .before .args .at + 1))) (c .before .scalar .ensures .0 ∙ code-scalar target64 (c .before .before .before .code .given .0 .0) (head-room (c .before .before .before .before .before .before .before .args .s .now) (c .before .before .before .before .before .before .before .args .at) (c .before .before .before .before .before .before .before .args .depth) (sym (c .before .before .before .before .before .head .ensures) ∙ ap headSays (c .before .before .before .code .given .1)) .1))
-    ∙ sym (by-head 64 target64 (c .before .before .before .before .before .before .before .args .depth) (c .before .before .before .before .before .before .before .args .s .now) (c .before .before .before .before .before .before .before .args .at) (sym (c .before .before .before .before .before .head .ensures) ∙ ap headSays (c .before .before .before .code .given .1))))
+    (c .at-tag .ensures ∙ ap (λ (o : Outcome Layout). atPlace (c .before .before .before .before .before .before .before .args .at) o (λ l. reached (l, c .before .before .before .before .before .before .before .args .at + 1))) (c .before .scalar .ensures .0 ∙ code-scalar target64 (c .before .before .before .code .given .0 .0) (head-room (c .before .before .before .before .before .before .before .args .s .now) (c .before .before .before .before .before .before .before .args .at) (c .before .before .before .before .before .before .before .args .depth) (sym (c .before .before .before .before .before .head .ensures .0) ∙ ap headSays (c .before .before .before .code .given .1)) .1))
+    ∙ sym (by-head 64 target64 (c .before .before .before .before .before .before .before .args .depth) (c .before .before .before .before .before .before .before .args .s .now) (c .before .before .before .before .before .before .before .args .at) (sym (c .before .before .before .before .before .head .ensures .0) ∙ ap headSays (c .before .before .before .code .given .1))))
 
 part-returns-2 : (t : ℕ) → part-lts.Need-returns-2 (
   head-reads.Asked,
@@ -778,7 +778,7 @@ part-returns-2 : (t : ℕ) → part-lts.Need-returns-2 (
 part-returns-2 t c =
     part-told 64 target64 scalars64 (c .before .before .before .before .before .before .before .args .depth) (c .before .before .before .before .before .before .before .args .s .now) (c .before .before .before .before .before .before .before .args .at)
     (c .array-part .ensures ∙ ap (λ (p : Placed Part). goOn p (made (c .before .before .before .before .before .before .before .args .at) (λ l. arrayFor 64 l (c .before .before .before .count .given .0 .0)))) (c .before .part .ensures .0)
-    ∙ sym (by-head 64 target64 (c .before .before .before .before .before .before .before .args .depth) (c .before .before .before .before .before .before .before .args .s .now) (c .before .before .before .before .before .before .before .args .at) (sym (c .before .before .before .before .before .head .ensures) ∙ ap headSays (c .before .before .before .count .given .1))))
+    ∙ sym (by-head 64 target64 (c .before .before .before .before .before .before .before .args .depth) (c .before .before .before .before .before .before .before .args .s .now) (c .before .before .before .before .before .before .before .args .at) (sym (c .before .before .before .before .before .head .ensures .0) ∙ ap headSays (c .before .before .before .count .given .1))))
 
 part-returns-3 : (t : ℕ) → part-lts.Need-returns-3 (
   head-reads.Asked,
@@ -803,7 +803,7 @@ part-returns-3 : (t : ℕ) → part-lts.Need-returns-3 (
 part-returns-3 t c =
     part-told 64 target64 scalars64 (c .before .before .before .before .before .before .before .before .before .before .before .args .depth) (c .before .before .before .before .before .before .before .before .before .before .before .args .s .now) (c .before .before .before .before .before .before .before .before .before .before .before .args .at)
     (c .struct-part .ensures ∙ ap (λ (p : Placed Part). goOn p (closed 64 (c .before .before .before .before .before .before .before .before .before .before .before .args .at))) (c .before .add-members .ensures)
-    ∙ sym (by-head 64 target64 (c .before .before .before .before .before .before .before .before .before .before .before .args .depth) (c .before .before .before .before .before .before .before .before .before .before .before .args .s .now) (c .before .before .before .before .before .before .before .before .before .before .before .args .at) (sym (c .before .before .before .before .before .before .before .before .before .head .ensures) ∙ ap headSays (c .before .before .before .before .before .before .before .align .given .1)) ∙ body-on 64 (partFor 64 target64 (c .before .before .before .before .before .before .before .before .before .before .before .args .depth - 1) (c .before .before .before .before .before .before .before .before .before .before .before .args .s .now)) (c .before .before .before .before .before .before .before .before .before .before .before .args .at) (c .before .before .before .before .before .before .before .align .given .0 .0) (c .before .before .before .before .before .before .before .align .given .0 .1 .0) (c .before .before .before .before .before .before .before .align .given .0 .1 .1 .0) (told-by layoutSays (c .before .before .before .before .before .new-zst .ensures .0) (c .before .before .before .empty .given .1))))
+    ∙ sym (by-head 64 target64 (c .before .before .before .before .before .before .before .before .before .before .before .args .depth) (c .before .before .before .before .before .before .before .before .before .before .before .args .s .now) (c .before .before .before .before .before .before .before .before .before .before .before .args .at) (sym (c .before .before .before .before .before .before .before .before .before .head .ensures .0) ∙ ap headSays (c .before .before .before .before .before .before .before .align .given .1)) ∙ body-on 64 (partFor 64 target64 (c .before .before .before .before .before .before .before .before .before .before .before .args .depth - 1) (c .before .before .before .before .before .before .before .before .before .before .before .args .s .now)) (c .before .before .before .before .before .before .before .before .before .before .before .args .at) (c .before .before .before .before .before .before .before .align .given .0 .0) (c .before .before .before .before .before .before .before .align .given .0 .1 .0) (c .before .before .before .before .before .before .before .align .given .0 .1 .1 .0) (told-by layoutSays (c .before .before .before .before .before .new-zst .ensures .0) (c .before .before .before .empty .given .1))))
 
 part-returns-4 : (t : ℕ) → part-lts.Need-returns-4 (
   head-reads.Asked,
@@ -827,7 +827,7 @@ part-returns-4 : (t : ℕ) → part-lts.Need-returns-4 (
 ) (part-at t) part.Post
 part-returns-4 t c =
     part-told 64 target64 scalars64 (c .before .before .before .before .before .before .before .before .before .args .depth) (c .before .before .before .before .before .before .before .before .before .args .s .now) (c .before .before .before .before .before .before .before .before .before .args .at)
-    (sym (by-head 64 target64 (c .before .before .before .before .before .before .before .before .before .args .depth) (c .before .before .before .before .before .before .before .before .before .args .s .now) (c .before .before .before .before .before .before .before .before .before .args .at) (sym (c .before .before .before .before .before .before .before .head .ensures) ∙ ap headSays (c .before .before .before .before .before .align .given .1)) ∙ body-off 64 (partFor 64 target64 (c .before .before .before .before .before .before .before .before .before .args .depth - 1) (c .before .before .before .before .before .before .before .before .before .args .s .now)) (c .before .before .before .before .before .before .before .before .before .args .at) (c .before .before .before .before .before .align .given .0 .0) (c .before .before .before .before .before .align .given .0 .1 .0) (c .before .before .before .before .before .align .given .0 .1 .1 .0) (told-by layoutSays (c .before .before .before .new-zst .ensures .0) (c .before .number .given .1))))
+    (sym (by-head 64 target64 (c .before .before .before .before .before .before .before .before .before .args .depth) (c .before .before .before .before .before .before .before .before .before .args .s .now) (c .before .before .before .before .before .before .before .before .before .args .at) (sym (c .before .before .before .before .before .before .before .head .ensures .0) ∙ ap headSays (c .before .before .before .before .before .align .given .1)) ∙ body-off 64 (partFor 64 target64 (c .before .before .before .before .before .before .before .before .before .args .depth - 1) (c .before .before .before .before .before .before .before .before .before .args .s .now)) (c .before .before .before .before .before .before .before .before .before .args .at) (c .before .before .before .before .before .align .given .0 .0) (c .before .before .before .before .before .align .given .0 .1 .0) (c .before .before .before .before .before .align .given .0 .1 .1 .0) (told-by layoutSays (c .before .before .before .new-zst .ensures .0) (c .before .number .given .1))))
 
 part-returns-5 : (t : ℕ) → part-lts.Need-returns-5 (
   head-reads.Asked,
@@ -852,7 +852,7 @@ part-returns-5 : (t : ℕ) → part-lts.Need-returns-5 (
 part-returns-5 t c =
     part-told 64 target64 scalars64 (c .before .before .before .before .before .before .args .depth) (c .before .before .before .before .before .before .args .s .now) (c .before .before .before .before .before .before .args .at)
     (c .slice-part .ensures ∙ ap (λ (p : Placed Part). goOn p (made (c .before .before .before .before .before .before .args .at) (sliceOfFor 64))) (c .before .part2 .ensures .0)
-    ∙ sym (by-head 64 target64 (c .before .before .before .before .before .before .args .depth) (c .before .before .before .before .before .before .args .s .now) (c .before .before .before .before .before .before .args .at) (sym (c .before .before .before .before .head .ensures) ∙ ap headSays (c .before .before .enum-told .given .1))))
+    ∙ sym (by-head 64 target64 (c .before .before .before .before .before .before .args .depth) (c .before .before .before .before .before .before .args .s .now) (c .before .before .before .before .before .before .args .at) (sym (c .before .before .before .before .head .ensures .0) ∙ ap headSays (c .before .before .enum-told .given .1))))
 
 part-returns-6 : (t : ℕ) → part-lts.Need-returns-6 (
   head-reads.Asked,
@@ -876,7 +876,7 @@ part-returns-6 : (t : ℕ) → part-lts.Need-returns-6 (
 ) (part-at t) part.Post
 part-returns-6 t c =
     part-told 64 target64 scalars64 (c .before .before .before .before .before .args .depth) (c .before .before .before .before .before .args .s .now) (c .before .before .before .before .before .args .at)
-    (sym (by-head 64 target64 (c .before .before .before .before .before .args .depth) (c .before .before .before .before .before .args .s .now) (c .before .before .before .before .before .args .at) (sym (c .before .before .before .head .ensures) ∙ ap headSays (c .before .number2 .given .1))))
+    (sym (by-head 64 target64 (c .before .before .before .before .before .args .depth) (c .before .before .before .before .before .args .s .now) (c .before .before .before .before .before .args .at) (sym (c .before .before .before .head .ensures .0) ∙ ap headSays (c .before .number2 .given .1))))
 
 pub +add-members+part-spec : {M : Type 1} → statement M
 +add-members+part-spec = close μ-add-members μ-part (λ t. add-members-lts.spec (
