@@ -98,40 +98,44 @@ pub fn part(s: &[u8], at: usize, depth: usize) -> PartAnswer
     }
 }
 
-// The members left of a struct whose tag is at tag, the next one at at: each read whole, then added to the layout.
+// The members of a struct whose tag is at tag, the first one at first: each read whole, then added to the layout. A loop, so that
+// the calls are as deep as the parts that are open.
 fn add_members(
     s: &[u8],
-    at: usize,
+    first: usize,
     depth: usize,
-    left: u64,
-    own: DstLayout,
+    count: u64,
+    empty: DstLayout,
     packed: u64,
     tag: usize,
 ) -> PartAnswer
     ensures { λ r. ⌜
-        partSays r ≡ addRead 64 (partFor 64 target64 depth (now (s .entry))) packed tag left (layoutOf own) at
+        partSays r ≡ addRead 64 (partFor 64 target64 depth (now (s .entry))) packed tag count (layoutOf empty) first
         ⌝ }
 {
-    if left == 0 {
-        return PartAnswer::Part {
-            layout: own,
-            next: at,
-        };
+    let mut own = empty;
+    let mut at = first;
+    let mut left = count;
+    while left > 0 {
+        match part(s, at, depth) {
+            PartAnswer::Part { layout, next } => match extend::extend(own, layout, packed) {
+                LayoutAnswer::Layout(grown) => {
+                    own = grown;
+                    at = next;
+                    left -= 1;
+                }
+                LayoutAnswer::Refused(number) => {
+                    return PartAnswer::Refused { number, place: tag };
+                }
+            },
+            PartAnswer::Refused { number, place } => {
+                return PartAnswer::Refused { number, place };
+            }
+        }
     }
-    match part(s, at, depth) {
-        PartAnswer::Part { layout, next } => match extend::extend(own, layout, packed) {
-            LayoutAnswer::Layout(grown) => add_members(
-                s,
-                next,
-                depth,
-                left - 1,
-                grown,
-                packed,
-                tag,
-            ),
-            LayoutAnswer::Refused(number) => PartAnswer::Refused { number, place: tag },
-        },
-        PartAnswer::Refused { number, place } => PartAnswer::Refused { number, place },
+    PartAnswer::Part {
+        layout: own,
+        next: at,
     }
 }
 

@@ -1,7 +1,6 @@
 -- `describe::part` and `describe::add_members`, which call one another, meet their contracts: the bytes left fall. Assumes
 -- nothing.
-use mathlib.Core.Path.{sym, ap, _∙_}
-use native.Mathlib.Nat.{pos-of-ne-zero}
+use mathlib.Core.Path.{_≡_, refl, sym, ap, _∙_}
 use native.Mathlib.Omega.{arith}
 use borrow.Author.Needs.{needs}
 use lib.ListN.{length}
@@ -12,7 +11,7 @@ use Rattle.layout_defs.specs.Layout.{Layout}
 use Rattle.layout.specs.View.{layoutOf, layoutSays}
 use Rattle.scalar.specs.Scalar.{target64}
 use Rattle.describe_defs.specs.Elements.{arrayFor, sliceOfFor}
-use Rattle.describe_defs.specs.Describe.{Part, closed, partFor}
+use Rattle.describe_defs.specs.Describe.{Part, addRead, closed, partFor}
 use Rattle.describe_defs.specs.Heads.{made}
 use Rattle.describe_defs.proofs.Meaning.{moved}
 use Rattle.describe_defs.proofs.Heads.{head-room, add-none, add-stop, add-off, add-on}
@@ -20,7 +19,7 @@ use Rattle.heads.specs.View.{headSays}
 use Rattle.describe.specs.View.{partSays}
 use Rattle.describe_defs.proofs.Accepted.{scalars64}
 use Rattle.describe.proofs.Ways.{part-told, code-scalar, by-head, body-on, body-off, step-is}
-use Prim.Native.Nat.{ℕ, _+_, _-_, _*_, _<_}
+use Prim.Native.Nat.{ℕ, _+_, _-_, _*_, _≤_, _<_}
 use borrow.Fn.Kinds.{In}
 use borrow.Fn.PlainCycle.{Measures, is, falls, and}
 use Rattle.describe.proofs.add_members.Reads as add-members
@@ -60,34 +59,34 @@ part-at t = and 1 part-kinds.ps (is 1 part-kinds.ps μ-part t) part.Pre
 abbrev part-below : ℕ → In 1 part-kinds.ps
 part-below t = and 1 part-kinds.ps (falls 1 part-kinds.ps _<_ μ-part t) part.Pre
 
-add-members-returns : (t : ℕ) → add-members-lts.Need-returns (
+abbrev add-members-Inv-loop : add-members-lts.InvT-loop
+add-members-Inv-loop s first depth count packed tag own₀ at₀ left₀ own at left = (first ≤ at) × (addRead 64 (partFor 64 target64 depth s) packed tag left (layoutOf own) at ≡ addRead 64 (partFor 64 target64 depth s) packed tag count (layoutOf own₀) first)
+
+abbrev add-members-μ-loop : add-members-lts.MeasureT-loop
+add-members-μ-loop s first depth count packed tag own₀ at₀ left₀ own at left = left
+
+add-members-loop-holds : (t : ℕ) → add-members-lts.Need-loop-holds (
   part-below t,
   part.Post,
   extend-reads.Asked,
   extend-reads.Learnt,
-  add-members-below t,
-  add-members.Post,
-) (add-members-at t) add-members.Post
-add-members-returns t c = sym (add-none 64 (partFor 64 target64 (c .before .before .args .depth) (c .before .before .args .s .now)) (c .before .before .args .packed) (c .before .before .args .tag) (layoutOf (c .before .before .args .own)) (c .before .before .args .at) (c .before .before .args .left) (c .if1 .taken))
+) (add-members-at t) add-members.Post add-members-Inv-loop add-members-μ-loop
+add-members-loop-holds t c = (omega arith, refl)
 
 add-members-part-requires : (t : ℕ) → add-members-lts.Need-part-requires (
   part-below t,
   part.Post,
   extend-reads.Asked,
   extend-reads.Learnt,
-  add-members-below t,
-  add-members.Post,
-) (add-members-at t) add-members.Post
-add-members-part-requires t c κs = (omega (arith, c .before .before .pre .0), tt)
+) (add-members-at t) add-members.Post add-members-Inv-loop add-members-μ-loop
+add-members-part-requires t c κs = (omega (arith, c .before .before .before .pre .0, c .before .loop .inv .0), tt)
 
 add-members-enum-known-layout : (t : ℕ) → add-members-lts.Need-enum-known-layout (
   part-below t,
   part.Post,
   extend-reads.Asked,
   extend-reads.Learnt,
-  add-members-below t,
-  add-members.Post,
-) (add-members-at t) add-members.Post
+) (add-members-at t) add-members.Post add-members-Inv-loop add-members-μ-loop
 add-members-enum-known-layout t c = search needs
 
 add-members-extend-requires : (t : ℕ) → add-members-lts.Need-extend-requires (
@@ -95,9 +94,7 @@ add-members-extend-requires : (t : ℕ) → add-members-lts.Need-extend-requires
   part.Post,
   extend-reads.Asked,
   extend-reads.Learnt,
-  add-members-below t,
-  add-members.Post,
-) (add-members-at t) add-members.Post
+) (add-members-at t) add-members.Post add-members-Inv-loop add-members-μ-loop
 add-members-extend-requires t c κs = search needs
 
 add-members-enum-known-grown : (t : ℕ) → add-members-lts.Need-enum-known-grown (
@@ -105,49 +102,58 @@ add-members-enum-known-grown : (t : ℕ) → add-members-lts.Need-enum-known-gro
   part.Post,
   extend-reads.Asked,
   extend-reads.Learnt,
-  add-members-below t,
-  add-members.Post,
-) (add-members-at t) add-members.Post
+) (add-members-at t) add-members.Post add-members-Inv-loop add-members-μ-loop
 add-members-enum-known-grown t c = search needs
 
-add-members-sub-add-members : (t : ℕ) → add-members-lts.Need-sub-add-members (
+add-members-sub-left : (t : ℕ) → add-members-lts.Need-sub-left (
   part-below t,
   part.Post,
   extend-reads.Asked,
   extend-reads.Learnt,
-  add-members-below t,
-  add-members.Post,
-) (add-members-at t) add-members.Post
-add-members-sub-add-members t c = pos-of-ne-zero (c .before .before .before .before .before .before .before .before .if1 .left)
+) (add-members-at t) add-members.Post add-members-Inv-loop add-members-μ-loop
+add-members-sub-left t c = omega (arith, c .before .before .before .before .before .before .before .before .loop-test .taken)
 
-add-members-add-members-requires : (t : ℕ) → add-members-lts.Need-add-members-requires (
+add-members-loop-less : (t : ℕ) → add-members-lts.Need-loop-less (
   part-below t,
   part.Post,
   extend-reads.Asked,
   extend-reads.Learnt,
-  add-members-below t,
-  add-members.Post,
-) (add-members-at t) add-members.Post
-add-members-add-members-requires t c κs = (omega (arith, c .before .before .before .before .before .before .before .before .before .before .pre .0, moved 64 target64 (c .before .before .before .before .before .before .before .before .before .before .args .s .now) (c .before .before .before .before .before .before .before .before .before .before .args .depth) (c .before .before .before .before .before .before .before .before .before .before .args .at) (c .before .before .before .before .before .layout .given .0 .1 .0) (layoutOf (c .before .before .before .before .before .layout .given .0 .0)) (sym (c .before .before .before .before .before .before .before .part .ensures .0) ∙ ap partSays (c .before .before .before .before .before .layout .given .1))), tt)
+) (add-members-at t) add-members.Post add-members-Inv-loop add-members-μ-loop
+add-members-loop-less t c = omega (arith, c .before .before .before .before .before .before .before .before .loop-test .taken)
+
+add-members-loop-again : (t : ℕ) → add-members-lts.Need-loop-again (
+  part-below t,
+  part.Post,
+  extend-reads.Asked,
+  extend-reads.Learnt,
+) (add-members-at t) add-members.Post add-members-Inv-loop add-members-μ-loop
+add-members-loop-again t c = (
+  omega (arith, c .before .before .before .before .before .before .before .before .before .loop .inv .0, moved 64 target64 (c .before .before .before .before .before .before .before .before .before .before .before .args .s .now) (c .before .before .before .before .before .before .before .before .before .before .before .args .depth) (c .before .before .before .before .before .before .before .before .before .loop .at) (c .before .before .before .before .before .layout .given .0 .1 .0) (layoutOf (c .before .before .before .before .before .layout .given .0 .0)) (sym (c .before .before .before .before .before .before .before .part .ensures .0) ∙ ap partSays (c .before .before .before .before .before .layout .given .1))),
+  sym (add-on 64 (partFor 64 target64 (c .before .before .before .before .before .before .before .before .before .before .before .args .depth) (c .before .before .before .before .before .before .before .before .before .before .before .args .s .now)) (c .before .before .before .before .before .before .before .before .before .before .before .args .packed) (c .before .before .before .before .before .before .before .before .before .before .before .args .tag) (layoutOf (c .before .before .before .before .before .before .before .before .before .loop .own)) (c .before .before .before .before .before .before .before .before .before .loop .at) (c .before .before .before .before .before .before .before .before .before .loop .left) (λ z. omega (arith, c .before .before .before .before .before .before .before .before .loop-test .taken)) (sym (c .before .before .before .before .before .before .before .part .ensures .0) ∙ ap partSays (c .before .before .before .before .before .layout .given .1)) (step-is 64 (c .before .before .before .before .before .before .before .before .before .before .before .args .packed) (layoutOf (c .before .before .before .before .before .before .before .before .before .loop .own)) (layoutOf (c .before .before .before .before .before .layout .given .0 .0)) (told-by layoutSays (c .before .before .before .extend .ensures .0) (c .before .grown .given .1)))) ∙ c .before .before .before .before .before .before .before .before .before .loop .inv .1,
+)
 
 add-members-enum-known-number : (t : ℕ) → add-members-lts.Need-enum-known-number (
   part-below t,
   part.Post,
   extend-reads.Asked,
   extend-reads.Learnt,
-  add-members-below t,
-  add-members.Post,
-) (add-members-at t) add-members.Post
+) (add-members-at t) add-members.Post add-members-Inv-loop add-members-μ-loop
 add-members-enum-known-number t c = search needs
+
+add-members-returns : (t : ℕ) → add-members-lts.Need-returns (
+  part-below t,
+  part.Post,
+  extend-reads.Asked,
+  extend-reads.Learnt,
+) (add-members-at t) add-members.Post add-members-Inv-loop add-members-μ-loop
+add-members-returns t c = sym (add-off 64 (partFor 64 target64 (c .before .before .before .before .before .before .before .before .before .before .before .args .depth) (c .before .before .before .before .before .before .before .before .before .before .before .args .s .now)) (c .before .before .before .before .before .before .before .before .before .before .before .args .packed) (c .before .before .before .before .before .before .before .before .before .before .before .args .tag) (layoutOf (c .before .before .before .before .before .before .before .before .before .loop .own)) (c .before .before .before .before .before .before .before .before .before .loop .at) (c .before .before .before .before .before .before .before .before .before .loop .left) (λ z. omega (arith, c .before .before .before .before .before .before .before .before .loop-test .taken)) (sym (c .before .before .before .before .before .before .before .part .ensures .0) ∙ ap partSays (c .before .before .before .before .before .layout .given .1)) (step-is 64 (c .before .before .before .before .before .before .before .before .before .before .before .args .packed) (layoutOf (c .before .before .before .before .before .before .before .before .before .loop .own)) (layoutOf (c .before .before .before .before .before .layout .given .0 .0)) (told-by layoutSays (c .before .before .before .extend .ensures .0) (c .before .number .given .1)))) ∙ c .before .before .before .before .before .before .before .before .before .loop .inv .1
 
 add-members-enum-known-number-2 : (t : ℕ) → add-members-lts.Need-enum-known-number-2 (
   part-below t,
   part.Post,
   extend-reads.Asked,
   extend-reads.Learnt,
-  add-members-below t,
-  add-members.Post,
-) (add-members-at t) add-members.Post
+) (add-members-at t) add-members.Post add-members-Inv-loop add-members-μ-loop
 add-members-enum-known-number-2 t c = search needs
 
 add-members-returns-2 : (t : ℕ) → add-members-lts.Need-returns-2 (
@@ -155,30 +161,16 @@ add-members-returns-2 : (t : ℕ) → add-members-lts.Need-returns-2 (
   part.Post,
   extend-reads.Asked,
   extend-reads.Learnt,
-  add-members-below t,
-  add-members.Post,
-) (add-members-at t) add-members.Post
-add-members-returns-2 t c = c .add-members .ensures ∙ sym (add-on 64 (partFor 64 target64 (c .before .before .before .before .before .before .before .before .before .before .before .args .depth) (c .before .before .before .before .before .before .before .before .before .before .before .args .s .now)) (c .before .before .before .before .before .before .before .before .before .before .before .args .packed) (c .before .before .before .before .before .before .before .before .before .before .before .args .tag) (layoutOf (c .before .before .before .before .before .before .before .before .before .before .before .args .own)) (c .before .before .before .before .before .before .before .before .before .before .before .args .at) (c .before .before .before .before .before .before .before .before .before .before .before .args .left) (c .before .before .before .before .before .before .before .before .before .if1 .left) (sym (c .before .before .before .before .before .before .before .before .part .ensures .0) ∙ ap partSays (c .before .before .before .before .before .before .layout .given .1)) (step-is 64 (c .before .before .before .before .before .before .before .before .before .before .before .args .packed) (layoutOf (c .before .before .before .before .before .before .before .before .before .before .before .args .own)) (layoutOf (c .before .before .before .before .before .before .layout .given .0 .0)) (told-by layoutSays (c .before .before .before .before .extend .ensures .0) (c .before .before .grown .given .1))))
+) (add-members-at t) add-members.Post add-members-Inv-loop add-members-μ-loop
+add-members-returns-2 t c = sym (add-stop 64 (partFor 64 target64 (c .before .before .before .before .before .before .before .args .depth) (c .before .before .before .before .before .before .before .args .s .now)) (c .before .before .before .before .before .before .before .args .packed) (c .before .before .before .before .before .before .before .args .tag) (layoutOf (c .before .before .before .before .before .loop .own)) (c .before .before .before .before .before .loop .at) (c .before .before .before .before .before .loop .left) (λ z. omega (arith, c .before .before .before .before .loop-test .taken)) (sym (c .before .before .before .part .ensures .0) ∙ ap partSays (c .before .number2 .given .1))) ∙ c .before .before .before .before .before .loop .inv .1
 
 add-members-returns-3 : (t : ℕ) → add-members-lts.Need-returns-3 (
   part-below t,
   part.Post,
   extend-reads.Asked,
   extend-reads.Learnt,
-  add-members-below t,
-  add-members.Post,
-) (add-members-at t) add-members.Post
-add-members-returns-3 t c = sym (add-off 64 (partFor 64 target64 (c .before .before .before .before .before .before .before .before .before .before .args .depth) (c .before .before .before .before .before .before .before .before .before .before .args .s .now)) (c .before .before .before .before .before .before .before .before .before .before .args .packed) (c .before .before .before .before .before .before .before .before .before .before .args .tag) (layoutOf (c .before .before .before .before .before .before .before .before .before .before .args .own)) (c .before .before .before .before .before .before .before .before .before .before .args .at) (c .before .before .before .before .before .before .before .before .before .before .args .left) (c .before .before .before .before .before .before .before .before .if1 .left) (sym (c .before .before .before .before .before .before .before .part .ensures .0) ∙ ap partSays (c .before .before .before .before .before .layout .given .1)) (step-is 64 (c .before .before .before .before .before .before .before .before .before .before .args .packed) (layoutOf (c .before .before .before .before .before .before .before .before .before .before .args .own)) (layoutOf (c .before .before .before .before .before .layout .given .0 .0)) (told-by layoutSays (c .before .before .before .extend .ensures .0) (c .before .number .given .1))))
-
-add-members-returns-4 : (t : ℕ) → add-members-lts.Need-returns-4 (
-  part-below t,
-  part.Post,
-  extend-reads.Asked,
-  extend-reads.Learnt,
-  add-members-below t,
-  add-members.Post,
-) (add-members-at t) add-members.Post
-add-members-returns-4 t c = sym (add-stop 64 (partFor 64 target64 (c .before .before .before .before .before .before .args .depth) (c .before .before .before .before .before .before .args .s .now)) (c .before .before .before .before .before .before .args .packed) (c .before .before .before .before .before .before .args .tag) (layoutOf (c .before .before .before .before .before .before .args .own)) (c .before .before .before .before .before .before .args .at) (c .before .before .before .before .before .before .args .left) (c .before .before .before .before .if1 .left) (sym (c .before .before .before .part .ensures .0) ∙ ap partSays (c .before .number2 .given .1)))
+) (add-members-at t) add-members.Post add-members-Inv-loop add-members-μ-loop
+add-members-returns-3 t c = sym (add-none 64 (partFor 64 target64 (c .before .before .before .args .depth) (c .before .before .before .args .s .now)) (c .before .before .before .args .packed) (c .before .before .before .args .tag) (layoutOf (c .before .loop .own)) (c .before .loop .at) (c .before .loop .left) (omega (arith, c .loop-test .left))) ∙ c .before .loop .inv .1
 
 part-head-requires : (t : ℕ) → part-lts.Need-head-requires (
   head-reads.Asked,
@@ -884,23 +876,24 @@ pub +add-members+part-spec : {M : Type 1} → statement M
   part.Post,
   extend-reads.Asked,
   extend-reads.Learnt,
-  add-members-below t,
-  add-members.Post,
 )
     (add-members-at t)
     add-members.Post
-    (add-members-returns t)
+    add-members-Inv-loop
+    add-members-μ-loop
+    (add-members-loop-holds t)
     (add-members-part-requires t)
     (add-members-enum-known-layout t)
     (add-members-extend-requires t)
     (add-members-enum-known-grown t)
-    (add-members-sub-add-members t)
-    (add-members-add-members-requires t)
+    (add-members-sub-left t)
+    (add-members-loop-less t)
+    (add-members-loop-again t)
     (add-members-enum-known-number t)
+    (add-members-returns t)
     (add-members-enum-known-number-2 t)
     (add-members-returns-2 t)
-    (add-members-returns-3 t)
-    (add-members-returns-4 t))
+    (add-members-returns-3 t))
     λ t. part-lts.spec (
       head-reads.Asked,
       head-reads.Learnt,
