@@ -2,9 +2,9 @@
  *
  * Every function takes any numbers and any bytes and returns. An answer begins with its refusal: 0 where there is none, and
  * then the members behind it are the answer; else the number of the cause (LUKARIPE_REFUSED_..; lukaripe_refusal_text gives
- * it in words), and the members behind it are 0, except the `place` of a composition, a move or a list of counts, which says
- * where. Each function's comment names the refusals that it can give, in the order in which they are tested: the first that
- * applies is given.
+ * it in words), and the members behind it are 0, except the `place` of a composition, a description, a move or a list of
+ * counts, which says where. Each function's comment names the refusals that it can give, in the order in which they are
+ * tested: the first that applies is given.
  *
  * Words used below:
  *   alignment   a power of two
@@ -37,9 +37,9 @@
 #include <stdint.h>
 
 #define LUKARIPE_VERSION_MAJOR 0
-#define LUKARIPE_VERSION_MINOR 9
+#define LUKARIPE_VERSION_MINOR 10
 #define LUKARIPE_VERSION_PATCH 0
-#define LUKARIPE_VERSION "0.9.0"
+#define LUKARIPE_VERSION "0.10.0"
 
 /* An answer that is not looked at is a mistake: a refusal would go unseen. */
 #if defined(__GNUC__) || defined(__clang__)
@@ -86,6 +86,12 @@ enum {
     LUKARIPE_REFUSED_SOURCE_ELEM_SMALLER = 30,
     LUKARIPE_REFUSED_ELEM_NO_MULTIPLE = 31,
     LUKARIPE_REFUSED_NO_SHIFT = 32,
+    LUKARIPE_REFUSED_DESCRIPTION_CUT = 33,
+    LUKARIPE_REFUSED_TAG_OR_POWER = 34,
+    LUKARIPE_REFUSED_NESTING_TOO_DEEP = 35,
+    LUKARIPE_REFUSED_ELEM_TRAILING = 36,
+    LUKARIPE_REFUSED_ARRAY_PASSES_MAX = 37,
+    LUKARIPE_REFUSED_BYTES_LEFT_OVER = 38,
     LUKARIPE_REFUSED_NO_SIZE_AT_ZERO = 39,
     LUKARIPE_REFUSED_WORD_ABOVE_SHORT = 40,
     LUKARIPE_REFUSED_OUTPUT_SHORT = 41,
@@ -167,6 +173,18 @@ static inline const char *lukaripe_refusal_text(uint64_t refusal) {
         return "the size of the source's elements is no whole multiple of the target's";
     case LUKARIPE_REFUSED_NO_SHIFT:
         return "no shift lines the sizes of source and target up";
+    case LUKARIPE_REFUSED_DESCRIPTION_CUT:
+        return "the bytes of a description run out";
+    case LUKARIPE_REFUSED_TAG_OR_POWER:
+        return "a tag of a description is unknown, or a power is above 63";
+    case LUKARIPE_REFUSED_NESTING_TOO_DEEP:
+        return "more than 16 structs, arrays and slices are open in a description";
+    case LUKARIPE_REFUSED_ELEM_TRAILING:
+        return "an element of an array or slice ends in a run of elements itself";
+    case LUKARIPE_REFUSED_ARRAY_PASSES_MAX:
+        return "the size of an array overflows";
+    case LUKARIPE_REFUSED_BYTES_LEFT_OVER:
+        return "bytes are left over behind a description";
     case LUKARIPE_REFUSED_NO_SIZE_AT_ZERO:
         return "the size without elements overflows";
     case LUKARIPE_REFUSED_WORD_ABOVE_SHORT:
@@ -355,6 +373,15 @@ LUKARIPE_USE_RESULT lukaripe_layout_answer lukaripe_for_unpadded_type(uint64_t s
 /* A run of elements of this size and alignment, with the mark. Refusals: 1, 4. */
 LUKARIPE_USE_RESULT lukaripe_layout_answer lukaripe_for_slice(uint64_t size, uint64_t align);
 
+/* An array of count such elements: alignment, mark and modifier are the element's, also where count is 0, and the size is the
+ * product. An element whose size is no multiple of its alignment is taken as it stands. Refusals: layout refusals; 36 where
+ * elem is trailing; 37 where the size is above 2^64 - 1. */
+LUKARIPE_USE_RESULT lukaripe_layout_answer lukaripe_for_array(lukaripe_layout elem, uint64_t count);
+
+/* A run of such elements: as lukaripe_for_slice makes it of the element's size and alignment, with the element's modifier.
+ * Refusals: layout refusals; 36 where elem is trailing. */
+LUKARIPE_USE_RESULT lukaripe_layout_answer lukaripe_for_slice_of(lukaripe_layout elem);
+
 /* The layout with one member more, at the next place that is a multiple of the member's alignment, or of the packing where
  * that is lower. It has the modifier where one of the two has. repr_packed 0: no packing is asked for. Refusals: layout
  * refusals, of the layout and then of the field; 5, 6, 7, 8, 9. */
@@ -399,7 +426,8 @@ LUKARIPE_USE_RESULT uint64_t lukaripe_encode(lukaripe_layout layout, uint8_t *ou
 LUKARIPE_USE_RESULT lukaripe_layout_answer lukaripe_scalar(uint64_t code);
 
 /* A composed layout. place, of a refusal: the index of the member at fault; the member count where closing padding is at
- * fault; 0 for the length of the list or of a lent slice, for repr_align, and for repr_align and repr_packed together. */
+ * fault; 0 for the length of the list or of a lent slice, for repr_align, and for repr_align and repr_packed together. Of a
+ * description: the index of a byte. */
 typedef struct {
     uint64_t refusal;
     uint64_t place;
@@ -448,6 +476,30 @@ LUKARIPE_USE_RESULT uint64_t lukaripe_working_add(lukaripe_layout *working, luka
  * member; 5, 6, 7, 8, 9. */
 LUKARIPE_USE_RESULT uint64_t lukaripe_working_add_record(lukaripe_layout *working, const uint8_t *member, size_t len,
                                                          uint64_t repr_packed);
+
+/* ---- descriptions ---- */
+
+/* The byte that a part of a description begins with is a scalar code (LUKARIPE_SCALAR_..) or one of these. */
+enum {
+    LUKARIPE_TAG_ARRAY = 16,
+    LUKARIPE_TAG_STRUCT = 17,
+    LUKARIPE_TAG_SLICE = 18
+};
+
+/* As many structs, arrays and slices may be open at once. */
+enum { LUKARIPE_DESCRIPTION_DEPTH = 16 };
+
+/* The layout of the type that the bytes describe, types inside types. A description is one part: a scalar code, alone; 16,
+ * the count as four bytes, little-endian, and a part, which is the element, an array; 17, the alignment and the packing as one
+ * byte each (0: none is asked for, else 1 + the power of two), the member count as one byte and so many parts, a repr(C)
+ * struct; 18 and a part, a slice. The layout is the one that lukaripe_for_repr_c_struct, lukaripe_for_array and
+ * lukaripe_for_slice_of give of the layouts of the parts inside. An alignment and a packing may both be asked for, as there.
+ * Reading stops at the first refusal that it meets: a member is added once its last byte is read, closing padding comes after
+ * the last one, and an element is judged once it is read. Refusals, each with its place: 33 at the first byte that is missing;
+ * 34 at a tag that is unknown or at a power above 63; 35 at the tag that opens the seventeenth part; 36 and 37, as of the two
+ * functions above, at the tag of the array or slice; 6, 7, 8, 9, as of lukaripe_for_repr_c_struct, at the tag of the struct; 38
+ * at the first byte that is left over. */
+LUKARIPE_USE_RESULT lukaripe_composed lukaripe_read(const uint8_t *description, size_t len);
 
 /* ---- short records ---- */
 

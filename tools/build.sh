@@ -194,3 +194,12 @@ build_library() {
     missing=$(grep -oh 'lukaripe_[a-z_]*' rust/lukaripe/src/exports.rs | sort -u | comm -23 - "$1/exports" | xargs)
     [ -z "$missing" ] || fail "the library has no $missing"
 }
+
+# build_oracle OUT: compiles what was ported of the published Rust, in `zerocopy`, as the crate `oracle` in OUT. Sets
+# `compile`, by which it is: debug assertions are on, as document 01 asks of the oracle.
+build_oracle() {
+    compile=(rustc --edition 2021 -C opt-level=3 -C debug-assertions=on -C overflow-checks=on)
+    python3 rust/oracle/extract.py "$zerocopy" "$1/oracle.rs"
+    ORACLE_TEXT=$PWD/$1/oracle.rs "${compile[@]}" --crate-type rlib --crate-name oracle --out-dir "$1" \
+        rust/oracle/lib.rs
+}

@@ -5,6 +5,7 @@
 
 mod answer;
 mod cases;
+mod describe;
 #[path = "../lukaripe/src/exports.rs"]
 mod exports;
 mod full;
@@ -15,6 +16,7 @@ mod layouts;
 mod lent;
 mod lists;
 mod moves;
+mod plain_describe;
 mod plain_full;
 mod plain_places;
 mod plain_share;
@@ -184,10 +186,14 @@ impl Tried<'_> {
     }
 
     /// What is counted besides: of a move how long its output was, and its records; of the full comparison and mode how
-    /// they differ from the ported ones; of lists of counts how long they were, and their other orders.
+    /// they differ from the ported ones; of lists of counts how long they were, and their other orders; of descriptions
+    /// what was accepted, and how deep.
     fn besides(&self) -> Vec<(String, u64)> {
         if self.row.name == "padding_of_counts" {
             return shares::counted();
+        }
+        if self.row.name == "read" {
+            return describe::counted();
         }
         let way = [&moves::TO, &moves::FROM].into_iter().find(|way| way.name == self.row.name);
         way.map_or_else(|| full::counted(self.row.name), moves::counted)

@@ -10,22 +10,22 @@
 //! word; parameters of a conversion are kind, offset_delta_elems, elem_multiple, dst_meta; a bool is 0 or 1. Bytes that
 //! are read are the length in bytes and then the 8-byte words, little-endian, and for a length that is no multiple of 8
 //! the remaining bytes as one little-endian number. Bytes that are written are their length alone, and the answer is
-//! the six words of the record. The answer of a composition is the place and then the six words; the place stays on a
-//! refusal. Of one that writes places and gaps the inputs are repr_align, repr_packed, the lengths of the two slices,
-//! an index and the members' bytes, and behind the six words come the place and the gap of the member at that index
-//! modulo the count, 0 where there are no members. That of an addition to a lent layout is the six words that it holds
-//! afterwards; on a refusal they are those that were lent. Of what writes short records or moves records the output is
-//! the front of an area of 512 bytes, which are 0xa5 before; the answer has words of that area afterwards, on a refusal
-//! too. Of a short record it is the first five, and the input is the length that is lent. Of a move the inputs are that
-//! length, the index of a word of the area, at most 54, and the records' bytes, and the answer is the place, the number
-//! of bytes written and ten words from that one on. Of all cases the inputs are the length of the lists, that of the
-//! output, which is the front of an area of 218,496 bytes, and the index of a word, at most 27,302, and the answer is
-//! the number of bytes written and ten words. That of a normal form is size_base, elem_size, word. Of the padding over
-//! counts the inputs are the layout, the number of counts and the counts, and the answer is the place, the two numbers
-//! of either fraction, the greatest padding and its index; the place stays on a refusal. That of a conversion with
-//! casts after it is the parameters, and then of the count and of either cast the refusal number and the numbers; those
-//! of the casts stay where the conversion is refused. So all lines of a function have the same length, where it reads
-//! no bytes or counts.
+//! the six words of the record. The answer of a composition, and of a description, whose bytes are the input, is the
+//! place and then the six words; the place stays on a refusal. Of one that writes places and gaps the inputs are
+//! repr_align, repr_packed, the lengths of the two slices, an index and the members' bytes, and behind the six words
+//! come the place and the gap of the member at that index modulo the count, 0 where there are no members. That of an
+//! addition to a lent layout is the six words that it holds afterwards; on a refusal they are those that were lent. Of
+//! what writes short records or moves records the output is the front of an area of 512 bytes, which are 0xa5 before;
+//! the answer has words of that area afterwards, on a refusal too. Of a short record it is the first five, and the
+//! input is the length that is lent. Of a move the inputs are that length, the index of a word of the area, at most 54,
+//! and the records' bytes, and the answer is the place, the number of bytes written and ten words from that one on. Of
+//! all cases the inputs are the length of the lists, that of the output, which is the front of an area of 218,496
+//! bytes, and the index of a word, at most 27,302, and the answer is the number of bytes written and ten words. That of
+//! a normal form is size_base, elem_size, word. Of the padding over counts the inputs are the layout, the number of
+//! counts and the counts, and the answer is the place, the two numbers of either fraction, the greatest padding and its
+//! index; the place stays on a refusal. That of a conversion with casts after it is the parameters, and then of the
+//! count and of either cast the refusal number and the numbers; those of the casts stay where the conversion is
+//! refused. So all lines of a function have the same length, where it reads no bytes or counts.
 
 use crate::answer::Answer;
 use crate::inputs::{Phase, PHASES};

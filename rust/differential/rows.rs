@@ -3,6 +3,7 @@
 mod cases;
 mod cast;
 mod convert;
+mod describe;
 mod front;
 mod full;
 mod layout;
@@ -29,6 +30,7 @@ pub const LAYERS: &[&[Row]] = &[
     layout::ROWS,
     record::ROWS,
     working::ROWS,
+    describe::ROWS,
     short::ROWS,
     cases::ROWS,
     cast::ROWS,

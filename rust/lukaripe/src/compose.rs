@@ -350,8 +350,8 @@ fn records(members: &[Layout]) -> Vec<[[u8; 8]; 6]> {
     members.iter().map(|member| member.words().0.map(u64::to_le_bytes)).collect()
 }
 
-/// The first value of a composition is the place.
-fn composed(told: Told<7>) -> Result<Layout, Refused> {
+/// The first value of a composition, and of a description, is the place.
+pub(crate) fn composed(told: Told<7>) -> Result<Layout, Refused> {
     let [place, words @ ..] = told.values;
     match told.refusal {
         0 => Ok(Layout::from_words(words)),

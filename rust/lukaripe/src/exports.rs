@@ -73,6 +73,8 @@ unsafe extern "C" {
     pub safe fn lukaripe_for_type(size: u64, align: u64) -> Told<6>;
     pub safe fn lukaripe_for_unpadded_type(size: u64, align: u64) -> Told<6>;
     pub safe fn lukaripe_for_slice(size: u64, align: u64) -> Told<6>;
+    pub safe fn lukaripe_for_array(elem: Layout, count: u64) -> Told<6>;
+    pub safe fn lukaripe_for_slice_of(elem: Layout) -> Told<6>;
     pub safe fn lukaripe_extend(layout: Layout, field: Layout, repr_packed: u64) -> Told<6>;
     pub safe fn lukaripe_pad_to_align(layout: Layout) -> Told<6>;
     pub safe fn lukaripe_requires_static_padding(layout: Layout) -> Told<1>;
@@ -118,6 +120,10 @@ unsafe extern "C" {
         len: usize,
         repr_packed: u64,
     ) -> u64;
+
+    // ---- descriptions: the first value is the place ----
+
+    pub unsafe fn lukaripe_read(description: *const u8, len: usize) -> Told<7>;
 
     // ---- short records: of a move the values are the place and the number of bytes written ----
 

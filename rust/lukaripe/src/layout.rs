@@ -33,16 +33,15 @@ pub struct Layout {
     /// The mark: no padding is known between the members.
     pub statically_shallow_unpadded: bool,
     /// The alignment modifier, as the Rust Reference calls it: `align` was asked for, of the type or of one in it, at
-    /// any depth. The functions that are handed an alignment to ask for set it, those that are handed members inherit
-    /// it, and what is made of two numbers lacks it, so that the modifier of an element is handed on by hand:
+    /// any depth. The functions that are handed an alignment to ask for set it, those that are handed members or an
+    /// element inherit it, and what is made of two numbers lacks it:
     ///
     /// ```
     /// use lukaripe::{Layout, Refusal};
     ///
-    /// fn slice_of(element: Layout, size: u64) -> Result<Layout, Refusal> {
-    ///     Ok(Layout { align_modifier: element.align_modifier, ..Layout::for_slice(size, element.align)? })
-    /// }
-    /// # assert!(slice_of(Layout { align_modifier: true, ..Layout::of::<u8>() }, 1)?.align_modifier);
+    /// let element = Layout { align_modifier: true, ..Layout::of::<u8>() };
+    /// assert!(Layout::for_slice_of(element)?.align_modifier);
+    /// assert!(!Layout::for_slice(1, element.align)?.align_modifier);
     /// # Ok::<(), Refusal>(())
     /// ```
     pub align_modifier: bool,

@@ -1,8 +1,8 @@
 //! Layout arithmetic: sizes, padding, casts and conversions of records that end in a run of elements.
 //!
 //! The work is done by proved functions, which have the same names in C. They take any numbers and any bytes, and
-//! refuse what they cannot use: an error is a [`Refusal`], and of a list of members, records or counts a [`Refused`],
-//! which also says where. All numbers are unsigned and 64 bits wide.
+//! refuse what they cannot use: an error is a [`Refusal`], and of a list of members, records or counts or of a
+//! description a [`Refused`], which also says where. All numbers are unsigned and 64 bits wide.
 //!
 //! ```
 //! use lukaripe::{for_repr_c_struct, Cast, CastType, Layout};
@@ -29,6 +29,8 @@
 //! - [`Layout`]: the layout of a type, made of numbers, of a Rust type or of members ([`for_repr_c_struct`], and
 //!   [`for_repr_c_struct_strict`], which refuses what the Rust Reference forbids); [`for_repr_c_struct_places`] also
 //!   says where each member is placed, and [`Working`] takes them one by one.
+//! - [`Layout::read`]: the layout of a type that is described by bytes, types inside types; [`Layout::for_array`] and
+//!   [`Layout::for_slice_of`]: arrays and slices of a layout.
 //! - [`Trailing`]: the run of elements at the end of a layout, its sizes and its padding; [`Trailing::sizes_agree`] and
 //!   [`NormalForm`]: whether two have the same sizes; [`Trailing::padding_of_counts`]: how much of the sizes at a list
 //!   of counts is padding.
@@ -52,6 +54,7 @@ mod cases;
 mod cast;
 mod compose;
 mod convert;
+mod describe;
 mod front;
 mod full;
 mod helpers;
@@ -72,6 +75,7 @@ pub use compose::{compose, compose_records, for_repr_c_struct, for_repr_c_struct
 pub use compose::{for_repr_c_struct_places, for_repr_c_struct_places_into, for_repr_c_struct_places_records, Placed};
 pub use compose::{for_repr_c_struct_strict, for_repr_c_struct_strict_records};
 pub use convert::{convert_and_cast, size_sequences_match, Carried, CastParams};
+pub use describe::{DESCRIPTION_DEPTH, TAG_ARRAY, TAG_SLICE, TAG_STRUCT};
 pub use front::Serving;
 pub use full::{convert_and_cast_in, size_sequences_match_in, Mode, NormalForm};
 pub use helpers::{is_power_of_two, max, min, padding_needed_for, round_down_to_next_multiple_of_alignment};

@@ -76,6 +76,12 @@ refusals! {
     SourceElemSmaller = 30, "the source's elements are smaller than the target's";
     ElemNoMultiple = 31, "the size of the source's elements is no whole multiple of the target's";
     NoShift = 32, "no shift lines the sizes of source and target up";
+    DescriptionCut = 33, "the bytes of a description run out";
+    TagOrPower = 34, "a tag of a description is unknown, or a power is above 63";
+    NestingTooDeep = 35, "more than 16 structs, arrays and slices are open in a description";
+    ElemTrailing = 36, "an element of an array or slice ends in a run of elements itself";
+    ArrayPassesMax = 37, "the size of an array overflows";
+    BytesLeftOver = 38, "bytes are left over behind a description";
     NoSizeAtZero = 39, "the size without elements overflows";
     WordAboveShort = 40, "the rounding word needs more than the 32 bits of a short record";
     OutputShort = 41, "the output is too short";
@@ -156,7 +162,7 @@ impl fmt::Display for UnknownRefusal {
 
 impl Error for UnknownRefusal {}
 
-/// Why a list of members, of records to move, or of counts is refused, and where.
+/// Why a list of members, of records to move or of counts, or a description, is refused, and where.
 ///
 /// A [`Refusal`] becomes one at place 0, so that `?` takes both in a function that composes.
 ///
@@ -180,7 +186,8 @@ impl Error for UnknownRefusal {}
 pub struct Refused {
     /// Why.
     pub refusal: Refusal,
-    /// The index of the member, record or count at fault; for the final padding the number of the members; else 0.
+    /// The index of the member, record or count at fault; for the final padding the number of the members; of a
+    /// description the index of a byte ([`crate::Layout::read`] says which); else 0.
     pub place: u64,
 }
 

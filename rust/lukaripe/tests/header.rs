@@ -8,6 +8,7 @@ mod exports;
 
 use exports::{Told, Trailing};
 use lukaripe::{Refusal, Scalar, CASES_LENGTH, CASE_LENGTH, RECORD_LENGTH, SHORT_RECORD_LENGTH};
+use lukaripe::{DESCRIPTION_DEPTH, TAG_ARRAY, TAG_SLICE, TAG_STRUCT};
 use std::collections::BTreeSet;
 use std::fmt::Debug;
 use std::mem::{align_of, size_of};
@@ -70,6 +71,10 @@ fn constants() -> Vec<String> {
         of_constant("MAP_SERVES", 1),
         of_constant("SPARE_SERVES", 2),
         of_constant("RECORD_LENGTH", RECORD_LENGTH as u64),
+        of_constant("TAG_ARRAY", TAG_ARRAY.into()),
+        of_constant("TAG_STRUCT", TAG_STRUCT.into()),
+        of_constant("TAG_SLICE", TAG_SLICE.into()),
+        of_constant("DESCRIPTION_DEPTH", DESCRIPTION_DEPTH as u64),
         of_constant("SHORT_RECORD_LENGTH", SHORT_RECORD_LENGTH as u64),
     ];
     constants.extend(Refusal::all().map(|refusal| of_case("REFUSED", refusal, refusal.number())));

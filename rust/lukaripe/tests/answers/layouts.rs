@@ -117,10 +117,30 @@ fn composed(i: &mut Inputs, of_layouts: Composition<Layout>, of_records: Composi
     if let Some(members) = members(&list) {
         assert_eq!(of_layouts(align, packed, &members), answer);
     }
+    or_place(answer)
+}
+
+fn or_place(answer: Result<Layout, Refused>) -> Vec<u64> {
     match answer {
         Ok(layout) => [&[0, 0], &words_of(layout)[..]].concat(),
         Err(refused) => [&[refused.refusal.number(), refused.place], &[0; 6][..]].concat(),
     }
+}
+
+/// As of a composition. An array and a slice of what was read are described by what stands before its bytes.
+fn read(description: &[u8]) -> Vec<u64> {
+    let answer = Layout::read(description);
+    if let Ok(elem) = answer {
+        let array = [&[TAG_ARRAY, 3, 0, 0, 0], description].concat();
+        let slice = [&[TAG_SLICE], description].concat();
+        for (around, by_hand) in [(array, Layout::for_array(elem, 3)), (slice, Layout::for_slice_of(elem))] {
+            match Layout::read(&around) {
+                Err(Refused { refusal: Refusal::NestingTooDeep, .. }) => {}
+                by_bytes => assert_eq!(by_bytes, by_hand.map_err(Refused::from)),
+            }
+        }
+    }
+    or_place(answer)
 }
 
 /// Behind the words come the place and the gap of one member. A refusal writes nothing, and where the lent slices are
@@ -240,6 +260,9 @@ pub fn call(function: u64, i: &mut Inputs) -> Option<Vec<u64>> {
         43..=47 => full::call(function, i)?,
         49 => cases::call(i),
         50 => serving(i.layout()?.which_serves(i.number(), i.number(), i.number(), i.number())),
+        51 => read(&i.bytes()),
+        52 => layout(Layout::for_array(i.layout()?, i.number())),
+        53 => layout(Layout::for_slice_of(i.layout()?)),
         _ => panic!("no function {function}"),
     })
 }
