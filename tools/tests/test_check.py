@@ -12,7 +12,8 @@ class Check(Trial):
 
     def test_the_parts_are_listed(self):
         listed = self.output("tools/check --list")
-        for part in "build format shell readme examples tools wrapper cli types sequences differential".split():
+        parts = "build format shell readme examples tools wrapper cli types sequences descriptions differential"
+        for part in parts.split():
             self.assertRegex(listed, rf"(?m)^{part} +\S")
         for word in "foo", "build format", "", "@":
             self.says(f"tools/check readme '{word}'", 2, err=f"check: no part '{word}'; see --list\n")

@@ -44,7 +44,7 @@ class Words(Trial):
         self.assertNothingBuilt()
 
     def test_words_that_are_too_many_or_too_few(self):
-        for tool in "library", "differential", "record", "rustc-types", "bench":
+        for tool in "library", "differential", "descriptions", "record", "rustc-types", "bench":
             self.says(f"tools/{tool} foo", 2, err=f"{tool}: unknown word 'foo'; see --help\n")
         self.says("tools/listing a b", 2, err=line("listing", "unknown word 'b'"))
         for tool in "example", "wrapper-test":
@@ -56,6 +56,7 @@ class Words(Trial):
     def test_numbers(self):
         takes = {
             "differential": ["cases", "seed", "record"],
+            "descriptions": ["length", "longest"],
             "rustc-types": ["cases", "seed"],
             "bench": ["rounds", "batches"],
         }
@@ -68,7 +69,7 @@ class Words(Trial):
         self.assertNothingBuilt()
 
     def test_other_values(self):
-        for tool in "differential", "bench", "record", "check":
+        for tool in "differential", "descriptions", "bench", "record", "check":
             self.says(f"tools/{tool} --source", 2, err=line(tool, "--source takes a word"))
             self.says(f"tools/{tool} --source=", 2, err=line(tool, "--source takes a word"))
         for tool in "differential", "bench":
