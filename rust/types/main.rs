@@ -1,9 +1,11 @@
 //! Compares the exports with the compiler on repr(C) structs: alignments, sizes, the places of members and the gaps
-//! before them, and where a struct ends in a slice its sizes at some counts; and what the strict composition refuses
-//! with what the compiler refuses. tools/rustc-types writes the structs, builds and runs.
+//! before them, and where a struct ends in a slice its sizes at some counts; the same of types that are read from
+//! descriptions; and what the strict composition refuses with what the compiler refuses. tools/rustc-types writes the
+//! structs, builds and runs.
 
 #[path = "../lukaripe/src/exports.rs"]
 mod exports;
+mod nested;
 mod strict;
 
 use exports::*;
@@ -204,14 +206,14 @@ fn main() -> ExitCode {
         }
     }
     println!("{} structs: {compared} alignments, sizes, places and gaps are the compiler's", CHECKS.len());
-    match strict::check_all() {
-        Ok(found) => {
-            println!("{found}");
-            ExitCode::SUCCESS
-        }
-        Err(what) => {
-            eprintln!("{what}");
-            ExitCode::FAILURE
+    for found in [nested::check_all(), strict::check_all()] {
+        match found {
+            Ok(found) => println!("{found}"),
+            Err(what) => {
+                eprintln!("{what}");
+                return ExitCode::FAILURE;
+            }
         }
     }
+    ExitCode::SUCCESS
 }
