@@ -2,6 +2,7 @@
 //!
 //! The Rust refuses none of them by a panic, so that it can be called as it is; on the refused ones it is not called.
 
+use super::describe;
 use super::exports::Words;
 use super::random::Random;
 use crate::{layout, nonzero, trailing, CastParams, CastParamsInner, CastType, DstLayout, TrailingSliceLayout};
@@ -104,6 +105,8 @@ pub struct Case {
     /// longer than some calls.
     pub places: Vec<Cell<u64>>,
     pub gaps: Vec<Cell<u64>>,
+    /// The description of a struct that ends in a slice of a scalar.
+    pub description: Vec<u8>,
 }
 
 impl Case {
@@ -190,6 +193,19 @@ pub fn counts(set: Set, len: usize) -> Vec<Case> {
             Set::Worst => last - random.below(16),
         };
         case.counts = (0..len).map(count).collect();
+    }
+    cases
+}
+
+/// Cases with descriptions of structs of so many members; of 0, of structs inside structs.
+pub fn descriptions(set: Set, members: u8) -> Vec<Case> {
+    let mut random = Random::new(set as u64);
+    let mut cases = drawn(set, CASES, 0);
+    for case in &mut cases {
+        case.description = match members {
+            0 => describe::deep(&mut random, set),
+            members => describe::wide(&mut random, set, members),
+        };
     }
     cases
 }
@@ -324,6 +340,7 @@ fn draw(random: &mut Random, set: Set, members: usize) -> Option<Case> {
         tail_n: trailing(tail(whole)),
         count,
         counts: Vec::new(),
+        description: Vec::new(),
         other_tail: Words(other_tail),
         other_tail_n: trailing(other_tail),
         exact,

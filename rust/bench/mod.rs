@@ -5,6 +5,7 @@
 //! alternate, in both orders, and the best of each side counts.
 
 mod cases;
+mod describe;
 #[path = "../lukaripe/src/exports.rs"]
 mod exports;
 mod full;

@@ -299,6 +299,50 @@ pub const STRICT: &[Spoil] = &[
 ];
 pub const STRUCT_OF_ONE: &[Spoil] = &[UNEVEN, OWN_ALIGN, PACKING, LAST_21, LAST_1, LAST_22, LAST_2, LAST_6, FINAL_8];
 
+// ---- descriptions ----
+
+pub const ARRAY: &[Spoil] = layouts![fixed;
+    (36, |c| {
+        c.fixed.0[1] |= 2;
+        c.fixed.0[5] = 1;
+    }),
+    (37, |c| {
+        c.fixed.0[2] = u64::MAX;
+        c.code = 2;
+    })
+];
+pub const SLICE: &[Spoil] = layouts![fixed;
+    (36, |c| {
+        c.fixed.0[1] |= 2;
+        c.fixed.0[5] = 1;
+    })
+];
+
+/// An array of 2^64 - 2^33 + 1 elements.
+const HUGE: [u8; 10] = [16, 255, 255, 255, 255, 16, 255, 255, 255, 255];
+
+/// Puts other bytes in the place of the slice at the end.
+fn end_in(case: &mut Case, bytes: &[u8]) {
+    let slice = case.description.len() - 2;
+    case.description.truncate(slice);
+    case.description.extend(bytes);
+}
+
+/// Of a struct that ends in a slice of a scalar: most are met at the end.
+pub const READ: &[Spoil] = &[
+    (33, |c| c.description.truncate(c.description.len() - 1)),
+    (34, |c| end_in(c, &[18, 9])),
+    (35, |c| end_in(c, &[18; 17])),
+    (36, |c| c.description.insert(0, 18)),
+    (37, |c| end_in(c, &[&HUGE[..], &[1]].concat())),
+    (38, |c| c.description.push(0)),
+    (6, |c| c.description[1] = 31),
+    (7, |c| {
+        c.description[3] += 1;
+        c.description.push(0);
+    }),
+];
+
 // ---- short records ----
 
 /// Of the record of a trailing layout in its short form: kind, spare bytes and power, then that of a fixed one with a

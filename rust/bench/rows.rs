@@ -1,9 +1,9 @@
 //! The table of functions: how each side of one is called on a case.
 
-use super::cases::{cases, counts, gained, lists, moves, Case, Set};
+use super::cases::{cases, counts, descriptions, gained, lists, moves, Case, Set};
 use super::exports::*;
 use super::refused::*;
-use super::{full, go_through, plain, tested};
+use super::{describe, full, go_through, plain, tested};
 use crate::RoundingAlignAndPhase;
 use core::cell::Cell;
 
@@ -230,6 +230,16 @@ pub fn rows() -> Vec<Row> {
                 f(lent, record.as_ptr(), record.len(), c.packing)
             }));
             plain::compose as fn(_, _, &[_]) -> _, f(None, c.packing_n, &c.list_n)),
+        row!("read, 10 members", |set| descriptions(set, 10), READ, f, c =>
+            [lukaripe_read, describe::read], unsafe { f(c.description.as_ptr(), c.description.len()) };),
+        row!("read, 254 members", |set| descriptions(set, 254), READ, f, c =>
+            [lukaripe_read, describe::read], unsafe { f(c.description.as_ptr(), c.description.len()) };),
+        row!("read, 15 deep", |set| descriptions(set, 0), READ, f, c =>
+            [lukaripe_read, describe::read], unsafe { f(c.description.as_ptr(), c.description.len()) };),
+        row!("for_array", cases, ARRAY, f, c =>
+            [lukaripe_for_array, tested::for_array], f(c.fixed, c.code);),
+        row!("for_slice_of", cases, SLICE, f, c =>
+            [lukaripe_for_slice_of, tested::for_slice_of], f(c.fixed);),
         row!("decode_short", cases, DECODE_SHORT, f, c =>
             [lukaripe_decode_short, tested::decode_short], unsafe { f(c.short.as_ptr(), c.short.len()) };),
         row!("encode_short", cases, ENCODE_SHORT, f, c =>

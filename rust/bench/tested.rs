@@ -140,7 +140,7 @@ pub fn told<const N: usize>(says: Says<N>) -> Told<N> {
 }
 
 #[inline]
-fn told_at(says: Result<(DstLayout, u64), (u64, u64)>) -> Told<7> {
+pub fn told_at(says: Result<(DstLayout, u64), (u64, u64)>) -> Told<7> {
     match says {
         Ok((layout, modifier)) => {
             let [align, kind, size_base, offset, elem_size, word] = with_modifier(layout, modifier);
@@ -289,6 +289,24 @@ functions! {
     requires_static_padding(own: Layout) -> 1 { yes_or_no(layout(own)?.requires_static_padding()) }
     requires_dynamic_padding(own: Layout) -> 1 { yes_or_no(layout(own)?.requires_dynamic_padding()) }
 
+    for_array(elem: Layout, count: u64) -> 6 {
+        let array = layout(elem)?;
+        let SizeInfo::Sized { size } = array.size_info else { return Err(36) };
+        let size = size.checked_mul(count as usize).ok_or(37u64)?;
+        Ok(with_modifier(DstLayout { size_info: SizeInfo::Sized { size }, ..array }, modifier(elem)))
+    }
+    for_slice_of(elem: Layout) -> 6 {
+        let own = layout(elem)?;
+        let SizeInfo::Sized { size } = own.size_info else { return Err(36) };
+        let tail = TrailingSliceLayout {
+            offset: 0,
+            elem_size: size,
+            size_base: 0,
+            size_rounding_align_and_phase: RoundingAlignAndPhase(own.align),
+        };
+        let size_info = SizeInfo::SliceDst(tail);
+        Ok(with_modifier(DstLayout { size_info, statically_shallow_unpadded: true, ..own }, modifier(elem)))
+    }
     scalar(code: u64) -> 6 {
         if code > 8 {
             return Err(23);
@@ -346,7 +364,7 @@ const fn unpadded<T>() -> DstLayout {
     }
 }
 
-const SCALARS: [DstLayout; 9] = [
+pub const SCALARS: [DstLayout; 9] = [
     unpadded::<u8>(),
     unpadded::<u16>(),
     unpadded::<u32>(),
