@@ -1,5 +1,5 @@
-//! The reader of descriptions as one would write it in Rust, with the export's refusals and the same answer: a slice and
-//! a place, and a function for each form, which call each other. Beside it the descriptions to read.
+//! The reader of descriptions as one would write it in Rust, with the export's refusals and the same answer: a slice
+//! and a place, and a function for each form, which call each other. Beside it the descriptions to read.
 
 use super::cases::Set;
 use super::exports::Told;
