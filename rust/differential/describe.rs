@@ -178,6 +178,9 @@ fn small(level: u64) -> Vec<Vec<u64>> {
 
 /// A description as a template has it, in half of the cases damaged.
 fn draw(random: &mut Random) -> Vec<u8> {
+    if random.one_in(16) {
+        return refused(random);
+    }
     let mut out = Vec::new();
     match random.below(16) {
         0..=7 => {
@@ -316,6 +319,21 @@ fn huge(random: &mut Random, out: &mut Vec<u8>) {
             _ => out.push(0),
         }
     }
+}
+
+/// A struct that is not composed, inside a few slices: 6, 7, 8 and 9 seldom come at each place else.
+fn refused(random: &mut Random) -> Vec<u8> {
+    let array = array_head(MOST_COUNT);
+    let huge = [&array[..], &array, &[0]].concat();
+    // Its members end at the greatest number.
+    let greatest = [&huge[..], &array, &[0], &array, &[0]].concat();
+    let refused = match random.below(4) {
+        0 => vec![STRUCT, 31, 0, 1, 0],
+        1 => vec![STRUCT, 0, 0, 2, SLICE, 0, 0],
+        2 => [&[STRUCT, 2, 0, 3][..], &greatest].concat(),
+        _ => [&[STRUCT, 0, 0, 2][..], &huge, &huge].concat(),
+    };
+    [vec![SLICE; random.below(9) as usize], refused].concat()
 }
 
 /// A struct of many members.
