@@ -491,12 +491,12 @@ enum { LUKARIPE_DESCRIPTION_DEPTH = 16 };
 
 /* The layout of the type that the bytes describe, types inside types. A description is one part: a scalar code, alone; 16,
  * the count as four bytes, little-endian, and a part, which is the element, an array; 17, the alignment and the packing as one
- * byte each (0: none is asked for, else 1 + the power of two), the member count as one byte and so many parts, a repr(C)
- * struct; 18 and a part, a slice. The layout is the one that lukaripe_for_repr_c_struct, lukaripe_for_array and
- * lukaripe_for_slice_of give of the layouts of the parts inside. An alignment and a packing may both be asked for, as there.
+ * byte each (0: none is asked for; else 1 + k for 2^k), the member count as one byte and so many parts, a repr(C) struct; 18
+ * and a part, a slice. The layout is the one that lukaripe_for_repr_c_struct, lukaripe_for_array and lukaripe_for_slice_of give
+ * of the layouts of the parts inside. An alignment and a packing may both be asked for, as there.
  * Reading stops at the first refusal that it meets: a member is added once its last byte is read, closing padding comes after
  * the last one, and an element is judged once it is read. Refusals, each with its place: 33 at the first byte that is missing;
- * 34 at a tag that is unknown or at a power above 63; 35 at the tag that opens the seventeenth part; 36 and 37, as of the two
+ * 34 at a tag that is unknown or at a power k above 63; 35 at the tag that opens the seventeenth part; 36 and 37, as of the two
  * functions above, at the tag of the array or slice; 6, 7, 8, 9, as of lukaripe_for_repr_c_struct, at the tag of the struct; 38
  * at the first byte that is left over. */
 LUKARIPE_USE_RESULT lukaripe_composed lukaripe_read(const uint8_t *description, size_t len);

@@ -26,8 +26,8 @@ impl Layout {
     /// - the code of a [`Scalar`], alone;
     /// - [`TAG_ARRAY`], the count as four bytes, little-endian, and a part, which is the element: an array, as
     ///   [`Layout::for_array`] makes it;
-    /// - [`TAG_STRUCT`], the alignment and the packing as one byte each (0: none is asked for, else 1 + the power of
-    ///   two), the member count as one byte, and so many parts: a struct, as [`for_repr_c_struct`] makes it;
+    /// - [`TAG_STRUCT`], the alignment and the packing as one byte each (0: none is asked for; else 1 + k for 2^k), the
+    ///   member count as one byte, and so many parts: a struct, as [`for_repr_c_struct`] makes it;
     /// - [`TAG_SLICE`] and a part: a slice, as [`Layout::for_slice_of`] makes it.
     ///
     /// ```
