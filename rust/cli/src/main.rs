@@ -1,12 +1,16 @@
 //! The command-line program over the wrapper crate. The first word names a command, and each command has a file.
 
 mod bar;
+mod describe;
+mod description;
+mod files;
 mod layout;
 mod member;
 mod record;
 mod scale;
 mod svg;
 mod table;
+mod text;
 mod words;
 
 use std::ffi::OsString;
@@ -33,7 +37,10 @@ struct Command {
     run: fn(Vec<String>) -> Result<()>,
 }
 
-const COMMANDS: &[Command] = &[Command { name: "layout", help: include_str!("../help/layout.txt"), run: layout::run }];
+const COMMANDS: &[Command] = &[
+    Command { name: "layout", help: include_str!("../help/layout.txt"), run: layout::run },
+    Command { name: "describe", help: include_str!("../help/describe.txt"), run: describe::run },
+];
 
 fn main() -> ExitCode {
     let (status, said) = match begin(std::env::args_os().skip(1).collect()) {
@@ -70,8 +77,12 @@ fn is_help(word: &str) -> bool {
 
 /// Writes to standard output, all of it at once.
 pub fn print(text: &str) -> Result<()> {
+    print_bytes(text.as_bytes())
+}
+
+pub fn print_bytes(bytes: &[u8]) -> Result<()> {
     let mut out = io::stdout().lock();
-    out.write_all(text.as_bytes()).and_then(|()| out.flush()).map_err(|error| match error.kind() {
+    out.write_all(bytes).and_then(|()| out.flush()).map_err(|error| match error.kind() {
         ErrorKind::BrokenPipe => End::Unread,
         _ => End::Fail(format!("standard output: {}", cause(&error))),
     })

@@ -1,16 +1,20 @@
 //! Members, as words name them and as records hold them.
 
+use crate::record::PlacedMember;
 use crate::words::{number, quoted, NoNumber};
-use crate::{cause, End, Result};
+use crate::{End, Result};
 use lukaripe::{Layout, Refusal, Scalar, RECORD_LENGTH};
-use std::fs::File;
-use std::io::{self, ErrorKind, Read};
-use std::path::Path;
 
 /// A member before it is placed.
 pub struct Member {
     pub name: String,
     pub layout: Layout,
+}
+
+impl Member {
+    pub fn placed(self, place: u64, gap: u64) -> PlacedMember {
+        PlacedMember { name: self.name, layout: self.layout, place, gap, inner: Vec::new() }
+    }
 }
 
 /// What a word names, before the library is asked for its layout.
@@ -27,7 +31,7 @@ enum Form {
 }
 
 /// In the order of their codes.
-const SCALARS: [&str; 9] = ["u8", "u16", "u32", "u64", "f32", "f64", "char", "bool", "usize"];
+pub const SCALARS: [&str; 9] = ["u8", "u16", "u32", "u64", "f32", "f64", "char", "bool", "usize"];
 const SIGNED: [&str; 5] = ["i8", "i16", "i32", "i64", "isize"];
 
 impl Named {
@@ -44,11 +48,8 @@ impl Named {
         }
         let run = word.strip_prefix('[').and_then(|rest| rest.strip_suffix(']'));
         let inner = run.unwrap_or(word);
-        if SIGNED.contains(&inner) {
-            let why = "signed integers have no code";
-            let other = word.replacen('i', "u", 1);
-            let same = "which has the same size and alignment";
-            return Err(End::Wrong(format!("{} is no member: {why}; use {other}, {same}", quoted(given))));
+        if let Some(other) = other_than(inner, word) {
+            return Err(End::Wrong(format!("{} is no member: {other}", quoted(given))));
         }
         let numbers = |word: &str| match number(word) {
             Ok(value) => Ok(value),
@@ -87,6 +88,13 @@ impl Named {
     }
 }
 
+/// Of a signed integer what to use instead, in a word that has it.
+pub fn other_than(scalar: &str, word: &str) -> Option<String> {
+    let other = word.replacen('i', "u", 1);
+    let said = format!("signed integers have no code; use {other}, which has the same size and alignment");
+    SIGNED.contains(&scalar).then_some(said)
+}
+
 /// The members of words. What the library refuses is said of its member.
 pub fn members(named: Vec<Named>) -> Result<Vec<Member>> {
     let one = |(index, named): (usize, Named)| match named.layout() {
@@ -107,32 +115,6 @@ pub fn member_at(index: usize, name: Option<&str>) -> String {
 /// The line of a refusal.
 pub fn refused(what: &str, refusal: Refusal) -> String {
     format!("{what}: {refusal} (refusal {})", refusal.number())
-}
-
-/// As much as is read of a file. A list of records has an end, and what has none must not fill the memory.
-const MOST: u64 = 1 << 24;
-
-/// The bytes of a file of records, or of standard input.
-pub fn read_records(file: &str) -> Result<Vec<u8>> {
-    let (mut source, called): (Box<dyn Read>, _) = match file {
-        "-" => (Box::new(io::stdin()), "standard input".to_string()),
-        _ if Path::new(file).is_dir() => return Err(End::Fail(format!("{} is a directory", quoted(file)))),
-        _ => (Box::new(File::open(file).map_err(|error| End::Fail(unopened(file, &error)))?), quoted(file)),
-    };
-    let mut bytes = Vec::new();
-    match source.by_ref().take(MOST + 1).read_to_end(&mut bytes) {
-        Err(error) => Err(End::Fail(format!("{called}: {}", cause(&error)))),
-        Ok(_) if bytes.len() as u64 > MOST => Err(End::Fail(format!("{called} has more than {MOST} bytes"))),
-        Ok(_) => Ok(bytes),
-    }
-}
-
-fn unopened(file: &str, error: &io::Error) -> String {
-    match error.kind() {
-        ErrorKind::NotFound => format!("no file {}", quoted(file)),
-        ErrorKind::PermissionDenied => format!("{} may not be read", quoted(file)),
-        _ => format!("{}: {}", quoted(file), cause(error)),
-    }
 }
 
 /// The members of records that the library has accepted.

@@ -7,7 +7,7 @@ use lukaripe::{Layout, Placed, Refusal};
 use std::num::NonZeroU64;
 
 /// What a composition is asked for beside its members.
-#[derive(Clone, Copy, Default)]
+#[derive(Clone, Copy, Debug, Default, PartialEq, Eq)]
 pub struct Asked {
     pub align: Option<NonZeroU64>,
     pub packed: Option<NonZeroU64>,
@@ -18,10 +18,53 @@ pub struct PlacedMember {
     pub layout: Layout,
     pub place: u64,
     pub gap: u64,
+    /// What it holds, where that is known, in the order of the places.
+    pub inner: Vec<Inner>,
+}
+
+/// A line of what a member holds, types inside types.
+pub struct Inner {
+    /// How deep it stands: 1 for what the member itself holds.
+    pub depth: usize,
+    /// The indices from the outermost member on, as `2.0`; `2[0].1` is a member of a first element. Closing padding has
+    /// none.
+    pub path: String,
+    pub name: String,
+    /// In the whole.
+    pub place: u128,
+    pub size: String,
+    /// Alignment and gap before it, of a member.
+    pub align_and_gap: Option<(u64, u64)>,
+}
+
+impl Inner {
+    /// A member of a record inside, which stands at this place of the whole.
+    pub fn member(depth: usize, path: String, place: u128, member: &PlacedMember) -> Inner {
+        let align_and_gap = Some((member.layout.align, member.gap));
+        Inner { depth, path, name: member.name.clone(), place, size: member.size(), align_and_gap }
+    }
+
+    /// The closing padding of a record inside.
+    pub fn closing(depth: usize, place: u128, bytes: u128) -> Inner {
+        let (path, name) = (String::new(), "closing padding".to_string());
+        Inner { depth, path, name, place, size: bytes.to_string(), align_and_gap: None }
+    }
+}
+
+impl PlacedMember {
+    /// The size of a member; of one that ends in a run of elements, that of an element, and what comes before the run.
+    pub fn size(&self) -> String {
+        match (self.layout.size(), self.layout.trailing()) {
+            (Some(size), _) => size.to_string(),
+            (None, Some(run)) if run.offset > 0 => format!("{} + {} each", run.offset, run.elem_size),
+            (None, run) => format!("{} each", run.map_or(0, |run| run.elem_size)),
+        }
+    }
 }
 
 pub struct Record {
-    pub asked: Asked,
+    /// What it is.
+    pub heading: String,
     pub whole: Layout,
     pub members: Vec<PlacedMember>,
 }
@@ -74,10 +117,14 @@ pub const ELEMENTS: u64 = 2;
 impl Record {
     pub fn new(asked: Asked, placed: Placed, members: Vec<Member>) -> Record {
         let places = placed.places.into_iter().zip(placed.gaps);
-        let members = members.into_iter().zip(places);
-        let members =
-            members.map(|(member, (place, gap))| PlacedMember { name: member.name, layout: member.layout, place, gap });
-        Record { asked, whole: placed.layout, members: members.collect() }
+        let members = members.into_iter().zip(places).map(|(member, (place, gap))| member.placed(place, gap));
+        let members: Vec<PlacedMember> = members.collect();
+        Record { heading: heading(asked, members.len()), whole: placed.layout, members }
+    }
+
+    /// What is no struct, as a record that has nothing else.
+    pub fn of_one(heading: String, member: Member) -> Record {
+        Record { heading, whole: member.layout, members: vec![member.placed(0, 0)] }
     }
 
     /// Where the last member ends, of a fixed whole.
@@ -88,6 +135,12 @@ impl Record {
     /// The closing padding of a fixed whole: its size less the end of the last member.
     pub fn closing(&self) -> Option<u128> {
         self.whole.size().map(|size| u128::from(size).saturating_sub(self.end()))
+    }
+
+    /// The closing padding, where there is some.
+    pub fn closing_piece(&self) -> Option<Piece> {
+        let bytes = self.closing().filter(|bytes| *bytes > 0)?;
+        Some(Piece { part: Part::Closing, start: self.end(), bytes })
     }
 
     /// Whether the size hangs on a count of elements.
@@ -111,7 +164,7 @@ impl Record {
             };
             pieces.push(Piece { part, start, bytes });
         }
-        pieces.push(Piece { part: Part::Closing, start: self.end(), bytes: self.closing().unwrap_or(0) });
+        pieces.extend(self.closing_piece());
         pieces.retain(|piece| piece.bytes > 0);
         pieces
     }
@@ -150,18 +203,6 @@ impl Record {
         (0..=ELEMENTS).map(at).collect()
     }
 
-    /// The `repr` attribute, and how many members there are.
-    pub fn heading(&self) -> String {
-        let align = self.asked.align.map(|align| format!(", align({align})")).unwrap_or_default();
-        let packed = self.asked.packed.map(|packed| format!(", packed({packed})")).unwrap_or_default();
-        let count = match self.members.len() {
-            0 => "no members".to_string(),
-            1 => "1 member".to_string(),
-            count => format!("{count} members"),
-        };
-        format!("repr(C{align}{packed}), {count}")
-    }
-
     /// The whole's numbers and marks in words.
     pub fn summary(&self) -> String {
         let align = self.whole.align;
@@ -173,6 +214,21 @@ impl Record {
             }
         };
         format!("alignment {align}, {size}; {}", marks(self.whole))
+    }
+}
+
+/// The `repr` attribute, and how many members there are.
+fn heading(asked: Asked, members: usize) -> String {
+    let align = asked.align.map(|align| format!(", align({align})")).unwrap_or_default();
+    let packed = asked.packed.map(|packed| format!(", packed({packed})")).unwrap_or_default();
+    format!("repr(C{align}{packed}), {}", members_said(members))
+}
+
+pub fn members_said(members: usize) -> String {
+    match members {
+        0 => "no members".to_string(),
+        1 => "1 member".to_string(),
+        count => format!("{count} members"),
     }
 }
 

@@ -3,12 +3,7 @@
 use crate::record::{notes, Part, Piece, Record, Sort, ELEMENTS};
 use crate::scale::{fold, share, Fragment, Room, Shared};
 use crate::table::{letters, shortened, Table};
-use crate::words::quoted;
-use crate::{cause, End, Result};
 use std::fmt::Write;
-use std::io::{self, ErrorKind};
-use std::path::{Path, PathBuf};
-use std::{fs, process};
 
 const MARGIN: f64 = 24.0;
 /// The least width of the picture without its margins, which is that of a line of the bar.
@@ -77,7 +72,7 @@ impl Drawing {
 /// The picture of a record.
 pub fn picture(record: &Record) -> String {
     let mut drawing = Drawing { text: String::new(), down: MARGIN + 12.0, width: MARGIN + LINE as f64 };
-    drawing.say(MARGIN, drawing.down, "heading", 10.0, &record.heading());
+    drawing.say(MARGIN, drawing.down, "heading", 10.0, &record.heading);
     drawing.down += 2.0;
     drawing.line(&record.summary());
     drawing.down += 16.0;
@@ -101,7 +96,7 @@ pub fn picture(record: &Record) -> String {
         "<svg xmlns=\"http://www.w3.org/2000/svg\" role=\"img\" width=\"{width}\" height=\"{height}\" \
          viewBox=\"0 0 {width} {height}\">"
     );
-    let _ = writeln!(text, "<title>{}</title>", escaped(&format!("Layout of {}", record.heading())));
+    let _ = writeln!(text, "<title>{}</title>", escaped(&format!("Layout of {}", record.heading)));
     let _ = writeln!(text, "<desc>{}</desc>", escaped(&format!("{}: {}", names.join(", "), record.summary())));
     let _ = write!(text, "<style>\n{STYLE}</style>\n<defs>\n{PATTERNS}</defs>\n");
     let _ = writeln!(text, "<rect class=\"ground\" width=\"{width}\" height=\"{height}\"/>");
@@ -266,11 +261,14 @@ fn table(drawing: &mut Drawing, table: &Table) {
         drawing.down += TEXT_LINE;
         let mut x = MARGIN;
         for (column, cell) in row.iter().enumerate() {
-            let indent = if table.heads[column].1 { 0 } else { widths[column] - letters(cell) };
+            let indent = match table.heads[column].1 {
+                true => letters(cell) - letters(cell.trim_start()),
+                false => widths[column] - letters(cell),
+            };
             if !cell.is_empty() {
                 let class = if at == 0 { "head" } else { "" };
                 let start = ((x + indent as f64 * LETTER) * 10.0).round() / 10.0;
-                drawing.say(start, drawing.down, class, LETTER, cell);
+                drawing.say(start, drawing.down, class, LETTER, cell.trim_start());
             }
             x += (widths[column] + 2) as f64 * LETTER;
         }
@@ -290,31 +288,6 @@ fn escaped(text: &str) -> String {
         }
     }
     safe
-}
-
-/// Writes a file whole or not at all: under another name beside it, which then becomes its own. What is no file, as a
-/// pipe, is written to as it is.
-pub fn write(file: &str, text: &str) -> Result<()> {
-    let written = match fs::metadata(file) {
-        Ok(found) if found.is_dir() => return Err(End::Fail(format!("{} is a directory", quoted(file)))),
-        Ok(found) if !found.is_file() => fs::write(file, text),
-        Ok(found) if found.permissions().readonly() => Err(ErrorKind::PermissionDenied.into()),
-        // Through a link, which stays.
-        Ok(_) => fs::canonicalize(file).and_then(|path| replace(&path, text)),
-        Err(_) => replace(Path::new(file), text),
-    };
-    written.map_err(|error| End::Fail(format!("{} cannot be written: {}", quoted(file), cause(&error))))
-}
-
-fn replace(path: &Path, text: &str) -> io::Result<()> {
-    let mut name = path.file_name().ok_or(ErrorKind::InvalidInput)?.to_os_string();
-    name.push(format!(".{}.new", process::id()));
-    let beside: PathBuf = path.with_file_name(name);
-    let done = fs::write(&beside, text).and_then(|()| fs::rename(&beside, path));
-    if done.is_err() {
-        let _ = fs::remove_file(&beside);
-    }
-    done
 }
 
 #[cfg(test)]

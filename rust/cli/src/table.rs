@@ -1,6 +1,6 @@
 //! Tables: of the members, and of the sizes at some counts.
 
-use crate::record::{PlacedMember, Record};
+use crate::record::{Inner, PlacedMember, Record};
 use std::fmt::Write;
 
 pub struct Table {
@@ -15,14 +15,15 @@ const LONGEST: usize = 40;
 impl Table {
     pub fn members(record: &Record) -> Table {
         let row = |(index, member): (usize, &PlacedMember)| {
-            vec![
+            let outer = vec![
                 index.to_string(),
                 shortened(&member.name, LONGEST),
                 member.place.to_string(),
-                size(member),
+                member.size(),
                 member.layout.align.to_string(),
                 member.gap.to_string(),
-            ]
+            ];
+            [outer].into_iter().chain(member.inner.iter().map(inner_row)).collect::<Vec<_>>()
         };
         let heads = &[
             ("member", false),
@@ -32,7 +33,7 @@ impl Table {
             ("align", false),
             ("gap before", false),
         ];
-        Table { heads, rows: record.members.iter().enumerate().map(row).collect() }
+        Table { heads, rows: record.members.iter().enumerate().flat_map(row).collect() }
     }
 
     /// The sizes of a whole that ends in a run of elements.
@@ -84,13 +85,12 @@ impl Table {
     }
 }
 
-/// The size of a member; of one that ends in a run of elements, that of an element, and what comes before the run.
-fn size(member: &PlacedMember) -> String {
-    match (member.layout.size(), member.layout.trailing()) {
-        (Some(size), _) => size.to_string(),
-        (None, Some(run)) if run.offset > 0 => format!("{} + {} each", run.offset, run.elem_size),
-        (None, run) => format!("{} each", run.map_or(0, |run| run.elem_size)),
-    }
+/// What a member holds is indented, by two letters for each that holds it.
+fn inner_row(inner: &Inner) -> Vec<String> {
+    let (align, gap) =
+        inner.align_and_gap.map_or_else(Default::default, |(align, gap)| (align.to_string(), gap.to_string()));
+    let name = "  ".repeat(inner.depth) + &shortened(&inner.name, LONGEST);
+    vec![inner.path.clone(), name, inner.place.to_string(), inner.size.clone(), align, gap]
 }
 
 pub fn letters(text: &str) -> usize {

@@ -1,0 +1,336 @@
+//! Descriptions of types: their parts, in the order of their bytes, and what the library makes of them.
+
+use crate::member::{Member, SCALARS};
+use crate::record::{members_said, Asked, Inner, Record};
+use lukaripe::{for_repr_c_struct_places, Layout, Refused, TAG_ARRAY, TAG_SLICE, TAG_STRUCT};
+use std::num::NonZeroU64;
+use std::ops::Range;
+
+/// The most members of a struct: their number is a byte.
+pub const MEMBERS: u8 = u8::MAX;
+
+/// What the head of a part says.
+#[derive(Clone, Copy, Debug, PartialEq, Eq)]
+pub enum Form {
+    /// By its code.
+    Scalar(usize),
+    Array(u32),
+    /// With the number of its members.
+    Struct(Asked, u8),
+    Slice,
+}
+
+impl Form {
+    fn head(self) -> Vec<u8> {
+        let power = |asked: Option<NonZeroU64>| asked.map_or(0, |asked| 1 + asked.trailing_zeros() as u8);
+        match self {
+            Form::Scalar(code) => vec![code as u8],
+            Form::Array(count) => [&[TAG_ARRAY][..], &count.to_le_bytes()].concat(),
+            Form::Struct(asked, members) => vec![TAG_STRUCT, power(asked.align), power(asked.packed), members],
+            Form::Slice => vec![TAG_SLICE],
+        }
+    }
+
+    /// What the head says that the bytes begin with. Of a description that the library accepts every part has one.
+    fn read(bytes: &[u8]) -> Option<Form> {
+        let asked = |power: u8| power.checked_sub(1).and_then(|power| NonZeroU64::new(1 << power));
+        match *bytes {
+            [TAG_ARRAY, a, b, c, d, ..] => Some(Form::Array(u32::from_le_bytes([a, b, c, d]))),
+            [TAG_STRUCT, align, packed, members, ..] => {
+                Some(Form::Struct(Asked { align: asked(align), packed: asked(packed) }, members))
+            }
+            [TAG_SLICE, ..] => Some(Form::Slice),
+            [code, ..] if usize::from(code) < SCALARS.len() => Some(Form::Scalar(code.into())),
+            _ => None,
+        }
+    }
+
+    /// How many parts it holds.
+    fn holds(self) -> usize {
+        match self {
+            Form::Scalar(_) => 0,
+            Form::Array(_) | Form::Slice => 1,
+            Form::Struct(_, members) => members.into(),
+        }
+    }
+}
+
+pub struct Part {
+    pub name: Option<String>,
+    pub form: Form,
+}
+
+/// A type and the types inside it.
+pub struct Description {
+    pub bytes: Vec<u8>,
+    /// In the order of their heads. The first is the whole, and what a part holds follows it.
+    parts: Vec<Part>,
+    /// Where the head of each starts, and where the last ends.
+    places: Vec<usize>,
+    /// Of each the part behind it and all that it holds.
+    next: Vec<usize>,
+}
+
+impl Description {
+    /// Of parts that are as many as they say that they hold.
+    pub fn new(parts: Vec<Part>) -> Description {
+        let mut bytes = Vec::new();
+        let mut places = vec![0];
+        for part in &parts {
+            bytes.extend(part.form.head());
+            places.push(bytes.len());
+        }
+        let mut next = vec![0; parts.len()];
+        for (at, part) in parts.iter().enumerate().rev() {
+            next[at] = (0..part.form.holds()).fold(at + 1, |inner, _| next[inner]);
+        }
+        Description { bytes, parts, places, next }
+    }
+
+    /// Of bytes that the library accepts.
+    pub fn of_accepted(bytes: &[u8]) -> Description {
+        let mut parts = Vec::new();
+        let mut place = 0;
+        while let Some(form) = Form::read(&bytes[place..]) {
+            parts.push(Part { name: None, form });
+            place += form.head().len();
+        }
+        Description::new(parts)
+    }
+
+    /// What the part is whose tag is at this place.
+    pub fn sort_at(&self, place: u64) -> &'static str {
+        let at = self.places.iter().position(|start| *start as u64 == place);
+        match at.and_then(|at| self.parts.get(at)).map(|part| part.form) {
+            Some(Form::Struct(..)) => "the struct",
+            Some(Form::Array(_)) => "the array",
+            Some(Form::Slice) => "the slice",
+            Some(Form::Scalar(_)) | None => "the type",
+        }
+    }
+
+    /// The layout of the whole.
+    pub fn layout(&self) -> Result<Layout, Refused> {
+        Layout::read(&self.bytes)
+    }
+
+    /// The record of the whole: a struct's members, or what is no struct as the one member.
+    pub fn record(&self) -> Result<Record, Refused> {
+        match self.parts[0].form {
+            Form::Struct(asked, _) => self.record_of(0, asked),
+            _ => {
+                let whole = self.layout()?;
+                let member = Member { name: self.name(0), layout: whole };
+                Ok(Record::of_one(self.type_name(0), member))
+            }
+        }
+    }
+
+    /// The record of the whole, with all that its members hold.
+    pub fn record_with_inner(&self) -> Result<Record, Refused> {
+        let mut record = self.record()?;
+        let parts = match self.parts[0].form {
+            Form::Struct(..) => self.members(0),
+            _ => vec![0],
+        };
+        for (index, (member, part)) in record.members.iter_mut().zip(parts).enumerate() {
+            self.add_inner(part, member.place.into(), &index.to_string(), 1, &mut member.inner)?;
+        }
+        Ok(record)
+    }
+
+    /// What a part at a place of the whole holds: a struct its members; an array or slice, that has one, what its first
+    /// element holds.
+    fn add_inner(
+        &self,
+        part: usize,
+        place: u128,
+        path: &str,
+        depth: usize,
+        inner: &mut Vec<Inner>,
+    ) -> Result<(), Refused> {
+        let asked = match self.parts[part].form {
+            Form::Scalar(_) | Form::Array(0) => return Ok(()),
+            Form::Array(_) | Form::Slice => {
+                return self.add_inner(part + 1, place, &format!("{path}[0]"), depth, inner);
+            }
+            Form::Struct(asked, _) => asked,
+        };
+        let record = self.record_of(part, asked)?;
+        let closing = record.closing_piece();
+        for (index, (member, part)) in record.members.into_iter().zip(self.members(part)).enumerate() {
+            let (path, place) = (format!("{path}.{index}"), place + u128::from(member.place));
+            inner.push(Inner::member(depth, path.clone(), place, &member));
+            self.add_inner(part, place, &path, depth + 1, inner)?;
+        }
+        inner.extend(closing.map(|closing| Inner::closing(depth, place + closing.start, closing.bytes)));
+        Ok(())
+    }
+
+    /// The record of a struct alone: its members by their own layouts.
+    fn record_of(&self, part: usize, asked: Asked) -> Result<Record, Refused> {
+        let member =
+            |part: usize| Ok(Member { name: self.name(part), layout: Layout::read(&self.bytes[self.span(part)])? });
+        let members = self.members(part).into_iter().map(member).collect::<Result<Vec<_>, Refused>>()?;
+        let layouts: Vec<Layout> = members.iter().map(|member| member.layout).collect();
+        Ok(Record::new(asked, for_repr_c_struct_places(asked.align, asked.packed, &layouts)?, members))
+    }
+
+    /// The bytes of a part and of all that it holds.
+    fn span(&self, part: usize) -> Range<usize> {
+        self.places[part]..self.places[self.next[part]]
+    }
+
+    /// The parts that a part holds.
+    fn members(&self, part: usize) -> Vec<usize> {
+        let each = std::iter::successors(Some(part + 1), |held| self.next.get(*held).copied());
+        each.take(self.parts[part].form.holds()).collect()
+    }
+
+    /// The name of a part, or its type where it has none.
+    fn name(&self, part: usize) -> String {
+        self.parts[part].name.clone().unwrap_or_else(|| self.type_name(part))
+    }
+
+    /// A type in few words: a struct without its members.
+    fn type_name(&self, part: usize) -> String {
+        match self.parts[part].form {
+            Form::Scalar(code) => SCALARS[code].to_string(),
+            Form::Array(count) => format!("[{}; {count}]", self.type_name(part + 1)),
+            Form::Slice => format!("[{}]", self.type_name(part + 1)),
+            Form::Struct(asked, _) => {
+                let align = asked.align.map(|align| format!("align {align}"));
+                let packed = asked.packed.map(|packed| format!("packed {packed}"));
+                let mods: Vec<String> = [align, packed].into_iter().flatten().collect();
+                match mods.is_empty() {
+                    true => "struct".to_string(),
+                    false => format!("struct({})", mods.join(", ")),
+                }
+            }
+        }
+    }
+
+    /// The bytes in hex: a line for each head, and what it is.
+    pub fn listing(&self) -> String {
+        let mut text = String::new();
+        // Where the parts end that are open.
+        let mut open: Vec<usize> = Vec::new();
+        for (at, part) in self.parts.iter().enumerate() {
+            while open.last().is_some_and(|end| *end == at) {
+                open.pop();
+            }
+            let name = part.name.as_ref().map(|name| format!("{name}: ")).unwrap_or_default();
+            let count = match part.form {
+                Form::Struct(_, members) => format!(", {}", members_said(members.into())),
+                _ => String::new(),
+            };
+            let head = hex(&self.bytes[self.places[at]..self.places[at + 1]]);
+            let indent = "  ".repeat(open.len());
+            text += &format!("{head:14}  {indent}{name}{}{count}\n", self.type_name(at));
+            open.push(self.next[at]);
+        }
+        text
+    }
+}
+
+/// Bytes in hex, with spaces between them.
+pub fn hex(bytes: &[u8]) -> String {
+    bytes.iter().map(|byte| format!("{byte:02x}")).collect::<Vec<_>>().join(" ")
+}
+
+#[cfg(test)]
+mod tests {
+    use super::*;
+    use crate::text::Typed;
+
+    const TEXTS: [&str; 14] = [
+        "u8",
+        "[u16; 4]",
+        "[u16]",
+        "struct {}",
+        "struct { u8, u64, u16 }",
+        "struct(align 16) { u8, u64 }",
+        "struct(packed 2) { u8, u64, struct { u8, u32 } }",
+        "struct(align 32, packed 4) { u8, struct(align 16) { u8 }, [u64] }",
+        "struct { u64, [u16; 4], struct { u8, u32 }, [u8] }",
+        "struct { u8, struct { u16, struct { u32, [struct { u8, u16 }] } } }",
+        "[struct { u8, [struct { u64, u8 }; 3], u8 }; 5]",
+        "[[struct { u8, u16 }; 0]; 3]",
+        "struct { [struct(align 8) {}; 7], [u8; 0] }",
+        "[struct(align 9223372036854775808) {}; 2]",
+    ];
+
+    fn described(text: &str) -> Description {
+        Typed::read(text).unwrap_or_else(|_| panic!("{text} is read")).described
+    }
+
+    #[test]
+    fn bytes_are_read_back() {
+        for text in TEXTS {
+            let bytes = described(text).bytes;
+            assert_eq!(Description::of_accepted(&bytes).bytes, bytes, "{text}");
+        }
+    }
+
+    #[test]
+    fn the_whole_is_as_it_is_read() {
+        for text in TEXTS {
+            let described = described(text);
+            assert_eq!(described.record_with_inner().map(|record| record.whole), described.layout(), "{text}");
+        }
+    }
+
+    #[test]
+    fn what_members_hold_has_its_places() {
+        let text = "struct { u8, a: [struct { u32, b: struct { u16, u8 } }; 2], [struct { u8, u16 }] }";
+        let record = described(text).record_with_inner().unwrap();
+        let said = |inner: &Inner| {
+            let gap = inner.align_and_gap.map(|(_, gap)| gap);
+            (inner.depth, inner.path.clone(), inner.name.clone(), inner.place, inner.size.clone(), gap)
+        };
+        let row = |depth, path: &str, name: &str, place, size: &str, gap| {
+            (depth, path.to_string(), name.to_string(), place, size.to_string(), gap)
+        };
+        assert!(record.members[0].inner.is_empty());
+        assert_eq!(
+            record.members[1].inner.iter().map(said).collect::<Vec<_>>(),
+            [
+                row(1, "1[0].0", "u32", 4, "4", Some(0)),
+                row(1, "1[0].1", "b", 8, "4", Some(0)),
+                row(2, "1[0].1.0", "u16", 8, "2", Some(0)),
+                row(2, "1[0].1.1", "u8", 10, "1", Some(0)),
+                row(2, "", "closing padding", 11, "1", None),
+            ]
+        );
+        assert_eq!(
+            record.members[2].inner.iter().map(said).collect::<Vec<_>>(),
+            [row(1, "2[0].0", "u8", 20, "1", Some(0)), row(1, "2[0].1", "u16", 22, "2", Some(1))]
+        );
+        // No first element.
+        assert!(described("struct { [struct { u8 }; 0] }").record_with_inner().unwrap().members[0].inner.is_empty());
+    }
+
+    #[test]
+    fn places_of_a_first_element_may_be_beyond_all_sizes() {
+        let large = "[[[u8; 4294967295]; 2147483648]; 2]";
+        let text = format!("struct {{ {large}, [struct {{ {large}, u8 }}] }}");
+        let record = described(&text).record_with_inner().unwrap();
+        assert_eq!(record.members[1].inner[1].place, 2 * 18446744069414584320);
+    }
+
+    #[test]
+    fn heads_are_listed() {
+        let text = "struct(align 8) { id: u64, [struct(align 2, packed 4) { u8 }; 258], struct {}, [char] }";
+        let listed = "\
+11 04 00 04     struct(align 8), 4 members
+03                id: u64
+10 02 01 00 00    [struct(align 2, packed 4); 258]
+11 02 03 01         struct(align 2, packed 4), 1 member
+00                    u8
+11 00 00 00       struct, no members
+12                [char]
+06                  char
+";
+        assert_eq!(described(text).listing(), listed);
+    }
+}
