@@ -5,7 +5,7 @@ use crate::member::refused;
 use crate::text::Typed;
 use crate::words::{quoted, Word, Words};
 use crate::{files, print, print_bytes, End, Result};
-use lukaripe::{Layout, Refused};
+use lukaripe::Refused;
 
 pub fn run(words: Vec<String>) -> Result<()> {
     let (mut text, mut out, mut read, mut is_hex) = (None, None, None, false);
@@ -47,10 +47,10 @@ fn write(text: &str, out: Option<String>, is_hex: bool) -> Result<()> {
 }
 
 fn read_back(file: &str, is_hex: bool) -> Result<()> {
-    let bytes = files::read(file)?;
-    Layout::read(&bytes).map_err(|why| refused_bytes(file, &bytes, why))?;
-    let described = Description::of_accepted(&bytes);
-    let record = described.record().map_err(|why| refused_bytes(file, &bytes, why))?;
+    let described = Description::of_bytes(files::read(file)?);
+    let refused = |why| refused_bytes(file, &described.bytes, why);
+    described.layout().map_err(refused)?;
+    let record = described.record().map_err(refused)?;
     let listing = if is_hex { described.listing() + "\n" } else { String::new() };
     print(&format!("{listing}whole: {}\n", record.summary()))
 }

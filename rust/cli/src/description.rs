@@ -3,6 +3,8 @@
 use crate::member::{Member, SCALARS};
 use crate::record::{members_said, Asked, Inner, Record};
 use lukaripe::{for_repr_c_struct_places, Layout, Refused, TAG_ARRAY, TAG_SLICE, TAG_STRUCT};
+use std::collections::BTreeMap;
+use std::iter;
 use std::num::NonZeroU64;
 use std::ops::Range;
 
@@ -21,6 +23,7 @@ pub enum Form {
 }
 
 impl Form {
+    /// In bytes.
     fn head(self) -> Vec<u8> {
         let power = |asked: Option<NonZeroU64>| asked.map_or(0, |asked| 1 + asked.trailing_zeros() as u8);
         match self {
@@ -31,7 +34,7 @@ impl Form {
         }
     }
 
-    /// What the head says that the bytes begin with. Of a description that the library accepts every part has one.
+    /// What the head says that the bytes begin with, of a description that the library accepts.
     fn read(bytes: &[u8]) -> Option<Form> {
         let asked = |power: u8| power.checked_sub(1).and_then(|power| NonZeroU64::new(1 << power));
         match *bytes {
@@ -42,6 +45,15 @@ impl Form {
             [TAG_SLICE, ..] => Some(Form::Slice),
             [code, ..] if usize::from(code) < SCALARS.len() => Some(Form::Scalar(code.into())),
             _ => None,
+        }
+    }
+
+    /// The bytes of the head.
+    fn length(self) -> usize {
+        match self {
+            Form::Scalar(_) | Form::Slice => 1,
+            Form::Struct(..) => 4,
+            Form::Array(_) => 5,
         }
     }
 
@@ -60,48 +72,33 @@ pub struct Part {
     pub form: Form,
 }
 
-/// A type and the types inside it.
+/// A type and the types inside it. A part is known by the place of its tag.
 pub struct Description {
     pub bytes: Vec<u8>,
-    /// In the order of their heads. The first is the whole, and what a part holds follows it.
-    parts: Vec<Part>,
-    /// Where the head of each starts, and where the last ends.
-    places: Vec<usize>,
-    /// Of each the part behind it and all that it holds.
-    next: Vec<usize>,
+    /// Of parts that have one.
+    names: BTreeMap<usize, String>,
 }
 
 impl Description {
-    /// Of parts that are as many as they say that they hold.
+    /// Of parts in the order of their bytes: what a part holds follows it.
     pub fn new(parts: Vec<Part>) -> Description {
-        let mut bytes = Vec::new();
-        let mut places = vec![0];
-        for part in &parts {
+        let (mut bytes, mut names) = (Vec::new(), BTreeMap::new());
+        for part in parts {
+            names.extend(part.name.map(|name| (bytes.len(), name)));
             bytes.extend(part.form.head());
-            places.push(bytes.len());
         }
-        let mut next = vec![0; parts.len()];
-        for (at, part) in parts.iter().enumerate().rev() {
-            next[at] = (0..part.form.holds()).fold(at + 1, |inner, _| next[inner]);
-        }
-        Description { bytes, parts, places, next }
+        Description { bytes, names }
     }
 
-    /// Of bytes that the library accepts.
-    pub fn of_accepted(bytes: &[u8]) -> Description {
-        let mut parts = Vec::new();
-        let mut place = 0;
-        while let Some(form) = Form::read(&bytes[place..]) {
-            parts.push(Part { name: None, form });
-            place += form.head().len();
-        }
-        Description::new(parts)
+    /// Of bytes. Where the library refuses them, nothing else may be asked for but the layout.
+    pub fn of_bytes(bytes: Vec<u8>) -> Description {
+        Description { bytes, names: BTreeMap::new() }
     }
 
-    /// What the part is whose tag is at this place.
+    /// What stands at a place, in few words.
     pub fn sort_at(&self, place: u64) -> &'static str {
-        let at = self.places.iter().position(|start| *start as u64 == place);
-        match at.and_then(|at| self.parts.get(at)).map(|part| part.form) {
+        let bytes = usize::try_from(place).ok().and_then(|place| self.bytes.get(place..));
+        match bytes.and_then(Form::read) {
             Some(Form::Struct(..)) => "the struct",
             Some(Form::Array(_)) => "the array",
             Some(Form::Slice) => "the slice",
@@ -116,7 +113,7 @@ impl Description {
 
     /// The record of the whole: a struct's members, or what is no struct as the one member.
     pub fn record(&self) -> Result<Record, Refused> {
-        match self.parts[0].form {
+        match self.form(0) {
             Form::Struct(asked, _) => self.record_of(0, asked),
             _ => {
                 let whole = self.layout()?;
@@ -129,8 +126,8 @@ impl Description {
     /// The record of the whole, with all that its members hold.
     pub fn record_with_inner(&self) -> Result<Record, Refused> {
         let mut record = self.record()?;
-        let parts = match self.parts[0].form {
-            Form::Struct(..) => self.members(0),
+        let parts = match self.form(0) {
+            Form::Struct(..) => self.held(0),
             _ => vec![0],
         };
         for (index, (member, part)) in record.members.iter_mut().zip(parts).enumerate() {
@@ -139,8 +136,8 @@ impl Description {
         Ok(record)
     }
 
-    /// What a part at a place of the whole holds: a struct its members; an array or slice, that has one, what its first
-    /// element holds.
+    /// Adds what a part at a place of the whole holds: a struct its members; an array or slice what its first element
+    /// holds, where it has one.
     fn add_inner(
         &self,
         part: usize,
@@ -149,16 +146,16 @@ impl Description {
         depth: usize,
         inner: &mut Vec<Inner>,
     ) -> Result<(), Refused> {
-        let asked = match self.parts[part].form {
+        let asked = match self.form(part) {
             Form::Scalar(_) | Form::Array(0) => return Ok(()),
-            Form::Array(_) | Form::Slice => {
-                return self.add_inner(part + 1, place, &format!("{path}[0]"), depth, inner);
+            form @ (Form::Array(_) | Form::Slice) => {
+                return self.add_inner(part + form.length(), place, &format!("{path}[0]"), depth, inner);
             }
             Form::Struct(asked, _) => asked,
         };
         let record = self.record_of(part, asked)?;
         let closing = record.closing_piece();
-        for (index, (member, part)) in record.members.into_iter().zip(self.members(part)).enumerate() {
+        for (index, (member, part)) in record.members.into_iter().zip(self.held(part)).enumerate() {
             let (path, place) = (format!("{path}.{index}"), place + u128::from(member.place));
             inner.push(Inner::member(depth, path.clone(), place, &member));
             self.add_inner(part, place, &path, depth + 1, inner)?;
@@ -171,33 +168,46 @@ impl Description {
     fn record_of(&self, part: usize, asked: Asked) -> Result<Record, Refused> {
         let member =
             |part: usize| Ok(Member { name: self.name(part), layout: Layout::read(&self.bytes[self.span(part)])? });
-        let members = self.members(part).into_iter().map(member).collect::<Result<Vec<_>, Refused>>()?;
+        let members = self.held(part).into_iter().map(member).collect::<Result<Vec<_>, Refused>>()?;
         let layouts: Vec<Layout> = members.iter().map(|member| member.layout).collect();
         Ok(Record::new(asked, for_repr_c_struct_places(asked.align, asked.packed, &layouts)?, members))
     }
 
+    /// What the head of a part says.
+    fn form(&self, part: usize) -> Form {
+        Form::read(&self.bytes[part..]).expect("an accepted description has a part here")
+    }
+
     /// The bytes of a part and of all that it holds.
     fn span(&self, part: usize) -> Range<usize> {
-        self.places[part]..self.places[self.next[part]]
+        let (mut end, mut left) = (part, 1);
+        while left > 0 {
+            let form = self.form(end);
+            end += form.length();
+            left = left - 1 + form.holds();
+        }
+        part..end
     }
 
     /// The parts that a part holds.
-    fn members(&self, part: usize) -> Vec<usize> {
-        let each = std::iter::successors(Some(part + 1), |held| self.next.get(*held).copied());
-        each.take(self.parts[part].form.holds()).collect()
+    fn held(&self, part: usize) -> Vec<usize> {
+        let form = self.form(part);
+        let each = iter::successors(Some(part + form.length()), |held| Some(self.span(*held).end));
+        each.take(form.holds()).collect()
     }
 
     /// The name of a part, or its type where it has none.
     fn name(&self, part: usize) -> String {
-        self.parts[part].name.clone().unwrap_or_else(|| self.type_name(part))
+        self.names.get(&part).cloned().unwrap_or_else(|| self.type_name(part))
     }
 
     /// A type in few words: a struct without its members.
     fn type_name(&self, part: usize) -> String {
-        match self.parts[part].form {
+        let form = self.form(part);
+        match form {
             Form::Scalar(code) => SCALARS[code].to_string(),
-            Form::Array(count) => format!("[{}; {count}]", self.type_name(part + 1)),
-            Form::Slice => format!("[{}]", self.type_name(part + 1)),
+            Form::Array(count) => format!("[{}; {count}]", self.type_name(part + form.length())),
+            Form::Slice => format!("[{}]", self.type_name(part + form.length())),
             Form::Struct(asked, _) => {
                 let align = asked.align.map(|align| format!("align {align}"));
                 let packed = asked.packed.map(|packed| format!("packed {packed}"));
@@ -213,21 +223,27 @@ impl Description {
     /// The bytes in hex: a line for each head, and what it is.
     pub fn listing(&self) -> String {
         let mut text = String::new();
-        // Where the parts end that are open.
-        let mut open: Vec<usize> = Vec::new();
-        for (at, part) in self.parts.iter().enumerate() {
-            while open.last().is_some_and(|end| *end == at) {
-                open.pop();
-            }
-            let name = part.name.as_ref().map(|name| format!("{name}: ")).unwrap_or_default();
-            let count = match part.form {
+        // How many parts each has still to come, of those that are open.
+        let mut left: Vec<usize> = Vec::new();
+        let mut part = 0;
+        while part < self.bytes.len() {
+            let form = self.form(part);
+            let name = self.names.get(&part).map(|name| format!("{name}: ")).unwrap_or_default();
+            let count = match form {
                 Form::Struct(_, members) => format!(", {}", members_said(members.into())),
                 _ => String::new(),
             };
-            let head = hex(&self.bytes[self.places[at]..self.places[at + 1]]);
-            let indent = "  ".repeat(open.len());
-            text += &format!("{head:14}  {indent}{name}{}{count}\n", self.type_name(at));
-            open.push(self.next[at]);
+            let head = hex(&self.bytes[part..part + form.length()]);
+            let indent = "  ".repeat(left.len());
+            text += &format!("{head:14}  {indent}{name}{}{count}\n", self.type_name(part));
+            part += form.length();
+            if let Some(left) = left.last_mut() {
+                *left -= 1;
+            }
+            left.push(form.holds());
+            while left.last() == Some(&0) {
+                left.pop();
+            }
         }
         text
     }
@@ -265,10 +281,17 @@ mod tests {
     }
 
     #[test]
-    fn bytes_are_read_back() {
+    fn heads_are_read_back() {
         for text in TEXTS {
-            let bytes = described(text).bytes;
-            assert_eq!(Description::of_accepted(&bytes).bytes, bytes, "{text}");
+            let described = described(text);
+            let mut heads = Vec::new();
+            while heads.len() < described.bytes.len() {
+                let form = described.form(heads.len());
+                assert_eq!(form.head().len(), form.length());
+                heads.extend(form.head());
+            }
+            assert_eq!(heads, described.bytes, "{text}");
+            assert_eq!(described.span(0), 0..heads.len(), "{text}");
         }
     }
 

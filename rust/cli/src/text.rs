@@ -41,12 +41,12 @@ impl Typed<'_> {
         }
     }
 
-    /// Where the part stands whose tag is at this place of the description.
+    /// Where the letter stands that the byte at a place comes from.
     pub fn place(&self, place: u64) -> String {
         Place::of(self.text, self.letter(place)).said()
     }
 
-    /// The line of the text that the byte at a place comes from, and below it a mark.
+    /// The line of that letter, and a mark below it.
     pub fn marked(&self, place: u64) -> String {
         Place::of(self.text, self.letter(place)).marked()
     }
@@ -156,7 +156,7 @@ fn tokens(text: &str) -> Vec<Token<'_>> {
 struct Reader<'a> {
     tokens: Vec<Token<'a>>,
     next: usize,
-    /// The letters of the text.
+    /// Where the text ends, without spaces behind it.
     end: usize,
     parts: Vec<Part>,
     /// Of each part the letters that the bytes of its head come from.
