@@ -350,7 +350,7 @@ class Words(WithProgram):
             self.wrong(command, f"no command '{command}'")
 
     def test_the_program_says_the_same_without_the_script(self):
-        for words in "--help", "-h", "layout --help", "layout u8 -h", "", "nope", "layout":
+        for words in "--help", "-h", "layout --help", "layout u8 -h", "describe -h", "", "nope", "layout", "describe":
             script, program = self.run_shell(f"tools/lukaripe {words}"), self.run_shell(f"{CLI} {words}")
             for given in "returncode", "stdout", "stderr":
                 self.assertEqual(getattr(script, given), getattr(program, given), words)
@@ -466,6 +466,8 @@ class Picture(WithProgram):
             f"type:{2**63}:{2**29} bytes:{2**63 - 2**30} '[type:{2**63}:{2**29}]'",
             f"u8 '[bytes:{M}]'",
             "u8 " * 300,
+            f"'struct {{ u8, {long}: [struct {{ u32, struct {{ {long}: u16, u8 }} }}; 2], [[struct {{ u8 }}; 3]] }}'",
+            "'" + "struct { u64, " * 16 + "}" * 16 + "'",
         ):
             root = self.picture(words)
             width, height = map(float, root.get("viewBox").split()[2:])
