@@ -91,13 +91,16 @@ TABLES = {
 
 # Texts that are refused: the number, what is said to be refused, and what stands from the mark on.
 REFUSED = [
-    ("struct { [u8], u8 }", 7, "the struct at column 1", "struct { [u8]"),
-    ("struct { u8, x: struct { [u8], u8 } }", 7, "the struct at column 17", "struct { [u8], u8 }"),
-    ("struct(align 1073741824) { u8 }", 6, "the struct at column 1", "struct("),
-    ("struct { u8, struct(packed 1073741824) { u8 } }", 6, "the struct at column 14", "struct(packed"),
-    (f"struct {{ {LARGE}, u16 }}", 8, "the struct at column 1", "struct"),
-    (f"struct(align 2) {{ {LARGE} }}", 8, "the struct at column 1", "struct"),
-    (f"struct {{ {LARGE}, u8 }}", 9, "the struct at column 1", "struct"),
+    ("struct { [u8], u8 }", 7, "the struct at column 1, member 1 (u8)", "struct { [u8]"),
+    ("struct { u8, x: struct { [u8], y: u8 } }", 7, "the struct at column 17, member 1 (y)", "struct { [u8], y"),
+    # What comes behind the member is not read.
+    ("struct { [u8], [[u16]; 3], [u32] }", 36, "the array at column 16", "[[u16]; 3]"),
+    ("struct { [u8], a: struct {}, [[u16]; 3] }", 7, "the struct at column 1, member 1 (a)", "struct { [u8]"),
+    ("struct(align 1073741824) { u8 }", 6, "the struct at column 1, member 0 (u8)", "struct("),
+    ("struct { u8, struct(packed 1073741824) { u8 } }", 6, "the struct at column 14, member 0 (u8)", "struct(packed"),
+    (f"struct {{ a: {LARGE}, u16 }}", 8, "the struct at column 1, member 1 (u16)", "struct"),
+    (f"struct(align 2) {{ {LARGE} }}", 8, "the struct at column 1, the closing padding", "struct"),
+    (f"struct {{ {LARGE}, [u8; 1] }}", 9, "the struct at column 1, member 1 ([u8; 1])", "struct"),
     ("[" * 17 + "u8" + "]" * 17, 35, "the slice at column 17", "[u8]"),
     ("struct { " * 17 + "}" * 17, 35, "the struct at column 145", "struct { }"),
     ("struct { [[u8]; 3] }", 36, "the array at column 10", "[[u8]; 3]"),
@@ -360,7 +363,7 @@ class Describe(WithProgram):
                 ran = self.run_shell(f"tools/lukaripe {command} {quote(text)}")
                 self.assertEqual((ran.returncode, ran.stdout), (1, b""), text)
                 said, shown, mark = ran.stderr.decode().splitlines()
-                self.assertRegex(said, rf"\Alukaripe: {what}: .+ \(refusal {number}\)\Z")
+                self.assertRegex(said, rf"\Alukaripe: {re.escape(what)}: [^:]+ \(refusal {number}\)\Z")
                 self.assertRegex(mark, r"\A *\^\Z")
                 self.assertTrue(shown[len(mark) - 1 :].startswith(marked), (shown, mark))
                 self.assertLessEqual(len(shown), 80)

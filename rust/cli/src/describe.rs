@@ -61,7 +61,8 @@ pub fn accepted(text: &str) -> Result<Description> {
     match typed.described.layout() {
         Ok(_) => Ok(typed.described),
         Err(why) => {
-            let what = format!("{} at {}", typed.described.sort_at(why.place), typed.place(why.place));
+            let member = typed.described.member_at_fault(why).map(|member| format!(", {member}")).unwrap_or_default();
+            let what = format!("{} at {}{member}", typed.described.sort_at(why.place), typed.place(why.place));
             Err(End::Fail(format!("{}\n{}", refused(&what, why.refusal), typed.marked(why.place))))
         }
     }

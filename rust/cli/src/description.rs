@@ -1,6 +1,6 @@
 //! Descriptions of types: their parts, in the order of their bytes, and what the library makes of them.
 
-use crate::member::{Member, SCALARS};
+use crate::member::{member_at, Member, CLOSING, SCALARS};
 use crate::record::{members_said, Asked, Inner, Record};
 use lukaripe::{for_repr_c_struct_places, Layout, Refused, TAG_ARRAY, TAG_SLICE, TAG_STRUCT};
 use std::collections::BTreeMap;
@@ -106,6 +106,21 @@ impl Description {
         }
     }
 
+    /// Of a struct that is refused for its composition, the member or the closing padding that is refused. The members
+    /// before that are accepted.
+    pub fn member_at_fault(&self, why: Refused) -> Option<String> {
+        let part = usize::try_from(why.place).ok()?;
+        let Form::Struct(asked, _) = Form::read(self.bytes.get(part..)?)? else { return None };
+        let held = self.held(part);
+        let layouts: Vec<Layout> = held.iter().map_while(|held| self.layout_of(*held).ok()).collect();
+        let own = for_repr_c_struct_places(asked.align, asked.packed, &layouts).err()?;
+        let index = usize::try_from(own.place).ok().filter(|_| own.refusal == why.refusal)?;
+        Some(match held.get(index) {
+            Some(member) => member_at(index, Some(&self.name(*member))),
+            None => CLOSING.to_string(),
+        })
+    }
+
     /// The layout of the whole.
     pub fn layout(&self) -> Result<Layout, Refused> {
         Layout::read(&self.bytes)
@@ -166,11 +181,14 @@ impl Description {
 
     /// The record of a struct alone: its members by their own layouts.
     fn record_of(&self, part: usize, asked: Asked) -> Result<Record, Refused> {
-        let member =
-            |part: usize| Ok(Member { name: self.name(part), layout: Layout::read(&self.bytes[self.span(part)])? });
+        let member = |part| Ok(Member { name: self.name(part), layout: self.layout_of(part)? });
         let members = self.held(part).into_iter().map(member).collect::<Result<Vec<_>, Refused>>()?;
         let layouts: Vec<Layout> = members.iter().map(|member| member.layout).collect();
         Ok(Record::new(asked, for_repr_c_struct_places(asked.align, asked.packed, &layouts)?, members))
+    }
+
+    fn layout_of(&self, part: usize) -> Result<Layout, Refused> {
+        Layout::read(&self.bytes[self.span(part)])
     }
 
     /// What the head of a part says.

@@ -2,7 +2,7 @@
 
 use crate::bar::bar;
 use crate::describe::accepted;
-use crate::member::{from_records, member_at, members, refused, Member, Named};
+use crate::member::{from_records, member_at, members, refused, Member, Named, CLOSING};
 use crate::record::{Asked, Record};
 use crate::table::Table;
 use crate::text::is_text;
@@ -97,7 +97,7 @@ fn refusal(asked: Asked, why: Refused, count: usize, names: &[&str]) -> String {
         _ if Layout::new_zst(asked.align).is_err() => {
             format!("the alignment of the whole, {}", asked.align.map_or(0, |align| align.get()))
         }
-        Refusal::RoundingPassesMax if place == count => "the closing padding".to_string(),
+        Refusal::RoundingPassesMax if place == count => CLOSING.to_string(),
         _ => member_at(place, names.get(place).copied()),
     };
     refused(&what, why.refusal)

@@ -112,6 +112,9 @@ pub fn member_at(index: usize, name: Option<&str>) -> String {
     }
 }
 
+/// What is refused where no member is.
+pub const CLOSING: &str = "the closing padding";
+
 /// The line of a refusal.
 pub fn refused(what: &str, refusal: Refusal) -> String {
     format!("{what}: {refusal} (refusal {})", refusal.number())
