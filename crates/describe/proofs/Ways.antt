@@ -32,12 +32,12 @@ pub part-told : (w : ℕ) (target : Target) → ScalarsAccepted w target → (d 
 part-told w target good d s t {r} e = (e, part-means w target s good d t r (sym e))
 
 -- a struct from its empty layout on
-module _ (w : ℕ) (part : Reader) (t align packing n : ℕ) where
-  pub body-on : {l : Layout} → newZstFor w align ≡ answered l → structBody w part t align packing n ≡ goOn (addRead w part packing t n l (t + 4)) (closed w t)
-  body-on e = ap (λ (o : Outcome Layout). atPlace t o (λ l. goOn (addRead w part packing t n l (t + 4)) (closed w t))) (begin-on w ported align packing e refl)
+module _ (w : ℕ) (part : Reader) (t i align packing n : ℕ) where
+  pub body-on : {l : Layout} → newZstFor w align ≡ answered l → structBody w part t i align packing n ≡ goOn (addRead w part packing t n l i) (closed w t)
+  body-on e = ap (λ (o : Outcome Layout). atPlace t o (λ l. goOn (addRead w part packing t n l i) (closed w t))) (begin-on w ported align packing e refl)
 
-  pub body-off : {k : ℕ} → newZstFor w align ≡ refused k → structBody w part t align packing n ≡ stopped k t
-  body-off e = ap (λ (o : Outcome Layout). atPlace t o (λ l. goOn (addRead w part packing t n l (t + 4)) (closed w t))) (begin-own w ported align packing e)
+  pub body-off : {k : ℕ} → newZstFor w align ≡ refused k → structBody w part t i align packing n ≡ stopped k t
+  body-off e = ap (λ (o : Outcome Layout). atPlace t o (λ l. goOn (addRead w part packing t n l i) (closed w t))) (begin-own w ported align packing e)
 
 -- a member step is that of a layout
 pub step-is : (w packing : ℕ) (l m : Layout) {o : Outcome Layout} → extendFor w l m packing ≡ o → memberStep w ported packing l (answered m) ≡ o

@@ -84,10 +84,11 @@ pub fn part(s: &[u8], at: usize, depth: usize) -> PartAnswer
             align,
             packed,
             count,
+            first,
         } => match make::new_zst(align) {
             LayoutAnswer::Layout(empty) => {
                 struct_part(
-                    add_members(s, at + 4, depth - 1, count, empty, packed, at),
+                    add_members(s, first, depth - 1, count, empty, packed, at),
                     at,
                 )
             }

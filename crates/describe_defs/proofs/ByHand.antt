@@ -14,9 +14,10 @@ use Rattle.scalar.specs.Scalar.{Target, target64, scalarLayout}
 use Rattle.record_defs.specs.Record.{recordBytes, wordsOf, decodeFor}
 use Rattle.record_defs.proofs.Records.{record-length}
 use Rattle.record_defs.proofs.RoundTrips.{Fits, layout-back}
+use Rattle.words.specs.Bytes.{valueOf}
 use Rattle.compose_defs.specs.Compose.{Composed, composed, refusedAt, Member, ported, membersOf, structFor}
 use Rattle.compose_defs.specs.Places.{listed}
-use Rattle.describe_defs.specs.Describe.{powerOf, wholly, describedFor}
+use Rattle.describe_defs.specs.Describe.{byOne, powerOf, wholly, describedFor}
 use Rattle.describe_defs.specs.Grammar.{IsByte, Run, none, one, members, Header, aCode, aScalar, Describes}
 use Rattle.describe_defs.specs.Faults.{ScalarsAccepted}
 use Rattle.describe_defs.specs.ByHand.{byHand, Codes, ofCodes, recordsOf, wholeByHand, AsScalars}
@@ -99,20 +100,20 @@ module _ (w : ℕ) (target : Target) (good : ScalarsAccepted w target) (fits : (
   scalars-recorded (c ∷ cs) h = (layout-back w (scalarLayout target c) (fits c (h .0)) (good c (h .0)), scalars-recorded cs (h .1))
 
   pub as-scalars : AsScalars w target
-  unfolding describedFor
+  unfolding describedFor valueOf
   as-scalars a p cs ha hp hc =
       let s = ofCodes a p cs in
       let ms = map (scalarLayout target) cs in
       let n : length cs ≡ length ms = sym (length-map cs (scalarLayout target)) in
-      let h : Header s 0 (powerOf a) (powerOf p) (length ms) = record {
+      let h : Header s 0 byOne (powerOf a) (powerOf p) (length ms) = record {
         tag = record { within = omega arith; is = refl };
         aligned = record { byte = a; at = record { within = omega arith; is = refl }; most = ha; is = refl };
         packed = record { byte = p; at = record { within = omega arith; is = refl }; most = hp; is = refl };
-        count = record { within = omega arith; is = n };
+        count = record { within = omega arith; is = let z : length cs + 256 * 0 ≡ length cs = omega arith in z ∙ n };
       } in
       let r : Run (Describes w target 15 s) 4 (length s) ms = codes-run w target s 15 4 cs hc (omega arith) refl in
       let e : length (recordsOf ms) % 48 ≡ 0 = ap (λ (k : ℕ). k % 48) (records-length ms) ∙ mul-mod-left (length ms) 48 in
-      let x = as-by-records w target s 15 0 (length s) (powerOf a) (powerOf p) ms (recordsOf ms) h r e (records-listed w ms (scalars-recorded cs hc)) in
+      let x = as-by-records w target s 15 0 (length s) (powerOf a) (powerOf p) byOne ms (recordsOf ms) h r e (records-listed w ms (scalars-recorded cs hc)) in
       ap (λ q. goOn q (wholly s)) x ∙ whole s (structFor w ported (powerOf a) (powerOf p) (recordsOf ms))
 
 pub as-scalars64 : AsScalars 64 target64

@@ -19,9 +19,9 @@ use Rattle.scalar.specs.Scalar.{Target}
 use Rattle.words.specs.Bytes.{valueOf}
 use Rattle.compose_defs.specs.Compose.{composed, refusedAt, ported, beginFor, memberStep, addMembers}
 use Rattle.describe_defs.specs.Elements.{elementSize, elementFor, arrayFor, sliceOfFor}
-use Rattle.describe_defs.specs.Describe.{Part, Reader, Form, array, struct, slice, Tag, code, opens, unknown, tagOf, byteAt, countAt, powerOf, powerAt}
+use Rattle.describe_defs.specs.Describe.{Counted, byOne, byTwo, structTag, countBytes, Part, Reader, Form, array, struct, slice, Tag, code, opens, unknown, tagOf, byteAt, countAt, powerOf, powerAt}
 use Rattle.describe_defs.specs.Describe.{addRead, closed, structBody, structAt, arrayAt, sliceAt, formAt, tagged, taggedAt, partFor, wholly, describedFor}
-use Rattle.describe_defs.specs.Grammar.{Stands, IsByte, Run, none, one, members, Header, Describes}
+use Rattle.describe_defs.specs.Grammar.{Stands, IsByte, IsCount, Run, none, one, members, Header, Describes}
 use Rattle.describe_defs.specs.Faults as F
 use Rattle.describe_defs.specs.Faults.{tagByte, UnknownTag, BadPower, noPower, powerAbove, badAlign, badPacking, noCount, ScalarsAccepted}
 use Rattle.describe_defs.specs.Faults.{Comes, first, element, sliced, member, PartFault, Fault}
@@ -82,13 +82,13 @@ module _ (s : List ℕ) (i : ℕ) {k j : ℕ} where
       go (before e) = let x = byte-stops e in stopped-as (BadPower s i) (x .1) (noPower (omega (arith, h, x .0)))
       go (behind b x e) = judged b (byte-found s i x) (leb b 64) refl e
 
-  count-stops : i ≤ length s → countAt s i ≡ stopped k j → (length s < i + 4) × (_≡_ {A = Placed ℕ} (stopped 33 (length s)) (stopped k j))
-  count-stops h e = go (leb (i + 4) (length s)) refl e
+  count-stops : (n : ℕ) → i ≤ length s → countAt n s i ≡ stopped k j → (length s < i + n) × (_≡_ {A = Placed ℕ} (stopped 33 (length s)) (stopped k j))
+  count-stops n h e = go (leb (i + n) (length s)) refl e
     where
-      go : (b : Bool) → leb (i + 4) (length s) ≡ b → cond b (reached (valueOf (take 4 (drop i s)))) (stopped 33 (max i (length s))) ≡ stopped k j
-          → (length s < i + 4) × (_≡_ {A = Placed ℕ} (stopped 33 (length s)) (stopped k j))
+      go : (b : Bool) → leb (i + n) (length s) ≡ b → cond b (reached (valueOf (take n (drop i s)))) (stopped 33 (max i (length s))) ≡ stopped k j
+          → (length s < i + n) × (_≡_ {A = Placed ℕ} (stopped 33 (length s)) (stopped k j))
       go true g e = absurd (not-stopped (sym e))
-      go false g e = (leb-false (i + 4) (length s) g, ap (λ (z : ℕ). stopped 33 z) (sym (max-eq-right h)) ∙ e)
+      go false g e = (leb-false (i + n) (length s) g, ap (λ (z : ℕ). stopped 33 z) (sym (max-eq-right h)) ∙ e)
 
 -- ---- members that stop: in one of them, or in adding it
 module _ (w : ℕ) (part : Reader) (Inner : Stands) (packing t : ℕ) where
@@ -158,11 +158,12 @@ not-tag {b} m = (m .0, go)
   where
     go : (f : Form) → b ≡ tagByte f → ⊥
     go array e = m .1 .0 e
-    go struct e = m .1 .1 .0 e
-    go slice e = m .1 .1 .1 e
+    go (struct byOne) e = m .1 .1 .0 e
+    go slice e = m .1 .1 .1 .0 e
+    go (struct byTwo) e = m .1 .1 .1 .1 e
 
 pub tag-unknown : (b : ℕ) → UnknownTag b → tagOf b ≡ unknown
-tag-unknown b h = rw (lt-leb b 8 (h .0), ne-eqb b 16 (h .1 array), ne-eqb b 17 (h .1 struct), ne-eqb b 18 (h .1 slice))
+tag-unknown b h = rw (lt-leb b 8 (h .0), ne-eqb b 16 (h .1 array), ne-eqb b 17 (h .1 (struct byOne)), ne-eqb b 18 (h .1 slice), ne-eqb b 19 (h .1 (struct byTwo)))
 
 -- ---- a refusal is the fault that reading comes to
 module _ (w : ℕ) (target : Target) (good : ScalarsAccepted w target) (s : List ℕ) where
@@ -181,7 +182,7 @@ module _ (w : ℕ) (target : Target) (good : ScalarsAccepted w target) (s : List
         on : (b : ℕ) → IsByte s t b → (g : Tag) → TagMeans b g → tagged target t b inside g ≡ stopped k i → Refusal k i
         on b h code m e = absurd (not-stopped (sym e))
         on b h (opens array) m e = q array (subst (IsByte s t) m h) e
-        on b h (opens struct) m e = q struct (subst (IsByte s t) m h) e
+        on b h (opens (struct n)) m e = q (struct n) (subst (IsByte s t) m h) e
         on b h (opens slice) m e = q slice (subst (IsByte s t) m h) e
         on b h unknown m e = stopped-as (Refusal) e (F.unknownTag c h (not-tag m))
 
@@ -200,28 +201,27 @@ module _ (w : ℕ) (target : Target) (good : ScalarsAccepted w target) (s : List
       module _ (below : Below d) {t k i : ℕ} (c : To (suc d) t) where
         array-fault : IsByte s t 16 → arrayAt w part s t ≡ stopped k i → Refusal k i
         unfolding arrayAt
-        array-fault h e = counted (halted (countAt s (t + 1)) (λ n. goOn (part (t + 1 + 4)) (judge n)) e)
+        array-fault h e = counted (halted (countAt 4 s (t + 1)) (λ n. goOn (part (t + 1 + 4)) (judge n)) e)
           where
             judge : ℕ → Part → Placed Part
             judge n x = atPlace t (arrayFor w (x .0) n) (λ l. reached (l, x .1))
 
-            judged : (n : ℕ) (x : Part) → countAt s (t + 1) ≡ reached n → part (t + 1 + 4) ≡ reached x → HaltedAt {T = Part} t (arrayFor w (x .0) n) (λ l. reached (l, x .1)) k i → Refusal k i
+            judged : (n : ℕ) (x : Part) → countAt 4 s (t + 1) ≡ reached n → part (t + 1 + 4) ≡ reached x → HaltedAt {T = Part} t (arrayFor w (x .0) n) (λ l. reached (l, x .1)) k i → Refusal k i
             judged n x y z (further l a b) = absurd (not-stopped (sym b))
             judged n x y z (here q a b) =
-                let u = count-found s (t + 1) y in
                 let v = describes w target s d (t + 1 + 4) (x .1) (x .0) z in
-                let o : F.ArrayOf w target s d t (x .0) = record { tag = h; count = u .0; next = x .1; element = v } in
+                let o : F.ArrayOf w target s d t n (x .0) = record { tag = h; count = count-found 4 s (t + 1) y; next = x .1; element = v } in
                 stopped-as (Refusal) b
-                (array-judged w (x .0) (described-accepted w target good s d (t + 1 + 4) (x .1) (x .0) v) (λ q. Refusal q t) _ (ap (arrayFor w (x .0)) (u .1) ∙ a)
+                (array-judged w (x .0) (described-accepted w target good s d (t + 1 + 4) (x .1) (x .0) v) (λ q. Refusal q t) n a
                 (λ r. F.arrayOfTrailing c o r)
-                (λ r. F.arrayPasses c o (omega (arith, r))))
+                (λ r. F.arrayPasses c o r))
 
-            read : (n : ℕ) → countAt s (t + 1) ≡ reached n → Halted (part (t + 1 + 4)) (judge n) k i → Refusal k i
-            read n y (before z) = below (t + 1 + 4) k i (element c h (count-found s (t + 1) y .0)) z
+            read : (n : ℕ) → countAt 4 s (t + 1) ≡ reached n → Halted (part (t + 1 + 4)) (judge n) k i → Refusal k i
+            read n y (before z) = below (t + 1 + 4) k i (element c h (count-found 4 s (t + 1) y)) z
             read n y (behind x z e) = judged n x y z (halted-at {T = Part} t (arrayFor w (x .0) n) (λ l. reached (l, x .1)) e)
 
-            counted : Halted (countAt s (t + 1)) (λ n. goOn (part (t + 1 + 4)) (judge n)) k i → Refusal k i
-            counted (before y) = let z = count-stops s (t + 1) (omega (arith, h .within)) y in stopped-as (Refusal) (z .1) (F.countCut c h (z .0))
+            counted : Halted (countAt 4 s (t + 1)) (λ n. goOn (part (t + 1 + 4)) (judge n)) k i → Refusal k i
+            counted (before y) = let z = count-stops s (t + 1) 4 (omega (arith, h .within)) y in stopped-as (Refusal) (z .1) (F.countCut c h (z .0))
             counted (behind n y e) = read n y (halted (part (t + 1 + 4)) (judge n) e)
 
         slice-fault : IsByte s t 18 → sliceAt w part t ≡ stopped k i → Refusal k i
@@ -243,55 +243,55 @@ module _ (w : ℕ) (target : Target) (good : ScalarsAccepted w target) (s : List
             read (before z) = below (t + 1) k i (sliced c h) z
             read (behind x z e) = judged x z (halted-at {T = Part} t (sliceOfFor w (x .0)) (λ l. reached (l, x .1)) e)
 
-        body-fault : {align packing n : ℕ} → Header s t align packing n → structBody w part t align packing n ≡ stopped k i → Refusal k i
-        body-fault {align} {packing} {n} h e = begun (halted-at t (beginFor w ported align packing) (λ l. goOn (addRead w part packing t n l (t + 4)) (closed w t)) e)
+        body-fault : (o : Counted) {align packing n : ℕ} → Header s t o align packing n → structBody w part t (t + 3 + countBytes o) align packing n ≡ stopped k i → Refusal k i
+        body-fault o {align} {packing} {n} h e = begun (halted-at t (beginFor w ported align packing) (λ l. goOn (addRead w part packing t n l (t + 3 + countBytes o)) (closed w t)) e)
           where
             Inner : Stands
             Inner = Describes w target d s
 
-            members-fault : (l : Layout) → beginFor w ported align packing ≡ answered l → Broke w part Inner packing t n 0 l (t + 4) k i → Refusal k i
+            members-fault : (l : Layout) → beginFor w ported align packing ≡ answered l → Broke w part Inner packing t n 0 l (t + 3 + countBytes o) k i → Refusal k i
             members-fault l b (inMember {j = j} {ms = ms} r u q a z) = below j k i (member {l = r} c (record { header = h; run = u }) (omega (arith, q)) (rw (b, a))) z
             members-fault l b (inStep {ms = ms} q′ place u q a z) = stopped-as (Refusal) z (F.ofMembers {place = place} c (record { header = h; run = u }) q (rw (b, a)))
 
-            closed-fault : (l : Layout) (x : Part) → beginFor w ported align packing ≡ answered l → addRead w part packing t n l (t + 4) ≡ reached x
+            closed-fault : (l : Layout) (x : Part) → beginFor w ported align packing ≡ answered l → addRead w part packing t n l (t + 3 + countBytes o) ≡ reached x
                 → HaltedAt {T = Part} t (padFor w (x .0)) (λ l. reached (l, x .1)) k i → Refusal k i
             closed-fault l x b y (further m a z) = absurd (not-stopped (sym z))
             closed-fault l x b y (here q a z) =
-                let r = run-found w part Inner packing t (describes w target s d) n 0 (t + 4) (x .1) l (x .0) y in
+                let r = run-found w part Inner packing t (describes w target s d) n 0 (t + 3 + countBytes o) (x .1) l (x .0) y in
                 stopped-as (Refusal) z
-                (F.ofStruct {place = length (members (r .ms))} c (record { header = subst (Header s t align packing) (sym (r .count)) h; run = r .run }) (rw (b, r .adds, a)))
+                (F.ofStruct {place = length (members (r .ms))} c (record { header = subst (Header s t o align packing) (sym (r .count)) h; run = r .run }) (rw (b, r .adds, a)))
 
-            added : (l : Layout) → beginFor w ported align packing ≡ answered l → Halted (addRead w part packing t n l (t + 4)) (closed w t) k i → Refusal k i
-            added l b (before y) = members-fault l b (broke w part Inner packing t (describes w target s d) n 0 l (t + 4) y)
+            added : (l : Layout) → beginFor w ported align packing ≡ answered l → Halted (addRead w part packing t n l (t + 3 + countBytes o)) (closed w t) k i → Refusal k i
+            added l b (before y) = members-fault l b (broke w part Inner packing t (describes w target s d) n 0 l (t + 3 + countBytes o) y)
             added l b (behind x y e) = closed-fault l x b y (halted-at {T = Part} t (padFor w (x .0)) (λ l. reached (l, x .1)) e)
 
-            begun : HaltedAt t (beginFor w ported align packing) (λ l. goOn (addRead w part packing t n l (t + 4)) (closed w t)) k i → Refusal k i
+            begun : HaltedAt t (beginFor w ported align packing) (λ l. goOn (addRead w part packing t n l (t + 3 + countBytes o)) (closed w t)) k i → Refusal k i
             begun (here q b z) = stopped-as (Refusal) z (F.ofMembers {place = 0} {ms = []} c (record { header = h; run = none }) (omega arith) (rw b))
-            begun (further l b e) = added l b (halted (addRead w part packing t n l (t + 4)) (closed w t) e)
+            begun (further l b e) = added l b (halted (addRead w part packing t n l (t + 3 + countBytes o)) (closed w t) e)
 
-        struct-fault : IsByte s t 17 → structAt w part s t ≡ stopped k i → Refusal k i
+        struct-fault : (o : Counted) → IsByte s t (structTag o) → structAt w part s t o ≡ stopped k i → Refusal k i
         unfolding structAt
-        struct-fault h e = aligned (halted (powerAt s (t + 1)) (λ align. goOn (powerAt s (t + 2)) (λ packing. goOn (byteAt s (t + 3)) (λ n. structBody w part t align packing n))) e)
+        struct-fault o h e = aligned (halted (powerAt s (t + 1)) (λ align. goOn (powerAt s (t + 2)) (λ packing. goOn (countAt (countBytes o) s (t + 3)) (λ n. structBody w part t (t + 3 + countBytes o) align packing n))) e)
           where
-            counted : (a p : ℕ) → powerAt s (t + 1) ≡ reached a → powerAt s (t + 2) ≡ reached p → Halted (byteAt s (t + 3)) (λ n. structBody w part t a p n) k i → Refusal k i
+            counted : (a p : ℕ) → powerAt s (t + 1) ≡ reached a → powerAt s (t + 2) ≡ reached p → Halted (countAt (countBytes o) s (t + 3)) (λ n. structBody w part t (t + 3 + countBytes o) a p n) k i → Refusal k i
             counted a p x y (before z) =
                 let u = power-found s (t + 2) y in
-                let v = byte-stops s (t + 3) z in
-                stopped-as (Refusal) (v .1) (F.inHeader c h (noCount (power-found s (t + 1) x) u (omega (arith, v .0, u .at .within))))
+                let v = count-stops s (t + 3) (countBytes o) (omega (arith, u .at .within)) z in
+                stopped-as (Refusal) (v .1) (F.inHeader o c h (noCount (power-found s (t + 1) x) u (v .0)))
             counted a p x y (behind n z e) =
-                body-fault (record { tag = h; aligned = power-found s (t + 1) x; packed = power-found s (t + 2) y; count = byte-found s (t + 3) z }) e
+                body-fault o (record { tag = h; aligned = power-found s (t + 1) x; packed = power-found s (t + 2) y; count = count-found (countBytes o) s (t + 3) z }) e
 
-            packed : (a : ℕ) → powerAt s (t + 1) ≡ reached a → Halted (powerAt s (t + 2)) (λ packing. goOn (byteAt s (t + 3)) (λ n. structBody w part t a packing n)) k i → Refusal k i
-            packed a x (before y) = let u = power-found s (t + 1) x in F.inHeader c h (badPacking u (power-stops s (t + 2) (omega (arith, u .at .within)) y))
-            packed a x (behind p y e) = counted a p x y (halted (byteAt s (t + 3)) (λ n. structBody w part t a p n) e)
+            packed : (a : ℕ) → powerAt s (t + 1) ≡ reached a → Halted (powerAt s (t + 2)) (λ packing. goOn (countAt (countBytes o) s (t + 3)) (λ n. structBody w part t (t + 3 + countBytes o) a packing n)) k i → Refusal k i
+            packed a x (before y) = let u = power-found s (t + 1) x in F.inHeader o c h (badPacking u (power-stops s (t + 2) (omega (arith, u .at .within)) y))
+            packed a x (behind p y e) = counted a p x y (halted (countAt (countBytes o) s (t + 3)) (λ n. structBody w part t (t + 3 + countBytes o) a p n) e)
 
-            aligned : Halted (powerAt s (t + 1)) (λ align. goOn (powerAt s (t + 2)) (λ packing. goOn (byteAt s (t + 3)) (λ n. structBody w part t align packing n))) k i → Refusal k i
-            aligned (before x) = F.inHeader c h (badAlign (power-stops s (t + 1) (omega (arith, h .within)) x))
-            aligned (behind a x e) = packed a x (halted (powerAt s (t + 2)) (λ packing. goOn (byteAt s (t + 3)) (λ n. structBody w part t a packing n)) e)
+            aligned : Halted (powerAt s (t + 1)) (λ align. goOn (powerAt s (t + 2)) (λ packing. goOn (countAt (countBytes o) s (t + 3)) (λ n. structBody w part t (t + 3 + countBytes o) align packing n))) k i → Refusal k i
+            aligned (before x) = F.inHeader o c h (badAlign (power-stops s (t + 1) (omega (arith, h .within)) x))
+            aligned (behind a x e) = packed a x (halted (powerAt s (t + 2)) (λ packing. goOn (countAt (countBytes o) s (t + 3)) (λ n. structBody w part t (t + 3 + countBytes o) a packing n)) e)
 
         form-fault : (f : Form) → IsByte s t (tagByte f) → formAt w part s t f ≡ stopped k i → Refusal k i
         form-fault array h e = array-fault h e
-        form-fault struct h e = struct-fault h e
+        form-fault (struct o) h e = struct-fault o h e
         form-fault slice h e = slice-fault h e
 
     part-fault : (d : ℕ) → Below d

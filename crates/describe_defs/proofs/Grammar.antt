@@ -11,9 +11,9 @@ use Rattle.scalar.specs.Scalar.{Target, scalarLayout}
 use Rattle.words.specs.Bytes.{valueOf}
 use Rattle.compose_defs.specs.Compose.{Composed, composed, refusedAt, andThen, bind, ported, beginFor, memberStep, addMembers, composeStruct}
 use Rattle.describe_defs.specs.Elements.{arrayFor, sliceOfFor}
-use Rattle.describe_defs.specs.Describe.{Part, Reader, Form, array, struct, slice, Tag, code, opens, unknown, tagOf, byteAt, countAt, powerAt}
+use Rattle.describe_defs.specs.Describe.{Counted, byOne, byTwo, structTag, countBytes, Part, Reader, Form, array, struct, slice, Tag, code, opens, unknown, tagOf, byteAt, countAt, powerAt}
 use Rattle.describe_defs.specs.Describe.{addRead, closed, structBody, structAt, arrayAt, sliceAt, formAt, tagged, taggedAt, partFor}
-use Rattle.describe_defs.specs.Grammar.{Stands, IsByte, Run, none, one, members, Header, ScalarIs, PartIs, Describes}
+use Rattle.describe_defs.specs.Grammar.{Stands, IsByte, IsCount, Run, none, one, members, Header, ScalarIs, PartIs, Describes}
 use Rattle.describe_defs.specs.Faults.{tagByte}
 use Rattle.describe_defs.specs.Grammar.{aCode, aScalar, anArray, aStruct, aSlice}
 use Rattle.describe_defs.specs.ByHand.{byHand}
@@ -73,9 +73,9 @@ module _ (w : ℕ) (part : Reader) (Inner : Stands) (packing t : ℕ) where
       }
 
   -- a struct whose members read is their composition
-  pub body-by-hand : Gives part Inner → (align : ℕ) {j : ℕ} {ms : List Layout} → Run Inner (t + 4) j ms
-      → structBody w part t align packing (length ms) ≡ byHand t j (composeStruct w ported align packing (members ms))
-  body-by-hand g align {j} {ms} r = begun (beginFor w ported align packing)
+  pub body-by-hand : Gives part Inner → (align : ℕ) {i j : ℕ} {ms : List Layout} → Run Inner i j ms
+      → structBody w part t i align packing (length ms) ≡ byHand t j (composeStruct w ported align packing (members ms))
+  body-by-hand g align {i} {j} {ms} r = begun (beginFor w ported align packing)
     where
       closes : (l : Layout) (o : Outcome Layout) → atPlace t o (λ l′. reached (l′, j)) ≡ byHand t j (andThen o (length (members ms)) composed)
       closes l (answered l′) = refl
@@ -85,7 +85,7 @@ module _ (w : ℕ) (part : Reader) (Inner : Stands) (packing t : ℕ) where
       padded (composed l) = closes l (padFor w l)
       padded (refusedAt k place) = refl
 
-      begun : (o : Outcome Layout) → atPlace t o (λ l. goOn (addRead w part packing t (length ms) l (t + 4)) (closed w t))
+      begun : (o : Outcome Layout) → atPlace t o (λ l. goOn (addRead w part packing t (length ms) l i) (closed w t))
           ≡ byHand t j (bind (andThen o 0 (λ l. addMembers (memberStep w ported packing) 0 l (members ms))) (λ l. andThen (padFor w l) (length (members ms)) composed))
       begun (answered l) = rw (run-by-hand g 0 l r) (padded (addMembers (memberStep w ported packing) 0 l (members ms)))
       begun (refused k) = refl
@@ -98,20 +98,21 @@ module _ (w : ℕ) (target : Target) (s : List ℕ) (t : ℕ) where
   pub tagged-array : (inside : Form → Placed Part) → IsByte s t 16 → taggedAt target s t inside ≡ inside array
   tagged-array inside h = rw (byte-is s t h)
 
-  pub tagged-struct : (inside : Form → Placed Part) → IsByte s t 17 → taggedAt target s t inside ≡ inside struct
-  tagged-struct inside h = rw (byte-is s t h)
+  pub tagged-struct : (inside : Form → Placed Part) (c : Counted) → IsByte s t (structTag c) → taggedAt target s t inside ≡ inside (struct c)
+  tagged-struct inside byOne h = rw (byte-is s t h)
+  tagged-struct inside byTwo h = rw (byte-is s t h)
 
   pub tagged-slice : (inside : Form → Placed Part) → IsByte s t 18 → taggedAt target s t inside ≡ inside slice
   tagged-slice inside h = rw (byte-is s t h)
 
   -- a struct by its header
-  pub struct-is : (part : Reader) {align packing n : ℕ} → Header s t align packing n → structAt w part s t ≡ structBody w part t align packing n
+  pub struct-is : (part : Reader) {c : Counted} {align packing n : ℕ} → Header s t c align packing n → structAt w part s t c ≡ structBody w part t (t + 3 + countBytes c) align packing n
   unfolding structAt
-  struct-is part h = rw (power-is s (t + 1) (h .aligned), power-is s (t + 2) (h .packed), byte-is s (t + 3) (h .count))
+  struct-is part {c} h = rw (power-is s (t + 1) (h .aligned), power-is s (t + 2) (h .packed), count-is (countBytes c) s (t + 3) (h .count))
 
-  pub array-is : (part : Reader) {j : ℕ} {m l : Layout} → t + 1 + 4 ≤ length s → part (t + 1 + 4) ≡ reached (m, j) → arrayFor w m (valueOf (take 4 (drop (t + 1) s))) ≡ answered l → arrayAt w part s t ≡ reached (l, j)
+  pub array-is : (part : Reader) {j n : ℕ} {m l : Layout} → IsCount 4 s (t + 1) n → part (t + 1 + 4) ≡ reached (m, j) → arrayFor w m n ≡ answered l → arrayAt w part s t ≡ reached (l, j)
   unfolding arrayAt
-  array-is part h e f = rw (count-is s (t + 1) h, e, f)
+  array-is part h e f = rw (count-is 4 s (t + 1) h, e, f)
 
   pub slice-is : (part : Reader) {j : ℕ} {m l : Layout} → part (t + 1) ≡ reached (m, j) → sliceOfFor w m ≡ answered l → sliceAt w part t ≡ reached (l, j)
   unfolding sliceAt
@@ -121,8 +122,8 @@ module _ (w : ℕ) (target : Target) (s : List ℕ) (t : ℕ) where
   pub given : (part : Reader) (Inner : Stands) → Gives part Inner → {j : ℕ} {l : Layout} → PartIs w target s Inner t j l → taggedAt target s t (formAt w part s t) ≡ reached (l, j)
   given part Inner g (aScalar h) = tagged-code (formAt w part s t) h
   given part Inner g (anArray {j = j} {m = m} h p q e) = tagged-array (formAt w part s t) h ∙ array-is part p (g (t + 1 + 4) j m q) e
-  given part Inner g (aStruct {j = j} {align} {packing} {ms} h r e) =
-      tagged-struct (formAt w part s t) (h .tag) ∙ struct-is part h ∙ body-by-hand w part Inner packing t g align r ∙ ap (byHand t j) e
+  given part Inner g (aStruct {j = j} {align} {packing} {c} {ms} h r e) =
+      tagged-struct (formAt w part s t) c (h .tag) ∙ struct-is part h ∙ body-by-hand w part Inner packing t g align r ∙ ap (byHand t j) e
   given part Inner g (aSlice {j = j} {m = m} h q e) = tagged-slice (formAt w part s t) h ∙ slice-is part (g (t + 1) j m q) e
 
   -- what the reader finds, the grammar says: by what the tag opens
@@ -133,7 +134,7 @@ module _ (w : ℕ) (target : Target) (s : List ℕ) (t : ℕ) where
       go : (b : ℕ) → IsByte s t b → (g : Tag) → TagMeans b g → tagged target t b inside g ≡ reached (l, j) → Is l j
       go b h code m e = subst (λ (y : Part). Is (y .0) (y .1)) (reached-one e) (p b h m)
       go b h (opens array) m e = q array (subst (IsByte s t) m h) e
-      go b h (opens struct) m e = q struct (subst (IsByte s t) m h) e
+      go b h (opens (struct c)) m e = q (struct c) (subst (IsByte s t) m h) e
       go b h (opens slice) m e = q slice (subst (IsByte s t) m h) e
       go b h unknown m e = absurd (not-stopped e)
 
@@ -141,12 +142,12 @@ module _ (w : ℕ) (target : Target) (s : List ℕ) (t : ℕ) where
     array-found : IsByte s t 16 → arrayAt w part s t ≡ reached (l, j) → PartIs w target s Inner t j l
     unfolding arrayAt
     array-found h e =
-        let x = went (countAt s (t + 1)) (λ n. goOn (part (t + 1 + 4)) (λ x. atPlace t (arrayFor w (x .0) n) (λ l. reached (l, x .1)))) e in
+        let x = went (countAt 4 s (t + 1)) (λ n. goOn (part (t + 1 + 4)) (λ x. atPlace t (arrayFor w (x .0) n) (λ l. reached (l, x .1)))) e in
         let y = went (part (t + 1 + 4)) (λ y. atPlace t (arrayFor w (y .0) (x .to)) (λ l. reached (l, y .1))) (x .then) in
         let z = went-at t (arrayFor w (y .to .0) (x .to)) (λ l. reached (l, y .to .1)) (y .then) in
-        let c = count-found s (t + 1) (x .first) in
+        let c = count-found 4 s (t + 1) (x .first) in
         subst (λ (u : Part). PartIs w target s Inner t (u .1) (u .0)) (reached-one (z .then))
-        (anArray h (c .0) (f (t + 1 + 4) (y .to .1) (y .to .0) (y .first)) (ap (arrayFor w (y .to .0)) (c .1) ∙ z .first))
+        (anArray h c (f (t + 1 + 4) (y .to .1) (y .to .0) (y .first)) (z .first))
 
     slice-found : IsByte s t 18 → sliceAt w part t ≡ reached (l, j) → PartIs w target s Inner t j l
     unfolding sliceAt
@@ -156,25 +157,26 @@ module _ (w : ℕ) (target : Target) (s : List ℕ) (t : ℕ) where
         subst (λ (u : Part). PartIs w target s Inner t (u .1) (u .0)) (reached-one (z .then))
         (aSlice h (f (t + 1) (y .to .1) (y .to .0) (y .first)) (z .first))
 
-    struct-found : IsByte s t 17 → structAt w part s t ≡ reached (l, j) → PartIs w target s Inner t j l
+    struct-found : (k : Counted) → IsByte s t (structTag k) → structAt w part s t k ≡ reached (l, j) → PartIs w target s Inner t j l
     unfolding structAt
-    struct-found h e =
-        let a = went (powerAt s (t + 1)) (λ align. goOn (powerAt s (t + 2)) (λ packing. goOn (byteAt s (t + 3)) (λ n. structBody w part t align packing n))) e in
-        let b = went (powerAt s (t + 2)) (λ packing. goOn (byteAt s (t + 3)) (λ n. structBody w part t (a .to) packing n)) (a .then) in
-        let c = went (byteAt s (t + 3)) (λ n. structBody w part t (a .to) (b .to) n) (b .then) in
-        let d = went-at t (beginFor w ported (a .to) (b .to)) (λ l. goOn (addRead w part (b .to) t (c .to) l (t + 4)) (closed w t)) (c .then) in
-        let u = went (addRead w part (b .to) t (c .to) (d .to) (t + 4)) (closed w t) (d .then) in
+    struct-found k h e =
+        let i = t + 3 + countBytes k in
+        let a = went (powerAt s (t + 1)) (λ align. goOn (powerAt s (t + 2)) (λ packing. goOn (countAt (countBytes k) s (t + 3)) (λ n. structBody w part t i align packing n))) e in
+        let b = went (powerAt s (t + 2)) (λ packing. goOn (countAt (countBytes k) s (t + 3)) (λ n. structBody w part t i (a .to) packing n)) (a .then) in
+        let c = went (countAt (countBytes k) s (t + 3)) (λ n. structBody w part t i (a .to) (b .to) n) (b .then) in
+        let d = went-at t (beginFor w ported (a .to) (b .to)) (λ l. goOn (addRead w part (b .to) t (c .to) l i) (closed w t)) (c .then) in
+        let u = went (addRead w part (b .to) t (c .to) (d .to) i) (closed w t) (d .then) in
         let v = went-at t (padFor w (u .to .0)) (λ l. reached (l, u .to .1)) (u .then) in
-        let r = run-found w part Inner (b .to) t f (c .to) 0 (t + 4) (u .to .1) (d .to) (u .to .0) (u .first) in
+        let r = run-found w part Inner (b .to) t f (c .to) 0 i (u .to .1) (d .to) (u .to .0) (u .first) in
         subst (λ (y : Part). PartIs w target s Inner t (y .1) (y .0)) (reached-one (v .then))
-        (aStruct
-        (record { tag = h; aligned = power-found s (t + 1) (a .first); packed = power-found s (t + 2) (b .first); count = subst (IsByte s (t + 3)) (sym (r .count)) (byte-found s (t + 3) (c .first)) })
+        (aStruct {c = k}
+        (record { tag = h; aligned = power-found s (t + 1) (a .first); packed = power-found s (t + 2) (b .first); count = subst (IsCount (countBytes k) s (t + 3)) (sym (r .count)) (count-found (countBytes k) s (t + 3) (c .first)) })
         (r .run)
         (struct-made w (a .to) (b .to) (r .ms) (d .first) (r .adds) (v .first)))
 
     form-found : (g : Form) → IsByte s t (tagByte g) → formAt w part s t g ≡ reached (l, j) → PartIs w target s Inner t j l
     form-found array h e = array-found h e
-    form-found struct h e = struct-found h e
+    form-found (struct k) h e = struct-found k h e
     form-found slice h e = slice-found h e
 
     pub found : taggedAt target s t (formAt w part s t) ≡ reached (l, j) → PartIs w target s Inner t j l

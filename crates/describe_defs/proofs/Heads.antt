@@ -9,10 +9,10 @@ use Rattle.util_defs.specs.Placed.{Placed, reached, stopped, goOn}
 use Rattle.layout_defs.specs.Layout.{Layout}
 use Rattle.scalar.specs.Scalar.{Target}
 use Rattle.compose_defs.specs.Compose.{ported, memberStep}
-use Rattle.describe_defs.specs.Describe.{Part, Reader, Form, array, struct, slice, Tag, code, opens, unknown, tagOf, byteAt, countAt, powerAt}
+use Rattle.describe_defs.specs.Describe.{Counted, byOne, byTwo, structTag, countBytes, Part, Reader, Form, array, struct, slice, Tag, code, opens, unknown, tagOf, byteAt, countAt, powerAt}
 use Rattle.describe_defs.specs.Describe.{addRead, structAt, arrayAt, sliceAt, formAt, tagged, taggedAt, partFor}
-use Rattle.describe_defs.specs.Heads.{Head, codeHead, arrayHead, structHead, sliceHead, packedHead, alignedHead, formHead, opening, tagHead, headAt, bodyAt, HeadIs, HeadMeans}
-use Rattle.describe_defs.specs.Grammar.{IsByte, Header}
+use Rattle.describe_defs.specs.Heads.{Head, codeHead, arrayHead, structHead, sliceHead, packedHead, alignedHead, formHead, opening, tagHead, headAt, bodyAt, HeaderTo, header, HeadIs, HeadMeans}
+use Rattle.describe_defs.specs.Grammar.{IsByte, IsCount, Header}
 use Rattle.describe_defs.specs.Faults.{tagByte}
 use Rattle.describe_defs.proofs.Steps.{not-stopped, reached-one, went, byte-found, byte-is, power-found, power-is, count-found, count-is, TagMeans, tag-means, tag-code}
 
@@ -29,12 +29,12 @@ alike (stopped k i) f g h = refl
 module _ (w : ℕ) (target : Target) (part : Reader) (s : List ℕ) (t : ℕ) where
   form-by-head : (f : Form) → formAt w part s t f ≡ goOn (formHead s t f) (bodyAt w target part t)
   unfolding arrayAt structAt sliceAt
-  form-by-head array = sym (assoc (countAt s (t + 1)) (λ n. reached (arrayHead n)) (bodyAt w target part t))
-  form-by-head struct =
+  form-by-head array = sym (assoc (countAt 4 s (t + 1)) (λ n. reached (arrayHead n)) (bodyAt w target part t))
+  form-by-head (struct c) =
       alike (powerAt s (t + 1)) _ _ (λ a.
-      alike (powerAt s (t + 2)) _ _ (λ p. sym (assoc (byteAt s (t + 3)) (λ n. reached (structHead a p n)) (bodyAt w target part t)))
-      ∙ sym (assoc (powerAt s (t + 2)) (packedHead s t a) (bodyAt w target part t)))
-      ∙ sym (assoc (powerAt s (t + 1)) (alignedHead s t) (bodyAt w target part t))
+      alike (powerAt s (t + 2)) _ _ (λ p. sym (assoc (countAt (countBytes c) s (t + 3)) (λ n. reached (structHead a p n (t + 3 + countBytes c))) (bodyAt w target part t)))
+      ∙ sym (assoc (powerAt s (t + 2)) (packedHead s t c a) (bodyAt w target part t)))
+      ∙ sym (assoc (powerAt s (t + 1)) (alignedHead s t c) (bodyAt w target part t))
   form-by-head slice = refl
 
   tag-by-head : (inside : Form → Placed Part) (d b : ℕ) → ((f : Form) → inside f ≡ goOn (opening d s t f) (bodyAt w target part t))
@@ -60,21 +60,21 @@ part-by-head w target (suc d) s t =
 abbrev pub Room : ℕ → List ℕ → ℕ → Head → Type 0
 Room d s t (codeHead b) = (t < length s) × (b ≤ 8)
 Room d s t (arrayHead n) = (0 < d) × (t + 5 ≤ length s)
-Room d s t (structHead align packing n) = (0 < d) × (t + 4 ≤ length s)
+Room d s t (structHead align packing n i) = (0 < d) × (t < i) × (i ≤ length s)
 Room d s t sliceHead = (0 < d) × (t + 1 ≤ length s)
 
 module _ (s : List ℕ) (t : ℕ) where
   form-room : (d : ℕ) (f : Form) (h : Head) → t < length s → formHead s t f ≡ reached h → Room (suc d) s t h
   form-room d array h l e =
-      let x = went (countAt s (t + 1)) (λ n. reached (arrayHead n)) e in
-      let c = count-found s (t + 1) (x .first) in
-      subst (Room (suc d) s t) (reached-one (x .then)) (omega arith, omega (arith, c .0))
-  form-room d struct h l e =
-      let x = went (powerAt s (t + 1)) (alignedHead s t) e in
-      let y = went (powerAt s (t + 2)) (packedHead s t (x .to)) (x .then) in
-      let z = went (byteAt s (t + 3)) (λ n. reached (structHead (x .to) (y .to) n)) (y .then) in
-      let c = byte-found s (t + 3) (z .first) in
-      subst (Room (suc d) s t) (reached-one (z .then)) (omega arith, omega (arith, c .within))
+      let x = went (countAt 4 s (t + 1)) (λ n. reached (arrayHead n)) e in
+      let c = count-found 4 s (t + 1) (x .first) in
+      subst (Room (suc d) s t) (reached-one (x .then)) (omega arith, omega (arith, c .within))
+  form-room d (struct k) h l e =
+      let x = went (powerAt s (t + 1)) (alignedHead s t k) e in
+      let y = went (powerAt s (t + 2)) (packedHead s t k (x .to)) (x .then) in
+      let z = went (countAt (countBytes k) s (t + 3)) (λ n. reached (structHead (x .to) (y .to) n (t + 3 + countBytes k))) (y .then) in
+      let c = count-found (countBytes k) s (t + 3) (z .first) in
+      subst (Room (suc d) s t) (reached-one (z .then)) (omega arith, omega arith, c .within)
   form-room d slice h l e = subst (Room (suc d) s t) (reached-one e) (omega arith, omega arith)
 
   tag-room : (d b : ℕ) (g : Tag) (h : Head) → t < length s → TagMeans b g → tagHead d s t b g ≡ reached h → Room d s t h
@@ -117,14 +117,14 @@ module _ (s : List ℕ) (t : ℕ) where
   form-found : (d : ℕ) (f : Form) (h : Head) → IsByte s t (tagByte f) → opening d s t f ≡ reached h → HeadIs d s t h
   form-found zero f h b e = absurd (not-stopped e)
   form-found (suc d) array h b e =
-      let x = went (countAt s (t + 1)) (λ n. reached (arrayHead n)) e in
-      subst (HeadIs (suc d) s t) (reached-one (x .then)) (omega arith, (b, count-found s (t + 1) (x .first)))
-  form-found (suc d) struct h b e =
-      let x = went (powerAt s (t + 1)) (alignedHead s t) e in
-      let y = went (powerAt s (t + 2)) (packedHead s t (x .to)) (x .then) in
-      let z = went (byteAt s (t + 3)) (λ n. reached (structHead (x .to) (y .to) n)) (y .then) in
-      let g : Header s t (x .to) (y .to) (z .to) = record { tag = b; aligned = power-found s (t + 1) (x .first); packed = power-found s (t + 2) (y .first); count = byte-found s (t + 3) (z .first) } in
-      subst (HeadIs (suc d) s t) (reached-one (z .then)) (omega arith, g)
+      let x = went (countAt 4 s (t + 1)) (λ n. reached (arrayHead n)) e in
+      subst (HeadIs (suc d) s t) (reached-one (x .then)) (omega arith, (b, count-found 4 s (t + 1) (x .first)))
+  form-found (suc d) (struct k) h b e =
+      let x = went (powerAt s (t + 1)) (alignedHead s t k) e in
+      let y = went (powerAt s (t + 2)) (packedHead s t k (x .to)) (x .then) in
+      let z = went (countAt (countBytes k) s (t + 3)) (λ n. reached (structHead (x .to) (y .to) n (t + 3 + countBytes k))) (y .then) in
+      let g : Header s t k (x .to) (y .to) (z .to) = record { tag = b; aligned = power-found s (t + 1) (x .first); packed = power-found s (t + 2) (y .first); count = count-found (countBytes k) s (t + 3) (z .first) } in
+      subst (HeadIs (suc d) s t) (reached-one (z .then)) (omega arith, header k g)
   form-found (suc d) slice h b e = subst (HeadIs (suc d) s t) (reached-one e) (omega arith, b)
 
   pub head-found : (d : ℕ) (h : Head) → headAt d s t ≡ reached h → HeadIs d s t h
@@ -136,7 +136,7 @@ module _ (s : List ℕ) (t : ℕ) where
       go : (b : ℕ) → IsByte s t b → (g : Tag) → TagMeans b g → tagHead d s t b g ≡ reached h → HeadIs d s t h
       go b i code m e = subst (HeadIs d s t) (reached-one e) (i, m)
       go b i (opens array) m e = form-found d array h (subst (IsByte s t) m i) e
-      go b i (opens struct) m e = form-found d struct h (subst (IsByte s t) m i) e
+      go b i (opens (struct k)) m e = form-found d (struct k) h (subst (IsByte s t) m i) e
       go b i (opens slice) m e = form-found d slice h (subst (IsByte s t) m i) e
       go b i unknown m e = absurd (not-stopped e)
 
@@ -144,11 +144,13 @@ module _ (s : List ℕ) (t : ℕ) where
   unfolding headAt
   head-is d (codeHead b) h = rw (byte-is s t (h .0), tag-code b (h .1))
   head-is zero (arrayHead n) h = absurd (omega (arith, h .0))
-  head-is (suc d) (arrayHead n) h = rw (byte-is s t (h .1 .0), count-is s (t + 1) (h .1 .1 .0), h .1 .1 .1)
-  head-is zero (structHead a p n) h = absurd (omega (arith, h .0))
-  head-is (suc d) (structHead a p n) h =
-      let g = h .1 in
-      rw (byte-is s t (g .tag), power-is s (t + 1) (g .aligned), power-is s (t + 2) (g .packed), byte-is s (t + 3) (g .count))
+  head-is (suc d) (arrayHead n) h = rw (byte-is s t (h .1 .0), count-is 4 s (t + 1) (h .1 .1))
+  head-is zero (structHead a p n i) h = absurd (omega (arith, h .0))
+  head-is (suc d) (structHead a p n i) h = go i (h .1)
+    where
+      go : (i : ℕ) → HeaderTo s t a p n i → goOn (byteAt s t) (λ b. tagHead (suc d) s t b (tagOf b)) ≡ reached (structHead a p n i)
+      go i (header byOne g) = rw (byte-is s t (g .tag), power-is s (t + 1) (g .aligned), power-is s (t + 2) (g .packed), count-is 1 s (t + 3) (g .count))
+      go i (header byTwo g) = rw (byte-is s t (g .tag), power-is s (t + 1) (g .aligned), power-is s (t + 2) (g .packed), count-is 2 s (t + 3) (g .count))
   head-is zero sliceHead h = absurd (omega (arith, h .0))
   head-is (suc d) sliceHead h = rw (byte-is s t (h .1))
 

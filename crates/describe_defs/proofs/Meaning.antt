@@ -11,7 +11,7 @@ use Rattle.util_defs.specs.Placed.{reached}
 use Rattle.layout_defs.specs.Layout.{Layout}
 use Rattle.scalar.specs.Scalar.{Target}
 use Rattle.compose_defs.specs.Compose.{structFor}
-use Rattle.describe_defs.specs.Describe.{Part, partFor, wholly, describedFor, formAt}
+use Rattle.describe_defs.specs.Describe.{countBytes, Part, partFor, wholly, describedFor, formAt}
 use Rattle.describe_defs.specs.Grammar.{Stands, Run, none, one, members, ScalarIs, aCode, PartIs, aScalar, anArray, aStruct, aSlice}
 use Rattle.describe_defs.specs.Grammar.{Describes, Description}
 use Rattle.describe_defs.specs.ByHand.{OneLayout, AsByHand, AsByRecords}
@@ -35,7 +35,7 @@ run-past s Inner f (one {i = i} {j = j} {m = m} p r) h =
 part-past : (w : ℕ) (target : Target) (s : List ℕ) (Inner : Stands) → ((i j : ℕ) (m : Layout) → Inner i j m → Past s i j) → {i j : ℕ} {l : Layout} → PartIs w target s Inner i j l → Past s i j
 part-past w target s Inner f (aScalar h) = scalar-past target s h
 part-past w target s Inner f (anArray {t = t} {j = j} {m = m} h p q e) = omega (arith, f (t + 1 + 4) j m q)
-part-past w target s Inner f (aStruct h r e) = omega (arith, h .count .within, run-past s Inner f r (omega (arith, h .count .within)))
+part-past w target s Inner f (aStruct h r e) = omega (arith, run-past s Inner f r (h .count .within))
 part-past w target s Inner f (aSlice {t = t} {j = j} {m = m} h q e) = omega (arith, f (t + 1) j m q)
 
 module _ (w : ℕ) (target : Target) (s : List ℕ) where
@@ -70,10 +70,10 @@ module _ (w : ℕ) (target : Target) (s : List ℕ) where
   -- ---- "The result is the one composition by hand would give": of its members' layouts, and of a list of their records
   pub as-by-hand : AsByHand w target s
   unfolding partFor
-  as-by-hand d t j align packing ms h r =
-      tagged-struct w target s t (formAt w (partFor w target d s) s t) (h .tag) ∙ struct-is w target s t (partFor w target d s) h
+  as-by-hand d t j align packing c ms h r =
+      tagged-struct w target s t (formAt w (partFor w target d s) s t) c (h .tag) ∙ struct-is w target s t (partFor w target d s) h
       ∙ body-by-hand w (partFor w target d s) (Describes w target d s) packing t (reads w target s d) align r
 
   pub as-by-records : AsByRecords w target s
   unfolding structFor
-  as-by-records d t j align packing ms rs h r e f = as-by-hand d t j align packing ms h r ∙ rw (eq-eqb (length rs % 48) 0 e, f)
+  as-by-records d t j align packing c ms rs h r e f = as-by-hand d t j align packing c ms h r ∙ rw (eq-eqb (length rs % 48) 0 e, f)

@@ -14,9 +14,9 @@ use Rattle.words.specs.Bytes.{valueOf}
 use Rattle.compose_defs.specs.Compose.{composed, refusedAt, andThen, ported, beginFor, memberStep, addMembers, composeMembers}
 use Rattle.compose_defs.proofs.Modifiers.{not-composed}
 use Rattle.describe_defs.specs.Elements.{arrayFor, sliceOfFor}
-use Rattle.describe_defs.specs.Describe.{Part, Reader, Form, array, struct, slice, byteAt, powerAt}
+use Rattle.describe_defs.specs.Describe.{Counted, structTag, countBytes, countAt, Part, Reader, Form, array, struct, slice, byteAt, powerAt}
 use Rattle.describe_defs.specs.Describe.{addRead, closed, structBody, structAt, arrayAt, sliceAt, formAt, partFor, describedFor}
-use Rattle.describe_defs.specs.Grammar.{Stands, IsByte, Run, none, one, members, Describes}
+use Rattle.describe_defs.specs.Grammar.{Stands, IsByte, IsCount, Run, none, one, members, Describes}
 use Rattle.describe_defs.specs.Faults as F
 use Rattle.describe_defs.specs.Faults.{tagByte, UnknownTag, BadPower, noPower, powerAbove, BadHeader, badAlign, badPacking, noCount, ScalarsAccepted}
 use Rattle.describe_defs.specs.Faults.{Comes, first, element, sliced, member, PartFault, PartMeans, Fault, ReadMeans}
@@ -67,10 +67,10 @@ module _ (w : ℕ) (part : Reader) (Inner : Stands) (packing t : ℕ) (g : Gives
       go (refused q′) e f = let x : q′ ≡ q = cc in ap (λ (c : ℕ). stopped c t) x
 
   -- a struct stops where one of its members does, once those before it are added, and where adding them is refused
-  body-stops : (align : ℕ) {j n k i : ℕ} {ms : List Layout} {l : Layout} → Run Inner (t + 4) j ms → length ms < n → composeMembers w ported align packing (members ms) ≡ composed l
-      → part j ≡ stopped k i → structBody w part t align packing n ≡ stopped k i
+  body-stops : (f align : ℕ) {j n k i : ℕ} {ms : List Layout} {l : Layout} → Run Inner f j ms → length ms < n → composeMembers w ported align packing (members ms) ≡ composed l
+      → part j ≡ stopped k i → structBody w part t f align packing n ≡ stopped k i
   unfolding addRead
-  body-stops align {j} {n} {k} {i} {ms} {l} u h e x = go (beginFor w ported align packing) e (left n h)
+  body-stops f align {j} {n} {k} {i} {ms} {l} u h e x = go (beginFor w ported align packing) e (left n h)
     where
       Left : Type 0
       Left = (m : ℕ) × (n ≡ length ms + suc m)
@@ -79,16 +79,16 @@ module _ (w : ℕ) (part : Reader) (Inner : Stands) (packing t : ℕ) (g : Gives
       left n h = (n - suc (length ms), omega (arith, h))
 
       go : (o : Outcome Layout) → andThen o 0 (λ l. addMembers (memberStep w ported packing) 0 l (members ms)) ≡ composed l → Left
-          → atPlace t o (λ l. goOn (addRead w part packing t n l (t + 4)) (closed w t)) ≡ stopped k i
+          → atPlace t o (λ l. goOn (addRead w part packing t n l f) (closed w t)) ≡ stopped k i
       go (answered b) e (m, q) = rw (add-on 0 b u e n (suc m) q, x)
       go (refused q) e z = absurd (not-composed e)
 
-  body-refused : (align : ℕ) {j n k place : ℕ} {ms : List Layout} → Run Inner (t + 4) j ms → length ms ≤ n → composeMembers w ported align packing (members ms) ≡ refusedAt k place
-      → structBody w part t align packing n ≡ stopped k t
-  body-refused align {j} {n} {k} {place} {ms} u h e = go (beginFor w ported align packing) e
+  body-refused : (f align : ℕ) {j n k place : ℕ} {ms : List Layout} → Run Inner f j ms → length ms ≤ n → composeMembers w ported align packing (members ms) ≡ refusedAt k place
+      → structBody w part t f align packing n ≡ stopped k t
+  body-refused f align {j} {n} {k} {place} {ms} u h e = go (beginFor w ported align packing) e
     where
       go : (o : Outcome Layout) → andThen o 0 (λ l. addMembers (memberStep w ported packing) 0 l (members ms)) ≡ refusedAt k place
-          → atPlace t o (λ l. goOn (addRead w part packing t n l (t + 4)) (closed w t)) ≡ stopped k t
+          → atPlace t o (λ l. goOn (addRead w part packing t n l f) (closed w t)) ≡ stopped k t
       go (answered b) e = rw (add-off 0 b u e n h)
       go (refused q) e = let x : q ≡ k = cc in ap (λ (c : ℕ). stopped c t) x
 
@@ -97,12 +97,12 @@ module _ (w : ℕ) (target : Target) (s : List ℕ) where
   stops : {depth start d t : ℕ} (k i : ℕ) → Comes w target s depth start d t → partFor w target d s t ≡ stopped k i → partFor w target depth s start ≡ stopped k i
   unfolding partFor arrayAt sliceAt
   stops k i first e = e
-  stops k i (element {d = d} {t = t} c h p) e = stops k i c (tagged-array w target s t (formAt w (partFor w target d s) s t) h ∙ rw (count-is s (t + 1) p, e))
+  stops k i (element {d = d} {t = t} c h p) e = stops k i c (tagged-array w target s t (formAt w (partFor w target d s) s t) h ∙ rw (count-is 4 s (t + 1) p, e))
   stops k i (sliced {d = d} {t = t} c h) e = stops k i c (tagged-slice w target s t (formAt w (partFor w target d s) s t) h ∙ rw e)
-  stops k i (member {d = d} {t = t} {align = a} {packing = p} c m h f) e =
+  stops k i (member {d = d} {t = t} {align = a} {packing = p} {c = o} c m h f) e =
       stops k i c
-      (tagged-struct w target s t (formAt w (partFor w target d s) s t) (m .header .tag) ∙ struct-is w target s t (partFor w target d s) (m .header)
-      ∙ body-stops w (partFor w target d s) (Describes w target d s) p t (reads w target s d) a (m .run) h f e)
+      (tagged-struct w target s t (formAt w (partFor w target d s) s t) o (m .header .tag) ∙ struct-is w target s t (partFor w target d s) (m .header)
+      ∙ body-stops w (partFor w target d s) (Describes w target d s) p t (reads w target s d) (t + 3 + countBytes o) a (m .run) h f e)
 
   -- a part by its tag, whatever may be open
   no-tag : (d t : ℕ) → length s ≤ t → partFor w target d s t ≡ stopped 33 t
@@ -118,25 +118,27 @@ module _ (w : ℕ) (target : Target) (s : List ℕ) where
   too-deep : (t : ℕ) (f : Form) → IsByte s t (tagByte f) → partFor w target zero s t ≡ stopped 35 t
   unfolding partFor
   too-deep t array h = tagged-array w target s t (λ f. stopped 35 t) h
-  too-deep t struct h = tagged-struct w target s t (λ f. stopped 35 t) h
+  too-deep t (struct o) h = tagged-struct w target s t (λ f. stopped 35 t) o h
   too-deep t slice h = tagged-slice w target s t (λ f. stopped 35 t) h
 
-  header-stops : (part : Reader) (t : ℕ) {k i : ℕ} → BadHeader s t k i → structAt w part s t ≡ stopped k i
+  header-stops : (part : Reader) (t : ℕ) (o : Counted) {k i : ℕ} → t < length s → BadHeader s t o k i → structAt w part s t o ≡ stopped k i
   unfolding structAt
-  header-stops part t (badAlign x) = rw (power-missing s (t + 1) x)
-  header-stops part t (badPacking h x) = rw (power-is s (t + 1) h, power-missing s (t + 2) x)
-  header-stops part t (noCount h g e) = rw (power-is s (t + 1) h, power-is s (t + 2) g, byte-missing s (t + 3) (omega (arith, e)))
+  header-stops part t o z (badAlign x) = rw (power-missing s (t + 1) x)
+  header-stops part t o z (badPacking h x) = rw (power-is s (t + 1) h, power-missing s (t + 2) x)
+  header-stops part t o z (noCount h g e) =
+      let x : t + 3 ≤ length s = omega (arith, g .at .within) in
+      rw (power-is s (t + 1) h, power-is s (t + 2) g, lt-leb (t + 3 + countBytes o) (length s) e, max-eq-right x)
 
   count-cut : (part : Reader) (t : ℕ) → t < length s → length s < t + 1 + 4 → arrayAt w part s t ≡ stopped 33 (length s)
   unfolding arrayAt
   count-cut part t h g = let x : t + 1 ≤ length s = omega (arith, h) in rw (lt-leb (t + 1 + 4) (length s) g, max-eq-right x)
 
-  array-stops : (d t : ℕ) {m : Layout} {k : ℕ} (x : F.ArrayOf w target s d t m) → arrayFor w m (valueOf (take 4 (drop (t + 1) s))) ≡ refused k
+  array-stops : (d t n : ℕ) {m : Layout} {k : ℕ} (x : F.ArrayOf w target s d t n m) → arrayFor w m n ≡ refused k
       → partFor w target (suc d) s t ≡ stopped k t
   unfolding partFor arrayAt
-  array-stops d t {m} x e =
+  array-stops d t n {m} x e =
       tagged-array w target s t (formAt w (partFor w target d s) s t) (x .tag)
-      ∙ rw (count-is s (t + 1) (x .count), reads w target s d (t + 1 + 4) (x .next) m (x .element), e)
+      ∙ rw (count-is 4 s (t + 1) (x .count), reads w target s d (t + 1 + 4) (x .next) m (x .element), e)
 
   slice-stops : (d t : ℕ) {m : Layout} {k : ℕ} (x : F.SliceOf w target s d t m) → sliceOfFor w m ≡ refused k → partFor w target (suc d) s t ≡ stopped k t
   unfolding partFor sliceAt
@@ -150,23 +152,23 @@ module _ (w : ℕ) (target : Target) (s : List ℕ) where
   part-fault-stops good (F.tooDeep {t = t} c f h) = stops 35 t c (too-deep t f h)
   part-fault-stops good (F.countCut {d = d} {t = t} c h g) =
       stops 33 (length s) c (tagged-array w target s t (formAt w (partFor w target d s) s t) h ∙ count-cut (partFor w target d s) t (h .within) g)
-  part-fault-stops good (F.inHeader {d = d} {t = t} {k = k} {i = i} c h x) =
-      stops k i c (tagged-struct w target s t (formAt w (partFor w target d s) s t) h ∙ header-stops (partFor w target d s) t x)
-  part-fault-stops good (F.arrayOfTrailing {d = d} {t = t} {m = m} c x h) =
+  part-fault-stops good (F.inHeader {d = d} {t = t} {k = k} {i = i} o c h x) =
+      stops k i c (tagged-struct w target s t (formAt w (partFor w target d s) s t) o h ∙ header-stops (partFor w target d s) t o (h .within) x)
+  part-fault-stops good (F.arrayOfTrailing {d = d} {t = t} {n = n} {m = m} c x h) =
       let ok = described-accepted w target good s d (t + 1 + 4) (x .next) m (x .element) in
-      stops 36 t c (array-stops d t x (sym (array-off w m _ (sym (trailing-refused w m ok h)))))
+      stops 36 t c (array-stops d t n x (sym (array-off w m n (sym (trailing-refused w m ok h)))))
   part-fault-stops good (F.sliceOfTrailing {d = d} {t = t} {m = m} c x h) =
       let ok = described-accepted w target good s d (t + 1) (x .next) m (x .element) in
       stops 36 t c (slice-stops d t x (sym (slice-off w m (sym (trailing-refused w m ok h)))))
-  part-fault-stops good (F.arrayPasses {d = d} {t = t} {m = m} c x h) =
+  part-fault-stops good (F.arrayPasses {d = d} {t = t} {n = n} {m = m} c x h) =
       let ok = described-accepted w target good s d (t + 1 + 4) (x .next) m (x .element) in
-      stops 37 t c (array-stops d t x (sym (array-passes w m ok _ h)))
-  part-fault-stops good (F.ofMembers {d = d} {t = t} {align = a} {packing = p} {k = k} c m h e) =
+      stops 37 t c (array-stops d t n x (sym (array-passes w m ok n h)))
+  part-fault-stops good (F.ofMembers {d = d} {t = t} {align = a} {packing = p} {k = k} {c = o} c m h e) =
       stops k t c
-      (tagged-struct w target s t (formAt w (partFor w target d s) s t) (m .header .tag) ∙ struct-is w target s t (partFor w target d s) (m .header)
-      ∙ body-refused w (partFor w target d s) (Describes w target d s) p t (reads w target s d) a (m .run) h e)
-  part-fault-stops good (F.ofStruct {d = d} {t = t} {align = a} {packing = p} {j = j} {k = k} {ms = ms} c m e) =
-      stops k t c (as-by-hand w target s d t j a p ms (m .header) (m .run) ∙ ap (byHand t j) e)
+      (tagged-struct w target s t (formAt w (partFor w target d s) s t) o (m .header .tag) ∙ struct-is w target s t (partFor w target d s) (m .header)
+      ∙ body-refused w (partFor w target d s) (Describes w target d s) p t (reads w target s d) (t + 3 + countBytes o) a (m .run) h e)
+  part-fault-stops good (F.ofStruct {d = d} {t = t} {align = a} {packing = p} {j = j} {k = k} {c = o} {ms = ms} c m e) =
+      stops k t c (as-by-hand w target s d t j a p o ms (m .header) (m .run) ∙ ap (byHand t j) e)
 
   fault-stops : ScalarsAccepted w target → {k i : ℕ} → Fault w target s k i → describedFor w target s ≡ stopped k i
   unfolding describedFor

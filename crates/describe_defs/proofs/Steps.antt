@@ -10,8 +10,8 @@ use lib.ListN.{length, take, drop, getD}
 use Rattle.util_defs.specs.Refusal.{Outcome, answered, refused}
 use Rattle.util_defs.specs.Placed.{Placed, reached, stopped, atPlace, goOn}
 use Rattle.words.specs.Bytes.{valueOf}
-use Rattle.describe_defs.specs.Describe.{array, struct, slice, Tag, code, opens, unknown, tagOf, byteAt, countAt, powerOf, powerAt}
-use Rattle.describe_defs.specs.Grammar.{IsByte, IsPower}
+use Rattle.describe_defs.specs.Describe.{Counted, byOne, byTwo, structTag, array, struct, slice, Tag, code, opens, unknown, tagOf, byteAt, countAt, powerOf, powerAt}
+use Rattle.describe_defs.specs.Grammar.{IsByte, IsCount, IsPower}
 
 -- a refusal reaches nothing
 pub not-stopped : {T : Type 0} {x : T} {k i : ℕ} → stopped k i ≡ reached x → ⊥
@@ -70,32 +70,33 @@ power-found s i {a} e =
 pub power-is : (s : List ℕ) (i : ℕ) {a : ℕ} → IsPower s i a → powerAt s i ≡ reached a
 power-is s i h = rw (byte-is s i (h .at), le-leb (h .byte) 64 (h .most), h .is)
 
-pub count-found : (s : List ℕ) (i : ℕ) {n : ℕ} → countAt s i ≡ reached n → (i + 4 ≤ length s) × (valueOf (take 4 (drop i s)) ≡ n)
-count-found s i {n} e =
-    let x = went-if (leb (i + 4) (length s)) (valueOf (take 4 (drop i s))) n 33 _ e in
-    (leb-true (i + 4) (length s) (x .0), x .1)
+pub count-found : (k : ℕ) (s : List ℕ) (i : ℕ) {n : ℕ} → countAt k s i ≡ reached n → IsCount k s i n
+count-found k s i {n} e =
+    let x = went-if (leb (i + k) (length s)) (valueOf (take k (drop i s))) n 33 _ e in
+    record { within = leb-true (i + k) (length s) (x .0); is = x .1 }
 
-pub count-is : (s : List ℕ) (i : ℕ) → i + 4 ≤ length s → countAt s i ≡ reached (valueOf (take 4 (drop i s)))
-count-is s i h = rw (le-leb (i + 4) (length s) h)
+pub count-is : (k : ℕ) (s : List ℕ) (i : ℕ) {n : ℕ} → IsCount k s i n → countAt k s i ≡ reached n
+count-is k s i h = rw (le-leb (i + k) (length s) (h .within), h .is)
 
 -- what a tag says of its byte
 abbrev pub TagMeans : ℕ → Tag → Type 0
 TagMeans b code = b ≤ 8
 TagMeans b (opens array) = b ≡ 16
-TagMeans b (opens struct) = b ≡ 17
+TagMeans b (opens (struct c)) = b ≡ structTag c
 TagMeans b (opens slice) = b ≡ 18
-TagMeans b unknown = (8 < b) × ((b ≡ 16 → ⊥) × ((b ≡ 17 → ⊥) × (b ≡ 18 → ⊥)))
+TagMeans b unknown = (8 < b) × ((b ≡ 16 → ⊥) × ((b ≡ 17 → ⊥) × ((b ≡ 18 → ⊥) × (b ≡ 19 → ⊥))))
 
 pub tag-means : (b : ℕ) → TagMeans b (tagOf b)
-tag-means b = go (leb b 8) (eqb b 16) (eqb b 17) (eqb b 18) refl refl refl refl
+tag-means b = go (leb b 8) (eqb b 16) (eqb b 17) (eqb b 18) (eqb b 19) refl refl refl refl refl
   where
-    go : (p q r t : Bool) → leb b 8 ≡ p → eqb b 16 ≡ q → eqb b 17 ≡ r → eqb b 18 ≡ t
-        → TagMeans b (cond p code (cond q (opens array) (cond r (opens struct) (cond t (opens slice) unknown))))
-    go true q r t h i j k = leb-true b 8 h
-    go false true r t h i j k = eqb-true b 16 i
-    go false false true t h i j k = eqb-true b 17 j
-    go false false false true h i j k = eqb-true b 18 k
-    go false false false false h i j k = (leb-false b 8 h, (eqb-false b 16 i, (eqb-false b 17 j, eqb-false b 18 k)))
+    go : (p q r t u : Bool) → leb b 8 ≡ p → eqb b 16 ≡ q → eqb b 17 ≡ r → eqb b 18 ≡ t → eqb b 19 ≡ u
+        → TagMeans b (cond p code (cond q (opens array) (cond r (opens (struct byOne)) (cond t (opens slice) (cond u (opens (struct byTwo)) unknown)))))
+    go true q r t u h i j k l = leb-true b 8 h
+    go false true r t u h i j k l = eqb-true b 16 i
+    go false false true t u h i j k l = eqb-true b 17 j
+    go false false false true u h i j k l = eqb-true b 18 k
+    go false false false false true h i j k l = eqb-true b 19 l
+    go false false false false false h i j k l = (leb-false b 8 h, (eqb-false b 16 i, (eqb-false b 17 j, (eqb-false b 18 k, eqb-false b 19 l))))
 
 pub tag-code : (b : ℕ) → b ≤ 8 → tagOf b ≡ code
 tag-code b h = rw (le-leb b 8 h)

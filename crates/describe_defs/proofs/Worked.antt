@@ -35,11 +35,11 @@ power-first = refl
 
 -- a member is added once its last byte is read: an unknown tag in the second stands before 7
 seven-late : gives (17 ∷ 0 ∷ 0 ∷ 2 ∷ 18 ∷ 0 ∷ 20 ∷ []) ≡ stopped 34 6
-unfolding describedFor partFor structAt sliceAt addRead beginFor sliceOfFor extended unless powerOfTwo up
+unfolding describedFor partFor structAt sliceAt addRead beginFor sliceOfFor extended unless powerOfTwo up valueOf
 seven-late = refl
 
 seven-at-tag : gives (17 ∷ 0 ∷ 0 ∷ 2 ∷ 18 ∷ 0 ∷ 0 ∷ []) ≡ stopped 7 0
-unfolding describedFor partFor structAt sliceAt addRead beginFor sliceOfFor extended unless powerOfTwo up
+unfolding describedFor partFor structAt sliceAt addRead beginFor sliceOfFor extended unless powerOfTwo up valueOf
 seven-at-tag = refl
 
 -- sixteen slices are open: the tag that opens the next is refused before its count is
@@ -71,5 +71,18 @@ unfolding describedFor partFor arrayAt arrayFor unless powerOfTwo valueOf
 three-u16 = refl
 
 u8-u32 : gives (17 ∷ 0 ∷ 0 ∷ 2 ∷ 0 ∷ 2 ∷ []) ≡ reached (record { align = 4; info = fixed 8; mark = false; modifier = false })
-unfolding describedFor partFor structAt addRead beginFor extended padFor padded unless powerOfTwo up
+unfolding describedFor partFor structAt addRead beginFor extended padFor padded unless powerOfTwo up valueOf
 u8-u32 = refl
+
+-- the same struct, its count in two bytes; cut in its count; 256 members are missing
+u8-u32-long : gives (19 ∷ 0 ∷ 0 ∷ 2 ∷ 0 ∷ 0 ∷ 2 ∷ []) ≡ reached (record { align = 4; info = fixed 8; mark = false; modifier = false })
+unfolding describedFor partFor structAt addRead beginFor extended padFor padded unless powerOfTwo up valueOf
+u8-u32-long = refl
+
+long-cut : gives (19 ∷ 0 ∷ 0 ∷ 2 ∷ []) ≡ stopped 33 4
+unfolding describedFor partFor structAt valueOf
+long-cut = refl
+
+long-high : gives (19 ∷ 0 ∷ 0 ∷ 0 ∷ 1 ∷ []) ≡ stopped 33 5
+unfolding describedFor partFor structAt addRead beginFor unless powerOfTwo valueOf
+long-high = refl

@@ -9,7 +9,7 @@ use Rattle.scalar.specs.Scalar.{Target, greatestCode, scalarLayout}
 use Rattle.record_defs.specs.Record.{recordLength, recordBytes, wordsOf}
 use Rattle.compose_defs.specs.Compose.{Composed, composed, refusedAt, ported, composeStruct, structFor}
 use Rattle.compose_defs.specs.Places.{listed}
-use Rattle.describe_defs.specs.Describe.{Part, greatestPower, powerOf, partFor, describedFor}
+use Rattle.describe_defs.specs.Describe.{Counted, countBytes, Part, greatestPower, powerOf, partFor, describedFor}
 use Rattle.describe_defs.specs.Grammar.{Run, members, Header, Describes, Description}
 
 abbrev pub OneLayout : ℕ → Target → List ℕ → Type 0
@@ -23,15 +23,16 @@ byHand t j (refusedAt k place) = stopped k t
 -- a struct whose members are read is the composition of their layouts
 abbrev pub AsByHand : ℕ → Target → List ℕ → Type 0
 AsByHand w target s =
-    (d t j align packing : ℕ) (ms : List Layout) → Header s t align packing (length ms)
-    → Run (Describes w target d s) (t + 4) j ms
+    (d t j align packing : ℕ) (c : Counted) (ms : List Layout) → Header s t c align packing (length ms)
+    → Run (Describes w target d s) (t + 3 + countBytes c) j ms
     → partFor w target (suc d) s t ≡ byHand t j (composeStruct w ported align packing (members ms))
 
 -- and `for_repr_c_struct` of a list of records that has these layouts
 abbrev pub AsByRecords : ℕ → Target → List ℕ → Type 0
 AsByRecords w target s =
-    (d t j align packing : ℕ) (ms : List Layout) (records : List ℕ) → Header s t align packing (length ms)
-    → Run (Describes w target d s) (t + 4) j ms → length records % recordLength ≡ 0 → listed w records ≡ members ms
+    (d t j align packing : ℕ) (c : Counted) (ms : List Layout) (records : List ℕ) → Header s t c align packing (length ms)
+    → Run (Describes w target d s) (t + 3 + countBytes c) j ms → length records % recordLength ≡ 0
+    → listed w records ≡ members ms
     → partFor w target (suc d) s t ≡ byHand t j (structFor w ported align packing records)
 
 -- a struct of scalars as bytes: a and p are the bytes of alignment and packing

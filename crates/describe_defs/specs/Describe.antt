@@ -1,5 +1,5 @@
--- Nested type descriptions (document 02, request 4): what reading one gives, the first refusal that is met with its place, in the
--- order of reading. Assumes nothing.
+-- Nested type descriptions (document 02, requests 4 and 8): what reading one gives, the first refusal that is met with its place,
+-- in the order of reading. Assumes nothing.
 use mathlib.Core.Bool.{cond}
 use mathlib.Core.List.{List}
 use Prim.Native.Nat.{ℕ, zero, suc, _+_, _-_, _^_, max}
@@ -22,10 +22,23 @@ Part = Layout × ℕ
 abbrev pub Reader : Type 0
 Reader = ℕ → Placed Part
 
+-- a struct's member count has one byte behind the tag 17, two behind 19
+pub data Counted : Type 0 where
+  byOne : Counted
+  byTwo : Counted
+
+abbrev pub structTag : Counted → ℕ
+structTag byOne = 17
+structTag byTwo = 19
+
+abbrev pub countBytes : Counted → ℕ
+countBytes byOne = 1
+countBytes byTwo = 2
+
 -- the forms that open a part, and what a tag says
 pub data Form : Type 0 where
   array : Form
-  struct : Form
+  struct : Counted → Form
   slice : Form
 
 pub data Tag : Type 0 where
@@ -33,14 +46,15 @@ pub data Tag : Type 0 where
   opens : Form → Tag
   unknown : Tag
 
--- a scalar code; 16 an array, 17 a struct, 18 a slice
+-- a scalar code; 16 an array, 17 and 19 a struct, 18 a slice
 abbrev pub tagOf : ℕ → Tag
 tagOf b =
     cond (leb b greatestCode) code
     (cond (eqb b 16) (opens array)
-    (cond (eqb b 17) (opens struct)
+    (cond (eqb b 17) (opens (struct byOne))
     (cond (eqb b 18) (opens slice)
-    unknown)))
+    (cond (eqb b 19) (opens (struct byTwo))
+    unknown))))
 
 -- the byte at a place, 33 where there is none
 abbrev pub byteAt : List ℕ → ℕ → Placed ℕ
@@ -50,10 +64,9 @@ byteAt s i = cond (ltb i (length s)) (reached (getD s i 0)) (stopped 33 i)
 abbrev pub countLength : ℕ
 countLength = 4
 
--- the little-endian count at a place, 33 at its first byte that is missing
-abbrev pub countAt : List ℕ → ℕ → Placed ℕ
-countAt s i =
-    cond (leb (i + countLength) (length s)) (reached (valueOf (take countLength (drop i s)))) (stopped 33 (max i (length s)))
+-- the little-endian count of k bytes at a place, 33 at its first byte that is missing
+abbrev pub countAt : ℕ → List ℕ → ℕ → Placed ℕ
+countAt k s i = cond (leb (i + k) (length s)) (reached (valueOf (take k (drop i s)))) (stopped 33 (max i (length s)))
 
 -- an alignment or a packing as one byte: 0 none, else 1 + the power; 34 for a power above the greatest
 abbrev pub greatestPower : ℕ
@@ -71,25 +84,25 @@ addRead w part packing t zero l i = reached (l, i)
 addRead w part packing t (suc n) l i =
     goOn (part i) (λ m. atPlace t (memberStep w ported packing l (answered (m .0))) (λ l′. addRead w part packing t n l′ (m .1)))
 
--- a struct, whose tag is at t: its header, byte by byte, its members from the empty layout on, closing padding
+-- a struct, whose tag is at t: its header, byte by byte, its members, from i on, from the empty layout on, closing padding
 abbrev pub closed : ℕ → ℕ → Part → Placed Part
 closed w t x = atPlace t (padFor w (x .0)) (λ l. reached (l, x .1))
 
-abbrev pub structBody : ℕ → Reader → ℕ → ℕ → ℕ → ℕ → Placed Part
-structBody w part t align packing n =
-    atPlace t (beginFor w ported align packing) (λ l. goOn (addRead w part packing t n l (t + 4)) (closed w t))
+abbrev pub structBody : ℕ → Reader → ℕ → ℕ → ℕ → ℕ → ℕ → Placed Part
+structBody w part t i align packing n =
+    atPlace t (beginFor w ported align packing) (λ l. goOn (addRead w part packing t n l i) (closed w t))
 
-unfoldable pub structAt : ℕ → Reader → List ℕ → ℕ → Placed Part
-structAt w part s t =
+unfoldable pub structAt : ℕ → Reader → List ℕ → ℕ → Counted → Placed Part
+structAt w part s t c =
     goOn (powerAt s (t + 1)) (λ align.
     goOn (powerAt s (t + 2)) (λ packing.
-    goOn (byteAt s (t + 3)) (λ n.
-    structBody w part t align packing n)))
+    goOn (countAt (countBytes c) s (t + 3)) (λ n.
+    structBody w part t (t + 3 + countBytes c) align packing n)))
 
 -- an array and a slice: the element whole, and then it is judged
 unfoldable pub arrayAt : ℕ → Reader → List ℕ → ℕ → Placed Part
 arrayAt w part s t =
-    goOn (countAt s (t + 1)) (λ n.
+    goOn (countAt countLength s (t + 1)) (λ n.
     goOn (part (t + 1 + countLength)) (λ x. atPlace t (arrayFor w (x .0) n) (λ l. reached (l, x .1))))
 
 unfoldable pub sliceAt : ℕ → Reader → ℕ → Placed Part
@@ -98,7 +111,7 @@ sliceAt w part t = goOn (part (t + 1)) (λ x. atPlace t (sliceOfFor w (x .0)) (�
 -- a part that a form opens, the parts in it read by the level below
 abbrev pub formAt : ℕ → Reader → List ℕ → ℕ → Form → Placed Part
 formAt w part s t array = arrayAt w part s t
-formAt w part s t struct = structAt w part s t
+formAt w part s t (struct c) = structAt w part s t c
 formAt w part s t slice = sliceAt w part t
 
 -- a part by what its tag says: 34 for one that is unknown

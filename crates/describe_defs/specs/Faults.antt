@@ -1,25 +1,25 @@
--- Why bytes are refused as a description, and at which place (document 02, request 4): the fault that reading comes to. Assumes
--- nothing.
+-- Why bytes are refused as a description, and at which place (document 02, requests 4 and 8): the fault that reading comes to.
+-- Assumes nothing.
 use mathlib.Core.Path.{_≡_}
 use mathlib.Core.List.{List}
 use Prim.Native.Nat.{ℕ, zero, suc, _+_, _*_, _≤_, _<_}
-use lib.ListN.{length, take, drop}
+use lib.ListN.{length}
 use Rattle.util_defs.specs.Width.{M}
 use Rattle.util_defs.specs.Refusal.{answered}
 use Rattle.util_defs.specs.Placed.{Placed, reached, stopped}
 use Rattle.layout_defs.specs.Layout.{Layout, checkFor}
 use Rattle.layout_defs.specs.Extend.{IsTrailing}
 use Rattle.scalar.specs.Scalar.{Target, greatestCode, scalarLayout}
-use Rattle.words.specs.Bytes.{valueOf}
 use Rattle.compose_defs.specs.Compose.{composed, refusedAt, ported, composeMembers, composeStruct}
 use Rattle.describe_defs.specs.Elements.{elementSize}
-use Rattle.describe_defs.specs.Describe.{Part, Form, array, struct, slice, countLength, greatestPower, greatestDepth}
-use Rattle.describe_defs.specs.Grammar.{IsByte, IsPower, Run, members, Header, Describes, Description}
+use Rattle.describe_defs.specs.Describe.{Part, Counted, structTag, countBytes, Form, array, struct, slice, countLength}
+use Rattle.describe_defs.specs.Describe.{greatestPower, greatestDepth}
+use Rattle.describe_defs.specs.Grammar.{IsByte, IsPower, IsCount, Run, members, Header, Describes, Description}
 
 -- the tags that open a part; a byte that is none of them and no scalar's code
 abbrev pub tagByte : Form → ℕ
 tagByte array = 16
-tagByte struct = 17
+tagByte (struct c) = structTag c
 tagByte slice = 18
 
 abbrev pub UnknownTag : ℕ → Type 0
@@ -31,21 +31,21 @@ pub data BadPower (s : List ℕ) (i : ℕ) : ℕ → ℕ → Type 0 where
   powerAbove : {b : ℕ} → IsByte s i b → 1 + greatestPower < b → BadPower s i 34 i
 
 -- no header of a struct at t: its bytes are judged one by one
-pub data BadHeader (s : List ℕ) (t : ℕ) : ℕ → ℕ → Type 0 where
-  badAlign : {k i : ℕ} → BadPower s (t + 1) k i → BadHeader s t k i
-  badPacking : {align k i : ℕ} → IsPower s (t + 1) align → BadPower s (t + 2) k i → BadHeader s t k i
-  noCount : {align packing : ℕ} → IsPower s (t + 1) align → IsPower s (t + 2) packing → t + 3 ≡ length s
-      → BadHeader s t 33 (t + 3)
+pub data BadHeader (s : List ℕ) (t : ℕ) (c : Counted) : ℕ → ℕ → Type 0 where
+  badAlign : {k i : ℕ} → BadPower s (t + 1) k i → BadHeader s t c k i
+  badPacking : {align k i : ℕ} → IsPower s (t + 1) align → BadPower s (t + 2) k i → BadHeader s t c k i
+  noCount : {align packing : ℕ} → IsPower s (t + 1) align → IsPower s (t + 2) packing → length s < t + 3 + countBytes c
+      → BadHeader s t c 33 (length s)
 
 -- the scalars of the target are layouts at the width
 abbrev pub ScalarsAccepted : ℕ → Target → Type 0
 ScalarsAccepted w target = (b : ℕ) → b ≤ greatestCode → checkFor w (scalarLayout target b) ≡ answered tt
 
 module _ (w : ℕ) (target : Target) (s : List ℕ) where
-  -- the element of an array at t, or of a slice, with d parts more that may be open in it
-  pub record ArrayOf (d t : ℕ) (m : Layout) : Type 0 where
+  -- the element of an array of n at t, or of a slice, with d parts more that may be open in it
+  pub record ArrayOf (d t n : ℕ) (m : Layout) : Type 0 where
     pub tag : IsByte s t 16
-    pub count : t + 1 + countLength ≤ length s
+    pub count : IsCount countLength s (t + 1) n
     pub next : ℕ
     pub element : Describes w target d s (t + 1 + countLength) next m
 
@@ -55,19 +55,19 @@ module _ (w : ℕ) (target : Target) (s : List ℕ) where
     pub element : Describes w target d s (t + 1) next m
 
   -- the first members of a struct at t, as many as were read
-  pub record MembersOf (d t align packing n j : ℕ) (ms : List Layout) : Type 0 where
-    pub header : Header s t align packing n
-    pub run : Run (Describes w target d s) (t + 4) j ms
+  pub record MembersOf (d t : ℕ) (c : Counted) (align packing n j : ℕ) (ms : List Layout) : Type 0 where
+    pub header : Header s t c align packing n
+    pub run : Run (Describes w target d s) (t + 3 + countBytes c) j ms
 
   -- a part at a place is read, with so many more that may be open
   module _ (depth start : ℕ) where
     -- reading comes to a part at t, with d more that may be open: the first; an element; a member, once those before it are added
     pub data Comes : ℕ → ℕ → Type 0 where
       first : Comes depth start
-      element : {d t : ℕ} → Comes (suc d) t → IsByte s t 16 → t + 1 + countLength ≤ length s → Comes d (t + 1 + countLength)
+      element : {d t n : ℕ} → Comes (suc d) t → IsByte s t 16 → IsCount countLength s (t + 1) n → Comes d (t + 1 + countLength)
       sliced : {d t : ℕ} → Comes (suc d) t → IsByte s t 18 → Comes d (t + 1)
-      member : {d t align packing n j : ℕ} {ms : List Layout} {l : Layout} → Comes (suc d) t
-          → MembersOf d t align packing n j ms → length ms < n
+      member : {d t align packing n j : ℕ} {c : Counted} {ms : List Layout} {l : Layout} → Comes (suc d) t
+          → MembersOf d t c align packing n j ms → length ms < n
           → composeMembers w ported align packing (members ms) ≡ composed l → Comes d j
 
     -- a refusal and its place. 33: bytes run out, at the first that is missing. 34: a tag is unknown, or a power above the
@@ -78,16 +78,15 @@ module _ (w : ℕ) (target : Target) (s : List ℕ) where
       unknownTag : {d t b : ℕ} → Comes d t → IsByte s t b → UnknownTag b → PartFault 34 t
       tooDeep : {t : ℕ} → Comes zero t → (f : Form) → IsByte s t (tagByte f) → PartFault 35 t
       countCut : {d t : ℕ} → Comes (suc d) t → IsByte s t 16 → length s < t + 1 + countLength → PartFault 33 (length s)
-      inHeader : {d t k i : ℕ} → Comes (suc d) t → IsByte s t 17 → BadHeader s t k i → PartFault k i
-      arrayOfTrailing : {d t : ℕ} {m : Layout} → Comes (suc d) t → ArrayOf d t m → IsTrailing (m .info) → PartFault 36 t
+      inHeader : {d t k i : ℕ} (c : Counted) → Comes (suc d) t → IsByte s t (structTag c) → BadHeader s t c k i → PartFault k i
+      arrayOfTrailing : {d t n : ℕ} {m : Layout} → Comes (suc d) t → ArrayOf d t n m → IsTrailing (m .info) → PartFault 36 t
       sliceOfTrailing : {d t : ℕ} {m : Layout} → Comes (suc d) t → SliceOf d t m → IsTrailing (m .info) → PartFault 36 t
-      arrayPasses : {d t : ℕ} {m : Layout} → Comes (suc d) t → ArrayOf d t m
-          → M w < elementSize m * valueOf (take countLength (drop (t + 1) s)) → PartFault 37 t
-      ofMembers : {d t align packing n j k place : ℕ} {ms : List Layout} → Comes (suc d) t
-          → MembersOf d t align packing n j ms → length ms ≤ n
+      arrayPasses : {d t n : ℕ} {m : Layout} → Comes (suc d) t → ArrayOf d t n m → M w < elementSize m * n → PartFault 37 t
+      ofMembers : {d t align packing n j k place : ℕ} {c : Counted} {ms : List Layout} → Comes (suc d) t
+          → MembersOf d t c align packing n j ms → length ms ≤ n
           → composeMembers w ported align packing (members ms) ≡ refusedAt k place → PartFault k t
-      ofStruct : {d t align packing j k place : ℕ} {ms : List Layout} → Comes (suc d) t
-          → MembersOf d t align packing (length ms) j ms
+      ofStruct : {d t align packing j k place : ℕ} {c : Counted} {ms : List Layout} → Comes (suc d) t
+          → MembersOf d t c align packing (length ms) j ms
           → composeStruct w ported align packing (members ms) ≡ refusedAt k place → PartFault k t
 
     -- what reading a part means: it stands in the bytes from its place to behind its last byte; a refusal, that none stands

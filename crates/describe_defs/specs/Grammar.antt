@@ -1,5 +1,5 @@
--- The grammar of type descriptions (document 02, request 4), without refusals: which bytes describe a type, and which layout it
--- has. Assumes nothing.
+-- The grammar of type descriptions (document 02, requests 4 and 8), without refusals: which bytes describe a type, and which
+-- layout it has. Assumes nothing.
 use mathlib.Core.Path.{_≡_}
 use mathlib.Core.List.{List, [], _∷_, map}
 use Prim.Native.Nat.{ℕ, zero, suc, _+_, _≤_, _<_}
@@ -10,7 +10,7 @@ use Rattle.scalar.specs.Scalar.{Target, greatestCode, scalarLayout}
 use Rattle.words.specs.Bytes.{valueOf}
 use Rattle.compose_defs.specs.Compose.{composed, Member, ported, composeStruct}
 use Rattle.describe_defs.specs.Elements.{arrayFor, sliceOfFor}
-use Rattle.describe_defs.specs.Describe.{countLength, greatestPower, powerOf, greatestDepth}
+use Rattle.describe_defs.specs.Describe.{Counted, structTag, countBytes, countLength, greatestPower, powerOf, greatestDepth}
 
 -- bytes from a place to another, and the layout that they stand for
 abbrev pub Stands : Type 1
@@ -28,6 +28,11 @@ pub record IsPower (s : List ℕ) (i a : ℕ) : Type 0 where
   pub most : byte ≤ 1 + greatestPower
   pub is : a ≡ powerOf byte
 
+-- n is the little-endian count of k bytes at i
+pub record IsCount (k : ℕ) (s : List ℕ) (i n : ℕ) : Type 0 where
+  pub within : i + k ≤ length s
+  pub is : valueOf (take k (drop i s)) ≡ n
+
 -- parts one behind the other, and their layouts
 pub data Run (Inner : Stands) : ℕ → ℕ → List Layout → Type 0 where
   none : {i : ℕ} → Run Inner i i []
@@ -37,12 +42,12 @@ pub data Run (Inner : Stands) : ℕ → ℕ → List Layout → Type 0 where
 abbrev pub members : List Layout → List Member
 members ms = map answered ms
 
--- the header of a struct at t: the tag 17, alignment and packing, and the member count
-pub record Header (s : List ℕ) (t align packing n : ℕ) : Type 0 where
-  pub tag : IsByte s t 17
+-- the header of a struct at t: the tag 17 or 19, alignment and packing, and the member count
+pub record Header (s : List ℕ) (t : ℕ) (c : Counted) (align packing n : ℕ) : Type 0 where
+  pub tag : IsByte s t (structTag c)
   pub aligned : IsPower s (t + 1) align
   pub packed : IsPower s (t + 2) packing
-  pub count : IsByte s (t + 3) n
+  pub count : IsCount (countBytes c) s (t + 3) n
 
 -- a scalar: its code
 pub data ScalarIs (target : Target) (s : List ℕ) : ℕ → ℕ → Layout → Type 0 where
@@ -52,10 +57,11 @@ pub data ScalarIs (target : Target) (s : List ℕ) : ℕ → ℕ → Layout → 
 -- composition; a slice, 18 and an element
 pub data PartIs (w : ℕ) (target : Target) (s : List ℕ) (Inner : Stands) : ℕ → ℕ → Layout → Type 0 where
   aScalar : {t j : ℕ} {l : Layout} → ScalarIs target s t j l → PartIs w target s Inner t j l
-  anArray : {t j : ℕ} {m l : Layout} → IsByte s t 16 → t + 1 + countLength ≤ length s → Inner (t + 1 + countLength) j m
-      → arrayFor w m (valueOf (take countLength (drop (t + 1) s))) ≡ answered l → PartIs w target s Inner t j l
-  aStruct : {t j align packing : ℕ} {ms : List Layout} {l : Layout} → Header s t align packing (length ms)
-      → Run Inner (t + 4) j ms → composeStruct w ported align packing (members ms) ≡ composed l → PartIs w target s Inner t j l
+  anArray : {t j n : ℕ} {m l : Layout} → IsByte s t 16 → IsCount countLength s (t + 1) n → Inner (t + 1 + countLength) j m
+      → arrayFor w m n ≡ answered l → PartIs w target s Inner t j l
+  aStruct : {t j align packing : ℕ} {c : Counted} {ms : List Layout} {l : Layout} → Header s t c align packing (length ms)
+      → Run Inner (t + 3 + countBytes c) j ms → composeStruct w ported align packing (members ms) ≡ composed l
+      → PartIs w target s Inner t j l
   aSlice : {t j : ℕ} {m l : Layout} → IsByte s t 18 → Inner (t + 1) j m → sliceOfFor w m ≡ answered l
       → PartIs w target s Inner t j l
 

@@ -1,35 +1,34 @@
--- The head of a part: its tag, and what stands between that and the parts in it. A part is read by its head (`part-by-head`).
--- Assumes nothing.
+-- The head of a part: its tag, and what stands between that and the parts in it; of a struct also the place of its first member.
+-- A part is read by its head (`part-by-head`). Assumes nothing.
 use mathlib.Core.Path.{_≡_}
 use mathlib.Core.List.{List}
 use Prim.Native.Nat.{ℕ, zero, suc, _+_, _≤_, _<_}
-use lib.ListN.{length, take, drop}
 use Rattle.util_defs.specs.Refusal.{Outcome}
 use Rattle.util_defs.specs.Placed.{Placed, reached, stopped, atPlace, goOn}
 use Rattle.layout_defs.specs.Layout.{Layout}
 use Rattle.scalar.specs.Scalar.{Target, greatestCode, scalarLayout}
-use Rattle.words.specs.Bytes.{valueOf}
 use Rattle.describe_defs.specs.Elements.{arrayFor, sliceOfFor}
 use Rattle.describe_defs.specs.Describe.{Part, Reader, Form, array, struct, slice, Tag, code, opens, unknown, tagOf}
-use Rattle.describe_defs.specs.Describe.{byteAt, countLength, countAt, powerAt, structBody}
-use Rattle.describe_defs.specs.Grammar.{IsByte, Header}
+use Rattle.describe_defs.specs.Describe.{byteAt, countLength, countAt, powerAt, Counted, countBytes, structBody}
+use Rattle.describe_defs.specs.Grammar.{IsByte, IsCount, Header}
 
 pub data Head : Type 0 where
   codeHead : (scalar : ℕ) → Head
   arrayHead : (count : ℕ) → Head
-  structHead : (align packing count : ℕ) → Head
+  structHead : (align packing count first : ℕ) → Head
   sliceHead : Head
 
 -- the head of an array, a struct or a slice whose tag is at t
-abbrev pub packedHead : List ℕ → ℕ → ℕ → ℕ → Placed Head
-packedHead s t align packing = goOn (byteAt s (t + 3)) (λ n. reached (structHead align packing n))
+abbrev pub packedHead : List ℕ → ℕ → Counted → ℕ → ℕ → Placed Head
+packedHead s t c align packing =
+    goOn (countAt (countBytes c) s (t + 3)) (λ n. reached (structHead align packing n (t + 3 + countBytes c)))
 
-abbrev pub alignedHead : List ℕ → ℕ → ℕ → Placed Head
-alignedHead s t align = goOn (powerAt s (t + 2)) (packedHead s t align)
+abbrev pub alignedHead : List ℕ → ℕ → Counted → ℕ → Placed Head
+alignedHead s t c align = goOn (powerAt s (t + 2)) (packedHead s t c align)
 
 abbrev pub formHead : List ℕ → ℕ → Form → Placed Head
-formHead s t array = goOn (countAt s (t + 1)) (λ n. reached (arrayHead n))
-formHead s t struct = goOn (powerAt s (t + 1)) (alignedHead s t)
+formHead s t array = goOn (countAt countLength s (t + 1)) (λ n. reached (arrayHead n))
+formHead s t (struct c) = goOn (powerAt s (t + 1)) (alignedHead s t c)
 formHead s t slice = reached sliceHead
 
 -- with so many parts more that may be open
@@ -53,15 +52,18 @@ made t f x = atPlace t (f (x .0)) (λ l. reached (l, x .1))
 abbrev pub bodyAt : ℕ → Target → Reader → ℕ → Head → Placed Part
 bodyAt w target part t (codeHead b) = reached (scalarLayout target b, t + 1)
 bodyAt w target part t (arrayHead n) = goOn (part (t + 1 + countLength)) (made t (λ l. arrayFor w l n))
-bodyAt w target part t (structHead align packing n) = structBody w part t align packing n
+bodyAt w target part t (structHead align packing n i) = structBody w part t i align packing n
 bodyAt w target part t sliceHead = goOn (part (t + 1)) (made t (sliceOfFor w))
+
+-- a struct's header at t, behind which its members stand from i on
+pub data HeaderTo (s : List ℕ) (t align packing n : ℕ) : ℕ → Type 0 where
+  header : (c : Counted) → Header s t c align packing n → HeaderTo s t align packing n (t + 3 + countBytes c)
 
 -- what reading a head means: it stands at t, and a part may be opened there; a refusal, that none does
 abbrev pub HeadIs : ℕ → List ℕ → ℕ → Head → Type 0
 HeadIs d s t (codeHead b) = IsByte s t b × (b ≤ greatestCode)
-HeadIs d s t (arrayHead n) =
-    (0 < d) × (IsByte s t 16 × ((t + 1 + countLength ≤ length s) × (valueOf (take countLength (drop (t + 1) s)) ≡ n)))
-HeadIs d s t (structHead align packing n) = (0 < d) × Header s t align packing n
+HeadIs d s t (arrayHead n) = (0 < d) × (IsByte s t 16 × IsCount countLength s (t + 1) n)
+HeadIs d s t (structHead align packing n i) = (0 < d) × HeaderTo s t align packing n i
 HeadIs d s t sliceHead = (0 < d) × IsByte s t 18
 
 abbrev pub HeadMeans : ℕ → List ℕ → ℕ → Placed Head → Type 0

@@ -3,9 +3,9 @@ ghost use mathlib.Core.Path.{_≡_};
 ghost use Prim.Native.Nat.{_+_, _≤_, _<_};
 ghost use lib.ListN.{length, take, drop};
 ghost use Rattle.words.specs.Bytes.{valueOf};
-ghost use Rattle.describe_defs.specs.Describe.{array, struct, countAt, powerAt};
+ghost use Rattle.describe_defs.specs.Describe.{countBytes, array, struct, countLength, countAt, powerAt};
 ghost use Rattle.describe_defs.specs.Heads.{packedHead, alignedHead, formHead, headAt, HeadMeans};
-ghost use Rattle.heads.specs.View.{numberRead, headSays};
+ghost use Rattle.heads.specs.View.{counted, numberRead, headSays};
 use util::refusal;
 
 // The tags that open a part.
@@ -15,6 +15,9 @@ pub const STRUCT_TAG: u8 = 17;
 
 pub const SLICE_TAG: u8 = 18;
 
+// A struct whose member count has two bytes.
+pub const LONG_STRUCT_TAG: u8 = 19;
+
 pub const GREATEST_CODE: u8 = 8;
 
 // One more than the greatest power.
@@ -23,22 +26,36 @@ const GREATEST_POWER_BYTE: u8 = 64;
 // The bytes of an array's count.
 pub const COUNT_BYTES: usize = 4;
 
+// The bytes of a struct's count where there are two.
+const LONG_COUNT_BYTES: usize = 2;
+
 // A number that was read, or the number of the refusal and its place.
 pub enum NumberAnswer {
     Number(u64),
     Refused { number: u64, place: usize },
 }
 
-// The head of a part, or the number of the refusal and its place.
+// The head of a part, of a struct with the place of its first member; or the number of the refusal and its place.
 pub enum HeadAnswer {
     Scalar(u64),
-    Array { count: u64 },
-    Struct { align: u64, packed: u64, count: u64 },
+    Array {
+        count: u64,
+    },
+    Struct {
+        align: u64,
+        packed: u64,
+        count: u64,
+        first: usize,
+    },
     Slice,
-    Refused { number: u64, place: usize },
+    Refused {
+        number: u64,
+        place: usize,
+    },
 }
 
-fn wide(x: u8) -> u64
+// A byte as a number.
+pub fn wide(x: u8) -> u64
     ensures { λ r. ⌜ (r ≡ x) × (r < 256) ⌝ }
 {
     x as u64
@@ -58,7 +75,7 @@ fn load_count(s: &[u8], at: usize) -> u64
 
 // The count of an array.
 fn read_count(s: &[u8], at: usize) -> NumberAnswer
-    ensures { λ r. ⌜ numberRead r ≡ countAt (now (s .entry)) at ⌝ }
+    ensures { λ r. ⌜ numberRead r ≡ countAt countLength (now (s .entry)) at ⌝ }
 {
     if s.len() <= at {
         return NumberAnswer::Refused {
@@ -73,6 +90,29 @@ fn read_count(s: &[u8], at: usize) -> NumberAnswer
         };
     }
     NumberAnswer::Number(load_count(s, at))
+}
+
+// The member count of a struct, in one byte or in two.
+fn read_members(s: &[u8], at: usize, long: bool) -> NumberAnswer
+    ensures { λ r. ⌜ numberRead r ≡ countAt (countBytes (counted long)) (now (s .entry)) at ⌝ }
+{
+    if s.len() <= at {
+        return NumberAnswer::Refused {
+            number: refusal::DESCRIPTION_CUT,
+            place: at,
+        };
+    }
+    let low = wide(s[at]);
+    if long {
+        if s.len() - at < LONG_COUNT_BYTES {
+            return NumberAnswer::Refused {
+                number: refusal::DESCRIPTION_CUT,
+                place: at + 1,
+            };
+        }
+        return NumberAnswer::Number(low + 0x100 * wide(s[at + 1]));
+    }
+    NumberAnswer::Number(low)
 }
 
 // An alignment or a packing: 0 for none, else 1 + the power.
@@ -109,43 +149,47 @@ fn array_head(s: &[u8], at: usize) -> HeadAnswer
     }
 }
 
-// That of a struct behind its alignment and its packing.
-fn packed_head(s: &[u8], at: usize, align: u64, packed: u64) -> HeadAnswer
-    requires { ⌜ at + 2 < length (now s) ⌝ }
-    ensures { λ r. ⌜ headSays r ≡ packedHead (now (s .entry)) at align packed ⌝ }
+// The bytes of a struct's head.
+fn struct_bytes(long: bool) -> usize
+    ensures { λ r. ⌜ r ≡ 3 + countBytes (counted long) ⌝ }
 {
-    if s.len() <= at + 3 {
-        return HeadAnswer::Refused {
-            number: refusal::DESCRIPTION_CUT,
-            place: at + 3,
-        };
-    }
-    let count = wide(s[at + 3]);
-    HeadAnswer::Struct {
-        align,
-        packed,
-        count,
-    }
+    if long { 5 } else { 4 }
 }
 
-// That of a struct behind its alignment.
-fn aligned_head(s: &[u8], at: usize, align: u64) -> HeadAnswer
-    requires { ⌜ at + 1 < length (now s) ⌝ }
-    ensures { λ r. ⌜ headSays r ≡ alignedHead (now (s .entry)) at align ⌝ }
+// That of a struct behind its alignment and its packing.
+fn packed_head(s: &[u8], at: usize, long: bool, align: u64, packed: u64) -> HeadAnswer
+    requires { ⌜ at + 2 < length (now s) ⌝ }
+    ensures { λ r. ⌜ headSays r ≡ packedHead (now (s .entry)) at (counted long) align packed ⌝ }
 {
-    match read_power(s, at + 2) {
-        NumberAnswer::Number(packed) => packed_head(s, at, align, packed),
+    match read_members(s, at + 3, long) {
+        NumberAnswer::Number(count) => HeadAnswer::Struct {
+            align,
+            packed,
+            count,
+            first: at + struct_bytes(long),
+        },
         NumberAnswer::Refused { number, place } => HeadAnswer::Refused { number, place },
     }
 }
 
-// That of a struct, byte by byte.
-fn struct_head(s: &[u8], at: usize) -> HeadAnswer
+// That of a struct behind its alignment.
+fn aligned_head(s: &[u8], at: usize, long: bool, align: u64) -> HeadAnswer
+    requires { ⌜ at + 1 < length (now s) ⌝ }
+    ensures { λ r. ⌜ headSays r ≡ alignedHead (now (s .entry)) at (counted long) align ⌝ }
+{
+    match read_power(s, at + 2) {
+        NumberAnswer::Number(packed) => packed_head(s, at, long, align, packed),
+        NumberAnswer::Refused { number, place } => HeadAnswer::Refused { number, place },
+    }
+}
+
+// That of a struct, byte by byte; long, where its member count has two bytes.
+fn struct_head(s: &[u8], at: usize, long: bool) -> HeadAnswer
     requires { ⌜ at < length (now s) ⌝ }
-    ensures { λ r. ⌜ headSays r ≡ formHead (now (s .entry)) at struct ⌝ }
+    ensures { λ r. ⌜ headSays r ≡ formHead (now (s .entry)) at (struct (counted long)) ⌝ }
 {
     match read_power(s, at + 1) {
-        NumberAnswer::Number(align) => aligned_head(s, at, align),
+        NumberAnswer::Number(align) => aligned_head(s, at, long, align),
         NumberAnswer::Refused { number, place } => HeadAnswer::Refused { number, place },
     }
 }
@@ -171,7 +215,7 @@ pub fn head(s: &[u8], at: usize, depth: usize) -> HeadAnswer
             place: at,
         };
     }
-    if tag > SLICE_TAG {
+    if tag > LONG_STRUCT_TAG {
         return HeadAnswer::Refused {
             number: refusal::TAG_OR_POWER,
             place: at,
@@ -186,8 +230,8 @@ pub fn head(s: &[u8], at: usize, depth: usize) -> HeadAnswer
     if tag == ARRAY_TAG {
         return array_head(s, at);
     }
-    if tag == STRUCT_TAG {
-        return struct_head(s, at);
+    if tag == SLICE_TAG {
+        return HeadAnswer::Slice;
     }
-    HeadAnswer::Slice
+    struct_head(s, at, tag == LONG_STRUCT_TAG)
 }

@@ -480,28 +480,6 @@ part-enum-known-empty : (t : ℕ) → part-lts.Need-enum-known-empty (
 ) (part-at t) part.Post
 part-enum-known-empty t c = search needs
 
-part-add-add-members : (t : ℕ) → part-lts.Need-add-add-members (
-  head-reads.Asked,
-  head-reads.Learnt,
-  scalar-reads.Asked,
-  scalar-reads.Learnt,
-  at-tag-reads.Asked,
-  at-tag-reads.Learnt,
-  part-below t,
-  part.Post,
-  array-part-reads.Asked,
-  array-part-reads.Learnt,
-  new-zst-reads.Asked,
-  new-zst-reads.Learnt,
-  add-members-below t,
-  add-members.Post,
-  struct-part-reads.Asked,
-  struct-part-reads.Learnt,
-  slice-part-reads.Asked,
-  slice-part-reads.Learnt,
-) (part-at t) part.Post
-part-add-add-members t c = omega (arith, head-room (c .before .before .before .before .before .before .before .before .before .args .s .now) (c .before .before .before .before .before .before .before .before .before .args .at) (c .before .before .before .before .before .before .before .before .before .args .depth) (sym (c .before .before .before .before .before .before .before .head .ensures .0) ∙ ap headSays (c .before .before .before .before .before .align .given .1)))
-
 part-sub-add-members : (t : ℕ) → part-lts.Need-sub-add-members (
   head-reads.Asked,
   head-reads.Learnt,
@@ -795,7 +773,7 @@ part-returns-3 : (t : ℕ) → part-lts.Need-returns-3 (
 part-returns-3 t c =
     part-told 64 target64 scalars64 (c .before .before .before .before .before .before .before .before .before .before .before .args .depth) (c .before .before .before .before .before .before .before .before .before .before .before .args .s .now) (c .before .before .before .before .before .before .before .before .before .before .before .args .at)
     (c .struct-part .ensures ∙ ap (λ (p : Placed Part). goOn p (closed 64 (c .before .before .before .before .before .before .before .before .before .before .before .args .at))) (c .before .add-members .ensures)
-    ∙ sym (by-head 64 target64 (c .before .before .before .before .before .before .before .before .before .before .before .args .depth) (c .before .before .before .before .before .before .before .before .before .before .before .args .s .now) (c .before .before .before .before .before .before .before .before .before .before .before .args .at) (sym (c .before .before .before .before .before .before .before .before .before .head .ensures .0) ∙ ap headSays (c .before .before .before .before .before .before .before .align .given .1)) ∙ body-on 64 (partFor 64 target64 (c .before .before .before .before .before .before .before .before .before .before .before .args .depth - 1) (c .before .before .before .before .before .before .before .before .before .before .before .args .s .now)) (c .before .before .before .before .before .before .before .before .before .before .before .args .at) (c .before .before .before .before .before .before .before .align .given .0 .0) (c .before .before .before .before .before .before .before .align .given .0 .1 .0) (c .before .before .before .before .before .before .before .align .given .0 .1 .1 .0) (told-by layoutSays (c .before .before .before .before .before .new-zst .ensures .0) (c .before .before .before .empty .given .1))))
+    ∙ sym (by-head 64 target64 (c .before .before .before .before .before .before .before .before .before .before .before .args .depth) (c .before .before .before .before .before .before .before .before .before .before .before .args .s .now) (c .before .before .before .before .before .before .before .before .before .before .before .args .at) (sym (c .before .before .before .before .before .before .before .before .before .head .ensures .0) ∙ ap headSays (c .before .before .before .before .before .before .before .align .given .1)) ∙ body-on 64 (partFor 64 target64 (c .before .before .before .before .before .before .before .before .before .before .before .args .depth - 1) (c .before .before .before .before .before .before .before .before .before .before .before .args .s .now)) (c .before .before .before .before .before .before .before .before .before .before .before .args .at) (c .before .before .before .before .before .before .before .align .given .0 .1 .1 .1 .0) (c .before .before .before .before .before .before .before .align .given .0 .0) (c .before .before .before .before .before .before .before .align .given .0 .1 .0) (c .before .before .before .before .before .before .before .align .given .0 .1 .1 .0) (told-by layoutSays (c .before .before .before .before .before .new-zst .ensures .0) (c .before .before .before .empty .given .1))))
 
 part-returns-4 : (t : ℕ) → part-lts.Need-returns-4 (
   head-reads.Asked,
@@ -819,7 +797,7 @@ part-returns-4 : (t : ℕ) → part-lts.Need-returns-4 (
 ) (part-at t) part.Post
 part-returns-4 t c =
     part-told 64 target64 scalars64 (c .before .before .before .before .before .before .before .before .before .args .depth) (c .before .before .before .before .before .before .before .before .before .args .s .now) (c .before .before .before .before .before .before .before .before .before .args .at)
-    (sym (by-head 64 target64 (c .before .before .before .before .before .before .before .before .before .args .depth) (c .before .before .before .before .before .before .before .before .before .args .s .now) (c .before .before .before .before .before .before .before .before .before .args .at) (sym (c .before .before .before .before .before .before .before .head .ensures .0) ∙ ap headSays (c .before .before .before .before .before .align .given .1)) ∙ body-off 64 (partFor 64 target64 (c .before .before .before .before .before .before .before .before .before .args .depth - 1) (c .before .before .before .before .before .before .before .before .before .args .s .now)) (c .before .before .before .before .before .before .before .before .before .args .at) (c .before .before .before .before .before .align .given .0 .0) (c .before .before .before .before .before .align .given .0 .1 .0) (c .before .before .before .before .before .align .given .0 .1 .1 .0) (told-by layoutSays (c .before .before .before .new-zst .ensures .0) (c .before .number .given .1))))
+    (sym (by-head 64 target64 (c .before .before .before .before .before .before .before .before .before .args .depth) (c .before .before .before .before .before .before .before .before .before .args .s .now) (c .before .before .before .before .before .before .before .before .before .args .at) (sym (c .before .before .before .before .before .before .before .head .ensures .0) ∙ ap headSays (c .before .before .before .before .before .align .given .1)) ∙ body-off 64 (partFor 64 target64 (c .before .before .before .before .before .before .before .before .before .args .depth - 1) (c .before .before .before .before .before .before .before .before .before .args .s .now)) (c .before .before .before .before .before .before .before .before .before .args .at) (c .before .before .before .before .before .align .given .0 .1 .1 .1 .0) (c .before .before .before .before .before .align .given .0 .0) (c .before .before .before .before .before .align .given .0 .1 .0) (c .before .before .before .before .before .align .given .0 .1 .1 .0) (told-by layoutSays (c .before .before .before .new-zst .ensures .0) (c .before .number .given .1))))
 
 part-returns-5 : (t : ℕ) → part-lts.Need-returns-5 (
   head-reads.Asked,
@@ -930,7 +908,6 @@ pub +add-members+part-spec : {M : Type 1} → statement M
     (part-enum-known-align t)
     (part-new-zst-requires t)
     (part-enum-known-empty t)
-    (part-add-add-members t)
     (part-sub-add-members t)
     (part-add-members-requires t)
     (part-struct-part-requires t)
