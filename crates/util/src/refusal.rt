@@ -82,6 +82,10 @@ pub const WORD_ABOVE_SHORT: u64 = 40;
 pub const OUTPUT_SHORT: u64 = 41;
 // A short record's spare bytes are not zero, or its power is above the greatest.
 pub const SPARE_OR_POWER: u64 = 42;
+// A struct's member count is above that of one byte.
+pub const COUNT_ABOVE_BYTE: u64 = 44;
+// The output of a rewriting is too short.
+pub const REWRITE_SHORT: u64 = 45;
 // The base of a layout's normal form passes the greatest number.
 pub const FORM_BASE_PASSES_MAX: u64 = 46;
 // The length of the lists is above the greatest.

@@ -1,0 +1,3 @@
+pub mod Heads
+pub mod Rewrite
+pub mod Means
