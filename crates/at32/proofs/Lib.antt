@@ -18,3 +18,4 @@ mod OfTyped
 mod OfShort
 mod OfShare
 mod OfDescribe
+mod OfRewrite
