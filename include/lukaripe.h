@@ -2,8 +2,8 @@
  *
  * Every function takes any numbers and any bytes and returns. An answer begins with its refusal: 0 where there is none, and
  * then the members behind it are the answer; else the number of the cause (LUKARIPE_REFUSED_..; lukaripe_refusal_text gives
- * it in words), and the members behind it are 0, except the `place` of a composition, a description, a move or a list of
- * counts, which says where. Each function's comment names the refusals that it can give, in the order in which they are
+ * it in words), and the members behind it are 0, except the `place` of a composition, a description, a move, a rewriting or
+ * a list of counts, which says where. Each function's comment names the refusals that it can give, in the order in which they are
  * tested: the first that applies is given.
  *
  * Words used below:
@@ -37,9 +37,9 @@
 #include <stdint.h>
 
 #define LUKARIPE_VERSION_MAJOR 0
-#define LUKARIPE_VERSION_MINOR 10
+#define LUKARIPE_VERSION_MINOR 11
 #define LUKARIPE_VERSION_PATCH 0
-#define LUKARIPE_VERSION "0.10.0"
+#define LUKARIPE_VERSION "0.11.0"
 
 /* An answer that is not looked at is a mistake: a refusal would go unseen. */
 #if defined(__GNUC__) || defined(__clang__)
@@ -96,6 +96,8 @@ enum {
     LUKARIPE_REFUSED_WORD_ABOVE_SHORT = 40,
     LUKARIPE_REFUSED_OUTPUT_SHORT = 41,
     LUKARIPE_REFUSED_SPARE_OR_POWER = 42,
+    LUKARIPE_REFUSED_COUNT_ABOVE_BYTE = 44,
+    LUKARIPE_REFUSED_REWRITE_SHORT = 45,
     LUKARIPE_REFUSED_FORM_BASE_PASSES_MAX = 46,
     LUKARIPE_REFUSED_LISTS_TOO_LONG = 47,
     LUKARIPE_REFUSED_CASES_SHORT = 48,
@@ -193,6 +195,10 @@ static inline const char *lukaripe_refusal_text(uint64_t refusal) {
         return "the output is too short";
     case LUKARIPE_REFUSED_SPARE_OR_POWER:
         return "the spare bytes of a short record are not 0, or its power is above 63";
+    case LUKARIPE_REFUSED_COUNT_ABOVE_BYTE:
+        return "a member count of a description is above 255, and is to be one byte";
+    case LUKARIPE_REFUSED_REWRITE_SHORT:
+        return "the output is too short for the rewritten description";
     case LUKARIPE_REFUSED_FORM_BASE_PASSES_MAX:
         return "the base of the normal form overflows";
     case LUKARIPE_REFUSED_LISTS_TOO_LONG:
@@ -483,7 +489,8 @@ LUKARIPE_USE_RESULT uint64_t lukaripe_working_add_record(lukaripe_layout *workin
 enum {
     LUKARIPE_TAG_ARRAY = 16,
     LUKARIPE_TAG_STRUCT = 17,
-    LUKARIPE_TAG_SLICE = 18
+    LUKARIPE_TAG_SLICE = 18,
+    LUKARIPE_TAG_LONG_STRUCT = 19
 };
 
 /* As many structs, arrays and slices may be open at once. */
@@ -492,8 +499,9 @@ enum { LUKARIPE_DESCRIPTION_DEPTH = 16 };
 /* The layout of the type that the bytes describe, types inside types. A description is one part: a scalar code, alone; 16,
  * the count as four bytes, little-endian, and a part, which is the element, an array; 17, the alignment and the packing as one
  * byte each (0: none is asked for; else 1 + k for 2^k), the member count as one byte and so many parts, a repr(C) struct; 18
- * and a part, a slice. The layout is the one that lukaripe_for_repr_c_struct, lukaripe_for_array and lukaripe_for_slice_of give
- * of the layouts of the parts inside. An alignment and a packing may both be asked for, as there.
+ * and a part, a slice; 19, as 17 but with the member count as two bytes, little-endian. The layout is the one that
+ * lukaripe_for_repr_c_struct, lukaripe_for_array and lukaripe_for_slice_of give of the layouts of the parts inside. An alignment
+ * and a packing may both be asked for, as there.
  * Reading stops at the first refusal that it meets: a member is added once its last byte is read, closing padding comes after
  * the last one, and an element is judged once it is read. Refusals, each with its place: 33 at the first byte that is missing;
  * 34 at a tag that is unknown or at a power k above 63; 35 at the tag that opens the seventeenth part; 36 and 37, as of the two
@@ -515,8 +523,9 @@ LUKARIPE_USE_RESULT lukaripe_layout_answer lukaripe_decode_short(const uint8_t *
  * Refusals: 20 where len is not 32, then layout refusals, 40. */
 LUKARIPE_USE_RESULT uint64_t lukaripe_encode_short(lukaripe_layout layout, uint8_t *out, size_t len);
 
-/* A move of records. place, of a refusal: the index of the record at fault, and 0 for the length of the list or of the
- * output. written: the bytes that were written to the front of the output. */
+/* A move of records, or a description rewritten. place, of a refusal: the index of the record at fault, and 0 for the length
+ * of the list or of the output; of a description the index of a byte. written: the bytes that were written to the front of the
+ * output. */
 typedef struct {
     uint64_t refusal;
     uint64_t place;
@@ -534,6 +543,21 @@ LUKARIPE_USE_RESULT lukaripe_moved lukaripe_records_to_short(const uint8_t *reco
  * then 22 or 2. */
 LUKARIPE_USE_RESULT lukaripe_moved lukaripe_records_from_short(const uint8_t *records, size_t len, uint8_t *out,
                                                                size_t out_len);
+
+/* ---- descriptions rewritten ---- */
+
+/* Writes the description with every struct under the tag 19, whose member count has two bytes, to the front of out, which may
+ * be longer; behind it no byte has changed, and on a refusal none has. It is read as the same layout. The answer is as that of
+ * a move; the place is the index of a byte of the description. Refusals: those of lukaripe_read, with its places; 45, at 0,
+ * where out_len is below the bytes to write, of a description that stays as it is too. */
+LUKARIPE_USE_RESULT lukaripe_moved lukaripe_lengthen_counts(const uint8_t *description, size_t len, uint8_t *out,
+                                                            size_t out_len);
+
+/* The same back: every struct under the tag 17, whose member count has one byte. A description without 19 goes there and back
+ * to the same bytes. Refusals: those of lukaripe_read, with its places; 44, at the first tag 19 whose count is above 255; 45, at
+ * 0. */
+LUKARIPE_USE_RESULT lukaripe_moved lukaripe_shorten_counts(const uint8_t *description, size_t len, uint8_t *out,
+                                                           size_t out_len);
 
 /* ---- all short member lists ---- */
 

@@ -1,4 +1,5 @@
-//! Descriptions of types, of request 4 of document 02, called and held to the plain text of it (plain_describe).
+//! Descriptions of types, of requests 4 and 8 of document 02, called and held to the plain text of them
+//! (plain_describe).
 //!
 //! A case holds the bytes as `lent` does. They are whole descriptions, drawn part by part, mostly damaged then; chains
 //! of parts about as deep as may be; and every short run of the bytes that matter.
@@ -16,6 +17,11 @@ use std::sync::Mutex;
 const ARRAY: u8 = 16;
 const STRUCT: u8 = 17;
 const SLICE: u8 = 18;
+const LONG_STRUCT: u8 = 19;
+
+/// The greatest member count of one byte, and of two.
+pub const MOST_OF_BYTE: u64 = 255;
+pub const MOST_MEMBERS: u64 = 65_535;
 
 /// The greatest count of an array.
 const MOST_COUNT: u32 = u32::MAX;
@@ -56,7 +62,10 @@ fn not_by_hand(description: &[u8], answer: &Answer) -> Option<&'static str> {
     let Told { refusal, values: [align, kind, size_base, offset, elem_size, word] } =
         lukaripe_for_slice_of(Words(layout));
     let slice = Told { refusal, values: [0, align, kind, size_base, offset, elem_size, word] };
-    for (head, by_hand) in [(&[STRUCT, 0, 0, 1][..], Answer::from(composed)), (&[SLICE], slice.into())] {
+    let composed = Answer::from(composed);
+    let around: [(&[u8], Answer); 3] =
+        [(&[STRUCT, 0, 0, 1], composed), (&[LONG_STRUCT, 0, 0, 1, 0], composed), (&[SLICE], slice.into())];
+    for (head, by_hand) in around {
         if called(&[head, description].concat()) != by_hand {
             return Some("a struct or slice around it is not the one that is made by hand");
         }
@@ -77,9 +86,9 @@ fn depth(description: &[u8]) -> usize {
                 *at += 4;
                 1 + part(bytes, at)
             }
-            STRUCT => {
-                let members = bytes[*at + 2];
-                *at += 3;
+            STRUCT | LONG_STRUCT => {
+                let members = member_count(&bytes[*at - 1..]);
+                *at += if tag == STRUCT { 3 } else { 4 };
                 1 + (0..members).map(|_| part(bytes, at)).max().unwrap_or(0)
             }
             SLICE => 1 + part(bytes, at),
@@ -87,6 +96,14 @@ fn depth(description: &[u8]) -> usize {
         }
     }
     part(description, &mut 0)
+}
+
+/// Of the struct that a description begins with.
+fn member_count(description: &[u8]) -> u64 {
+    match description[0] {
+        STRUCT => description[3].into(),
+        _ => u16::from_le_bytes([description[3], description[4]]).into(),
+    }
 }
 
 // ---- how often what was tried ----
@@ -111,7 +128,12 @@ const DEPTHS: [&str; 4] = [
     "accepted, 16 parts open at once",
 ];
 
-const MANY: &str = "accepted, a struct of 255 members";
+const MANY: [&str; 4] = [
+    "accepted, a struct of 255 members",
+    "accepted, a struct of 256 members",
+    "accepted, a struct of 257 to 65,534 members",
+    "accepted, a struct of 65,535 members",
+];
 const LONG: &str = "of more than 384 bytes";
 const BYTES: &str = "bytes of the descriptions";
 
@@ -125,13 +147,21 @@ fn count(description: &[u8], answer: &Answer) {
     }
     add(KINDS[answer.values[2] as usize], 1);
     add(DEPTHS[[0, 1, 8, 16].partition_point(|least| *least <= depth(description)) - 1], 1);
-    add(MANY, u64::from(description.starts_with(&[STRUCT]) && description[3] == 255));
+    if matches!(description[0], STRUCT | LONG_STRUCT) {
+        match member_count(description) {
+            MOST_OF_BYTE => add(MANY[0], 1),
+            256 => add(MANY[1], 1),
+            MOST_MEMBERS => add(MANY[3], 1),
+            257.. => add(MANY[2], 1),
+            _ => {}
+        }
+    }
 }
 
 /// What was tried, and how often.
 pub fn counted() -> Vec<(String, u64)> {
     let counts = COUNTS.lock().unwrap();
-    let all = KINDS.iter().chain(&DEPTHS).chain(&[MANY, LONG, BYTES]);
+    let all = KINDS.iter().chain(&DEPTHS).chain(&MANY).chain(&[LONG, BYTES]);
     all.map(|what| (what.to_string(), counts.get(what).copied().unwrap_or(0))).collect()
 }
 
@@ -152,7 +182,7 @@ const DESCRIPTION: Kind = Kind {
 pub const INPUT: Input = Input { name: "description", kind: &DESCRIPTION };
 
 /// The bytes as a case holds them.
-fn holding(description: &[u8]) -> Vec<u64> {
+pub fn holding(description: &[u8]) -> Vec<u64> {
     let mut len = description.len();
     if (MOST_REPLAYED + 1..=MOST_RECORDED).contains(&len) {
         len = MOST_REPLAYED;
@@ -164,7 +194,7 @@ fn holding(description: &[u8]) -> Vec<u64> {
 }
 
 /// Every run of up to so many bytes that matter; longer ones only where the reading goes on to their end.
-fn small(level: u64) -> Vec<Vec<u64>> {
+pub fn small(level: u64) -> Vec<Vec<u64>> {
     let mut all = vec![Vec::new()];
     let mut longest = all.clone();
     for len in 0..level {
@@ -177,7 +207,7 @@ fn small(level: u64) -> Vec<Vec<u64>> {
 }
 
 /// A description as a template has it, in half of the cases damaged.
-fn draw(random: &mut Random) -> Vec<u8> {
+pub fn draw(random: &mut Random) -> Vec<u8> {
     if random.one_in(16) {
         return refused(random);
     }
@@ -202,7 +232,7 @@ fn draw(random: &mut Random) -> Vec<u8> {
 }
 
 /// Powers and counts about the greatest.
-fn at_boundaries(random: &mut Random) -> Vec<u8> {
+pub fn at_boundaries(random: &mut Random) -> Vec<u8> {
     let mut out = Vec::new();
     huge(random, &mut out);
     for _ in 0..random.below(3) {
@@ -210,7 +240,8 @@ fn at_boundaries(random: &mut Random) -> Vec<u8> {
             0 => array_head(count_of_array(random)),
             1 => {
                 let powers = [0, 1, 2, 29, 30, 31, 32, 33, 63, 64];
-                vec![STRUCT, random.one_of(&powers) as u8, random.one_of(&powers) as u8, 1]
+                let modifiers = [random.one_of(&powers) as u8, random.one_of(&powers) as u8];
+                struct_head(random, modifiers, 1)
             }
             _ => vec![SLICE],
         };
@@ -250,6 +281,26 @@ fn array_head(count: u32) -> Vec<u8> {
     [&[ARRAY][..], &count.to_le_bytes()].concat()
 }
 
+/// Alignment and packing.
+fn modifiers(random: &mut Random) -> [u8; 2] {
+    [power(random), power(random)]
+}
+
+/// With a count of one byte or of two, where either has room.
+pub fn struct_head(random: &mut Random, [align, packing]: [u8; 2], members: u64) -> Vec<u8> {
+    let [low, high] = (members as u16).to_le_bytes();
+    if members > MOST_OF_BYTE || random.one_in(3) {
+        return vec![LONG_STRUCT, align, packing, low, high];
+    }
+    vec![STRUCT, align, packing, low]
+}
+
+/// The same, with any alignment and packing.
+fn any_struct_head(random: &mut Random, members: u64) -> Vec<u8> {
+    let modifiers = modifiers(random);
+    struct_head(random, modifiers, members)
+}
+
 /// A part with so many more open in it at most. One that ends in elements stands mostly where it may.
 fn part(random: &mut Random, depth: u64, last: bool, out: &mut Vec<u8>) {
     let form = if depth == 0 { 0 } else { random.below(8) };
@@ -261,7 +312,7 @@ fn part(random: &mut Random, depth: u64, last: bool, out: &mut Vec<u8>) {
         }
         5 | 6 => {
             let members = random.below(5);
-            out.extend([STRUCT, power(random), power(random), members as u8]);
+            out.extend(any_struct_head(random, members));
             for left in (0..members).rev() {
                 let last = (last && left == 0) || random.one_in(16);
                 part(random, depth - 1, last, out);
@@ -287,7 +338,7 @@ fn deep(random: &mut Random, out: &mut Vec<u8>) {
                 let count = if random.one_in(2) { 1 } else { random.below(3) };
                 out.extend(array_head(count as u32));
             }
-            _ => out.extend([STRUCT, power(random), power(random), 1]),
+            _ => out.extend(any_struct_head(random, 1)),
         }
     }
     if random.one_in(8) {
@@ -301,7 +352,7 @@ fn deep(random: &mut Random, out: &mut Vec<u8>) {
 fn huge(random: &mut Random, out: &mut Vec<u8>) {
     let members = random.below(5);
     if members > 0 {
-        out.extend([STRUCT, power(random), power(random), members as u8]);
+        out.extend(any_struct_head(random, members));
     }
     for member in 0..members.max(1) {
         if member < 3 {
@@ -327,22 +378,29 @@ fn refused(random: &mut Random) -> Vec<u8> {
     let huge = [&array[..], &array, &[0]].concat();
     // Its members end at the greatest number.
     let greatest = [&huge[..], &array, &[0], &array, &[0]].concat();
-    let refused = match random.below(4) {
-        0 => vec![STRUCT, 31, 0, 1, 0],
-        1 => vec![STRUCT, 0, 0, 2, SLICE, 0, 0],
-        2 => [&[STRUCT, 2, 0, 3][..], &greatest].concat(),
-        _ => [&[STRUCT, 0, 0, 2][..], &huge, &huge].concat(),
+    let (modifiers, members, rest) = match random.below(4) {
+        0 => ([31, 0], 1, vec![0]),
+        1 => ([0, 0], 2, vec![SLICE, 0, 0]),
+        2 => ([2, 0], 3, greatest),
+        _ => ([0, 0], 2, huge.repeat(2)),
     };
-    [vec![SLICE; random.below(9) as usize], refused].concat()
+    [vec![SLICE; random.below(9) as usize], struct_head(random, modifiers, members), rest].concat()
 }
 
-/// A struct of many members.
+/// A struct of many members, seldom of as many scalars as there can be.
 fn wide(random: &mut Random, out: &mut Vec<u8>) {
-    let members = if random.one_in(2) { 255 } else { random.below(256) };
-    out.extend([STRUCT, power(random), power(random), members as u8]);
+    let members = match random.below(8) {
+        0..=2 => MOST_OF_BYTE,
+        3 => random.below(256),
+        4 => 256,
+        5 => 257 + random.below(300),
+        6 if random.one_in(64) => MOST_MEMBERS,
+        _ => 300,
+    };
+    out.extend(any_struct_head(random, members));
     let scalars = random.one_of(&[1, 4, 16]);
     for _ in 0..members {
-        let depth = u64::from(random.one_in(scalars));
+        let depth = u64::from(members < MOST_MEMBERS && random.one_in(scalars));
         part(random, depth, false, out);
     }
 }
@@ -353,8 +411,11 @@ fn inside(random: &mut Random, description: Vec<u8>) -> Vec<u8> {
     for _ in 0..1 + random.below(8) {
         match random.below(8) {
             0 => out.extend(array_head(count_of_array(random))),
-            1 | 2 => out.extend([STRUCT, power(random), power(random), 1]),
-            3 => out.extend([STRUCT, power(random), power(random), 2, random.below(9) as u8]),
+            1 | 2 => out.extend(any_struct_head(random, 1)),
+            3 => {
+                out.extend(any_struct_head(random, 2));
+                out.push(random.below(9) as u8);
+            }
             _ => out.push(SLICE),
         }
     }

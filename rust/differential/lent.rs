@@ -90,7 +90,16 @@ pub fn fills_area<T>(
     len: usize,
     call: impl FnOnce(*mut u8, usize) -> T,
 ) -> (T, Vec<u8>, Option<&'static str>) {
-    let (gave, area, strays) = lend(&vec![OTHER; area], |out, _| call(out, len));
+    fills_over(&vec![OTHER; area], len, call)
+}
+
+/// The same of an area with these bytes in it.
+fn fills_over<T>(
+    area: &[u8],
+    len: usize,
+    call: impl FnOnce(*mut u8, usize) -> T,
+) -> (T, Vec<u8>, Option<&'static str>) {
+    let (gave, area, strays) = lend(area, |out, _| call(out, len));
     (gave, area, stray(strays))
 }
 
@@ -100,8 +109,18 @@ pub fn moves<T>(
     out_len: usize,
     call: impl FnOnce(*const u8, usize, *mut u8, usize) -> T,
 ) -> (T, Vec<u8>, Option<&'static str>) {
+    moves_over(lent, &[OTHER; AREA], out_len, call)
+}
+
+/// The same into an area with these bytes in it.
+pub fn moves_over<T>(
+    lent: &[u8],
+    area: &[u8],
+    out_len: usize,
+    call: impl FnOnce(*const u8, usize, *mut u8, usize) -> T,
+) -> (T, Vec<u8>, Option<&'static str>) {
     let ((gave, area, broken), after, strays) =
-        lend(lent, |from, len| fills(out_len, |out, out_len| call(from, len, out, out_len)));
+        lend(lent, |from, len| fills_over(area, out_len, |out, out_len| call(from, len, out, out_len)));
     (gave, area, broken.or(stray(strays + changed(&after, lent))))
 }
 

@@ -19,10 +19,12 @@ mod moves;
 mod plain_describe;
 mod plain_full;
 mod plain_places;
+mod plain_rewrite;
 mod plain_share;
 mod plain_short;
 mod random;
 mod recorded;
+mod rewrites;
 mod rows;
 mod runs;
 mod shares;
@@ -187,13 +189,17 @@ impl Tried<'_> {
 
     /// What is counted besides: of a move how long its output was, and its records; of the full comparison and mode how
     /// they differ from the ported ones; of lists of counts how long they were, and their other orders; of descriptions
-    /// what was accepted, and how deep.
+    /// what was accepted, and how deep; of those rewritten what was turned, and how long the output was.
     fn besides(&self) -> Vec<(String, u64)> {
         if self.row.name == "padding_of_counts" {
             return shares::counted();
         }
         if self.row.name == "read" {
             return describe::counted();
+        }
+        let rewritings = [&rewrites::LENGTHEN, &rewrites::SHORTEN];
+        if let Some(rewriting) = rewritings.into_iter().find(|rewriting| rewriting.name == self.row.name) {
+            return rewrites::counted(rewriting);
         }
         let way = [&moves::TO, &moves::FROM].into_iter().find(|way| way.name == self.row.name);
         way.map_or_else(|| full::counted(self.row.name), moves::counted)

@@ -49,7 +49,7 @@ pub const FROM: Way = Way {
     to_short: false,
 };
 
-fn seen<const N: usize>(area: &[u8], from: u64) -> [u64; N] {
+pub fn seen<const N: usize>(area: &[u8], from: u64) -> [u64; N] {
     let mut words = area.chunks_exact(8).skip(from as usize).map(|word| u64::from_le_bytes(word.try_into().unwrap()));
     std::array::from_fn(|_| words.next().unwrap())
 }
@@ -104,7 +104,8 @@ pub fn short_of_layout(layout: Layout, len: u64) -> Answer {
 
 // ---- a move ----
 
-fn answer(told: Result<usize, (u64, usize)>, area: &[u8], from: u64) -> Answer {
+/// What is told of a move, and words of the area.
+pub fn answer(told: Result<usize, (u64, usize)>, area: &[u8], from: u64) -> Answer {
     match told {
         Ok(written) => Answer::moved(0, [0, written as u64], seen::<SEEN>(area, from)),
         Err((refusal, place)) => Answer::moved(refusal, [place as u64, 0], seen::<SEEN>(area, from)),

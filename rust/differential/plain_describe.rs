@@ -1,4 +1,4 @@
-//! Descriptions of types, of request 4 of document 02, read by its text with a place that moves from byte to byte.
+//! Descriptions of types, of requests 4 and 8 of document 02, read by its text with a place that moves byte by byte.
 //! Scalars, slices, members and closing padding are the Rust's own; the rest shares nothing with either side.
 
 use oracle::{said, Layout};
@@ -48,10 +48,10 @@ impl Reader<'_> {
         }
     }
 
-    /// "a four-byte little-endian count"
-    fn count(&mut self) -> Result<u128, At> {
+    /// A little-endian count of so many bytes.
+    fn count(&mut self, bytes: u32) -> Result<u128, At> {
         let mut count = 0;
-        for at in 0..4 {
+        for at in 0..bytes {
             count += u128::from(self.byte()?) << (8 * at);
         }
         Ok(count)
@@ -62,13 +62,15 @@ impl Reader<'_> {
         match self.byte()? {
             code @ 0..=8 => oracle::scalar(code.into()).map_err(|number| (number, tag)),
             // "for 35 the tag that opens the seventeenth part"
-            16..=18 if self.open == MOST_OPEN => Err((35, tag)),
-            form @ 16..=18 => {
+            16..=19 if self.open == MOST_OPEN => Err((35, tag)),
+            form @ 16..=19 => {
                 self.open += 1;
                 let layout = match form {
                     16 => self.array(tag),
-                    17 => self.record(tag),
-                    _ => self.slice(tag),
+                    18 => self.slice(tag),
+                    // "tag 19, a struct with a two-byte little-endian count, else under 17's rules"
+                    17 => self.record(tag, 1),
+                    _ => self.record(tag, 2),
                 };
                 self.open -= 1;
                 layout
@@ -77,10 +79,10 @@ impl Reader<'_> {
         }
     }
 
-    /// "An array keeps its element's mark and alignment; its size is the product." 36 and 37 stand at the place of "the
-    /// array or slice holding the element".
+    /// "a four-byte little-endian count and an element"; "An array keeps its element's mark and alignment; its size is
+    /// the product." 36 and 37 stand at the place of "the array or slice holding the element".
     fn array(&mut self, tag: usize) -> Result<Layout, At> {
-        let count = self.count()?;
+        let count = self.count(4)?;
         let [align, kind, size, ..] = self.element(tag)?;
         let product = u64::try_from(u128::from(size) * count).map_err(|_| (37, tag))?;
         Ok([align, kind, product, 0, 0, 0])
@@ -103,8 +105,8 @@ impl Reader<'_> {
 
     /// "A member is added once its last byte is read, closing padding after the last member"; "refusals of composing a
     /// struct keep their numbers, at the place of its tag".
-    fn record(&mut self, tag: usize) -> Result<Layout, At> {
-        let (align, packing, members) = (self.power()?, self.power()?, self.byte()?);
+    fn record(&mut self, tag: usize, count_bytes: u32) -> Result<Layout, At> {
+        let (align, packing, members) = (self.power()?, self.power()?, self.count(count_bytes)?);
         let mut modifier = if align == 0 { 0 } else { MODIFIER };
         let mut whole = said(|| oracle::new_zst(align)).map_err(|number| (number, tag))?;
         for _ in 0..members {

@@ -18,14 +18,15 @@
 //! what writes short records or moves records the output is the front of an area of 512 bytes, which are 0xa5 before;
 //! the answer has words of that area afterwards, on a refusal too. Of a short record it is the first five, and the
 //! input is the length that is lent. Of a move the inputs are that length, the index of a word of the area, at most 54,
-//! and the records' bytes, and the answer is the place, the number of bytes written and ten words from that one on. Of
-//! all cases the inputs are the length of the lists, that of the output, which is the front of an area of 218,496
-//! bytes, and the index of a word, at most 27,302, and the answer is the number of bytes written and ten words. That of
-//! a normal form is size_base, elem_size, word. Of the padding over counts the inputs are the layout, the number of
-//! counts and the counts, and the answer is the place, the two numbers of either fraction, the greatest padding and its
-//! index; the place stays on a refusal. That of a conversion with casts after it is the parameters, and then of the
-//! count and of either cast the refusal number and the numbers; those of the casts stay where the conversion is
-//! refused. So all lines of a function have the same length, where it reads no bytes or counts.
+//! and the records' bytes, and the answer is the place, the number of bytes written and ten words from that one on; of
+//! a description that is rewritten they are the same, with its bytes. Of all cases the inputs are the length of the
+//! lists, that of the output, which is the front of an area of 218,496 bytes, and the index of a word, at most 27,302,
+//! and the answer is the number of bytes written and ten words. That of a normal form is size_base, elem_size, word. Of
+//! the padding over counts the inputs are the layout, the number of counts and the counts, and the answer is the place,
+//! the two numbers of either fraction, the greatest padding and its index; the place stays on a refusal. That of a
+//! conversion with casts after it is the parameters, and then of the count and of either cast the refusal number and
+//! the numbers; those of the casts stay where the conversion is refused. So all lines of a function have the same
+//! length, where it reads no bytes or counts.
 
 use crate::answer::Answer;
 use crate::inputs::{Phase, PHASES};

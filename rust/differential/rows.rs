@@ -8,6 +8,7 @@ mod front;
 mod full;
 mod layout;
 mod record;
+mod rewrite;
 mod rounding;
 mod share;
 mod short;
@@ -32,6 +33,7 @@ pub const LAYERS: &[&[Row]] = &[
     working::ROWS,
     describe::ROWS,
     short::ROWS,
+    rewrite::ROWS,
     cases::ROWS,
     cast::ROWS,
     convert::ROWS,

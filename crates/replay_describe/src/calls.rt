@@ -1,15 +1,24 @@
 // A function for each recorded function: it takes the inputs from the line and tells the answer as a line has it.
 // The number of a function and the order of its inputs are those of rust/differential/recorded.rs and its rows; so is the way
 // bytes stand in a line, their length and then words.
+ghost use Prim.Native.Nat.{_≤_};
+ghost use lib.ListN.{length};
 use exports_layouts::ComposedOut;
 use exports_layouts::Layout;
 use exports_layouts::LayoutOut;
+use exports_short::MovedOut;
 use recorded::LENGTH;
 use recorded::Told;
 use recorded::WIDTH;
 
 // The greatest length of bytes; no line agrees with a greater one.
 const BYTES: usize = 384;
+
+// The output of a rewriting is the front of these bytes, which are 165 before. No line agrees with a longer output, nor with one
+// that is looked at from a later word on.
+const AREA: usize = 512;
+
+const LAST_SEEN: usize = 54;
 
 // No call: no line agrees with it.
 fn tell_none() -> Told {
@@ -108,6 +117,79 @@ fn read(line: &[u64; WIDTH]) -> Told {
     tell_composed(1 + (length + 7) / 8, answer)
 }
 
+// Ten words of the area, from this byte on, on a refusal too.
+fn tell_moved(inputs: usize, a: MovedOut, area: &[u8], at: usize) -> Told
+    requires { ⌜ at ≤ 432 ⌝ }
+{
+    Told {
+        inputs,
+        length: 13,
+        numbers: [
+            a.refusal,
+            a.place,
+            a.written,
+            words::read_word(area, at),
+            words::read_word(area, at + 8),
+            words::read_word(area, at + 16),
+            words::read_word(area, at + 24),
+            words::read_word(area, at + 32),
+            words::read_word(area, at + 40),
+            words::read_word(area, at + 48),
+            words::read_word(area, at + 56),
+            words::read_word(area, at + 64),
+            words::read_word(area, at + 72),
+        ],
+    }
+}
+
+fn rewriting(number: u64, description: &[u8], out: &mut [u8]) -> MovedOut {
+    match number {
+        54 => exports_rewrite::lukaripe_lengthen_counts(description, out),
+        _ => exports_rewrite::lukaripe_shorten_counts(description, out),
+    }
+}
+
+// The description rewritten into the front of the area, which is looked at from this byte on.
+fn rewritten_into(
+    inputs: usize,
+    number: u64,
+    description: &[u8],
+    area: &mut [u8],
+    room: usize,
+    at: usize,
+) -> Told
+    requires { ⌜ (room ≤ length (now area)) × (at ≤ 432) ⌝ }
+{
+    let answer = rewriting(number, description, &mut area[..room]);
+    tell_moved(inputs, answer, area, at)
+}
+
+fn rewritten(line: &[u64; WIDTH]) -> Told {
+    let out_length = line[1] as usize;
+    let from = line[2] as usize;
+    let length = line[3] as usize;
+    if length > BYTES {
+        return tell_none();
+    }
+    if out_length > AREA {
+        return tell_none();
+    }
+    if from > LAST_SEEN {
+        return tell_none();
+    }
+    let bytes = bytes_from(line, 4);
+    let mut area = [165u8; AREA];
+    let inputs = 3 + (length + 7) / 8;
+    rewritten_into(
+        inputs,
+        line[0],
+        &bytes[..length],
+        &mut area,
+        out_length,
+        from * 8,
+    )
+}
+
 // What the function of the line tells.
 pub(crate) fn call(line: &[u64; WIDTH]) -> Told {
     match line[0] {
@@ -117,6 +199,7 @@ pub(crate) fn call(line: &[u64; WIDTH]) -> Told {
             exports_elements::lukaripe_for_array(first(line), line[7]),
         ),
         53 => tell_layout(6, exports_elements::lukaripe_for_slice_of(first(line))),
+        54 | 55 => rewritten(line),
         _ => tell_none(),
     }
 }

@@ -1,4 +1,4 @@
-// Replays recorded answers of the reader of descriptions, and of arrays and slices.
+// Replays recorded answers of the reader of descriptions, of arrays and slices, and of descriptions rewritten.
 mod calls;
 
 use calls::call;
@@ -37,5 +37,6 @@ fn report(name: &[u8]) {
 // The lines of `wrong` are wrong on purpose, in one number or in shape: a replay that misses one writes another count.
 fn main() {
     report(b"answers");
+    report(b"rewritten");
     report(b"wrong");
 }

@@ -187,7 +187,7 @@ fn at_a_multiple(random: &mut Random, inputs: &mut [u64]) {
 // ---- descriptions that are easily misread ----
 
 /// A description as a case holds it: its length, and then words.
-const fn words<const N: usize>(bytes: &[u8]) -> [u64; N] {
+pub const fn words<const N: usize>(bytes: &[u8]) -> [u64; N] {
     let mut words = [0; N];
     words[0] = bytes.len() as u64;
     let mut at = 0;
@@ -196,6 +196,17 @@ const fn words<const N: usize>(bytes: &[u8]) -> [u64; N] {
         at += 1;
     }
     words
+}
+
+/// A description that begins so, and has members of one byte behind that.
+pub const fn of_bytes<const N: usize>(head: [u8; 5]) -> [u8; N] {
+    let mut bytes = [0; N];
+    let mut at = 0;
+    while at < head.len() {
+        bytes[at] = head[at];
+        at += 1;
+    }
+    bytes
 }
 
 macro_rules! described {
@@ -210,7 +221,7 @@ const PAGES: &[&[u64]] = &[
     described!(8),
     described!(9),
     described!(15),
-    described!(19),
+    described!(20),
     described!(0, 0),
     // An array, a struct and a slice, cut at each length.
     described!(16, 3, 0, 0, 0, 2),
@@ -225,10 +236,24 @@ const PAGES: &[&[u64]] = &[
     described!(17),
     described!(18, 2),
     described!(18),
+    described!(19, 4, 0, 2, 0, 0, 2),
+    described!(19, 4, 0, 2, 0, 0),
+    described!(19, 4, 0, 2, 0),
+    described!(19, 4, 0, 2),
+    described!(19, 4, 0),
+    described!(19, 4),
+    described!(19),
     // A header is judged byte by byte: 34 at its second byte, not 33 at its third. The powers 63, and one above it.
     described!(17, 65),
     described!(17, 64, 65),
     described!(17, 64, 64, 0),
+    described!(19, 65),
+    described!(19, 64, 65),
+    described!(19, 64, 64, 0, 0),
+    // 256 members are counted by the second byte; they are read.
+    &words::<{ 1 + 261usize.div_ceil(8) }>(&of_bytes::<261>([19, 0, 0, 0, 1])),
+    &words::<{ 1 + 260usize.div_ceil(8) }>(&of_bytes::<260>([19, 0, 0, 0, 1])),
+    &words::<{ 1 + 262usize.div_ceil(8) }>(&of_bytes::<262>([19, 0, 0, 0, 1])),
     // The alignment 2^29 with a member, and 2^30: accepted without one.
     described!(17, 30, 0, 1, 0),
     described!(17, 31, 0, 0),
@@ -238,6 +263,7 @@ const PAGES: &[&[u64]] = &[
     // A member behind a run of elements is read whole, and then refused.
     described!(17, 0, 0, 2, 18, 0, 20),
     described!(17, 0, 0, 2, 18, 0, 0),
+    described!(19, 0, 0, 2, 0, 18, 0, 0),
     // So is an element: its own refusal comes first.
     described!(16, 2, 0, 0, 0, 18, 0),
     described!(16, 2, 0, 0, 0, 18, 9),
@@ -256,6 +282,7 @@ const PAGES: &[&[u64]] = &[
         0, 1, 17, 0, 0, 1, 17, 0, 0, 1, 17, 0, 0, 1, 17, 0, 0, 1, 17, 0, 0, 1, 17, 0, 0, 1, 17, 0, 0, 1, 0
     ),
     described!(18, 18, 18, 18, 18, 18, 18, 18, 18, 18, 18, 18, 18, 18, 18, 18, 16),
+    described!(18, 18, 18, 18, 18, 18, 18, 18, 18, 18, 18, 18, 18, 18, 18, 18, 19),
     described!(18, 18, 18, 18, 18, 18, 18, 18, 18, 18, 18, 18, 18, 18, 18, 18, 20),
     described!(18, 18, 18, 18, 18, 18, 18, 18, 18, 18, 18, 18, 18, 18, 18, 18, 0),
     // A struct that is closed is open no more.

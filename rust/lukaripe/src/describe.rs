@@ -15,6 +15,9 @@ pub const TAG_STRUCT: u8 = 17;
 /// The tag of a slice.
 pub const TAG_SLICE: u8 = 18;
 
+/// The tag of a struct whose member count has two bytes.
+pub const TAG_LONG_STRUCT: u8 = 19;
+
 /// As many structs, arrays and slices may be open at once in a description.
 pub const DESCRIPTION_DEPTH: usize = 16;
 
@@ -28,7 +31,8 @@ impl Layout {
     ///   [`Layout::for_array`] makes it;
     /// - [`TAG_STRUCT`], the alignment and the packing as one byte each (0: none is asked for; else 1 + k for 2^k), the
     ///   member count as one byte, and so many parts: a struct, as [`for_repr_c_struct`] makes it;
-    /// - [`TAG_SLICE`] and a part: a slice, as [`Layout::for_slice_of`] makes it.
+    /// - [`TAG_SLICE`] and a part: a slice, as [`Layout::for_slice_of`] makes it;
+    /// - [`TAG_LONG_STRUCT`]: as [`TAG_STRUCT`], but with the member count as two bytes, little-endian.
     ///
     /// ```
     /// use lukaripe::{for_repr_c_struct, Layout, Refusal, Refused, TAG_ARRAY, TAG_SLICE, TAG_STRUCT};

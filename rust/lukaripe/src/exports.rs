@@ -134,6 +134,12 @@ unsafe extern "C" {
     pub unsafe fn lukaripe_records_to_short(records: *const u8, len: usize, out: *mut u8, out_len: usize) -> Told<2>;
     pub unsafe fn lukaripe_records_from_short(records: *const u8, len: usize, out: *mut u8, out_len: usize) -> Told<2>;
 
+    // ---- descriptions rewritten: the values are as those of a move ----
+
+    pub unsafe fn lukaripe_lengthen_counts(description: *const u8, len: usize, out: *mut u8, out_len: usize)
+        -> Told<2>;
+    pub unsafe fn lukaripe_shorten_counts(description: *const u8, len: usize, out: *mut u8, out_len: usize) -> Told<2>;
+
     // ---- all short member lists ----
 
     pub unsafe fn lukaripe_write_cases(longest: u64, out: *mut u8, len: usize) -> Told<1>;

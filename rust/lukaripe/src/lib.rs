@@ -30,7 +30,8 @@
 //!   [`for_repr_c_struct_strict`], which refuses what the Rust Reference forbids); [`for_repr_c_struct_places`] also
 //!   says where each member is placed, and [`Working`] takes them one by one.
 //! - [`Layout::read`]: the layout of a type that is described by bytes, types inside types; [`Layout::for_array`] and
-//!   [`Layout::for_slice_of`]: arrays and slices of a layout.
+//!   [`Layout::for_slice_of`]: arrays and slices of a layout; [`lengthen_counts`] and [`shorten_counts`]: a description
+//!   with the member counts of all structs in two bytes, or in one.
 //! - [`Trailing`]: the run of elements at the end of a layout, its sizes and its padding; [`Trailing::sizes_agree`] and
 //!   [`NormalForm`]: whether two have the same sizes; [`Trailing::padding_of_counts`]: how much of the sizes at a list
 //!   of counts is padding.
@@ -61,6 +62,7 @@ mod helpers;
 mod layout;
 mod record;
 mod refusal;
+mod rewrite;
 mod rounding;
 mod scalar;
 mod share;
@@ -75,13 +77,14 @@ pub use compose::{compose, compose_records, for_repr_c_struct, for_repr_c_struct
 pub use compose::{for_repr_c_struct_places, for_repr_c_struct_places_into, for_repr_c_struct_places_records, Placed};
 pub use compose::{for_repr_c_struct_strict, for_repr_c_struct_strict_records};
 pub use convert::{convert_and_cast, size_sequences_match, Carried, CastParams};
-pub use describe::{DESCRIPTION_DEPTH, TAG_ARRAY, TAG_SLICE, TAG_STRUCT};
+pub use describe::{DESCRIPTION_DEPTH, TAG_ARRAY, TAG_LONG_STRUCT, TAG_SLICE, TAG_STRUCT};
 pub use front::Serving;
 pub use full::{convert_and_cast_in, size_sequences_match_in, Mode, NormalForm};
 pub use helpers::{is_power_of_two, max, min, padding_needed_for, round_down_to_next_multiple_of_alignment};
 pub use layout::{Layout, SizeInfo};
 pub use record::RECORD_LENGTH;
 pub use refusal::{NoSize, Refusal, Refused, Result, UnknownRefusal};
+pub use rewrite::{lengthen_counts, lengthen_counts_vec, shorten_counts, shorten_counts_vec};
 pub use rounding::RoundingAlignAndPhase;
 pub use scalar::Scalar;
 pub use share::{Fraction, PaddingShare};

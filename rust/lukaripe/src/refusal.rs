@@ -86,6 +86,8 @@ refusals! {
     WordAboveShort = 40, "the rounding word needs more than the 32 bits of a short record";
     OutputShort = 41, "the output is too short";
     SpareOrPower = 42, "the spare bytes of a short record are not 0, or its power is above 63";
+    CountAboveByte = 44, "a member count of a description is above 255, and is to be one byte";
+    RewriteShort = 45, "the output is too short for the rewritten description";
     FormBasePassesMax = 46, "the base of the normal form overflows";
     ListsTooLong = 47, "the lists are longer than 6 members";
     CasesShort = 48, "the buffer is too short for all cases";

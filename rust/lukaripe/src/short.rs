@@ -220,8 +220,8 @@ pub fn records_from_short_vec(records: &[u8]) -> Result<Vec<u8>, Refused> {
 }
 
 impl Told<2> {
-    /// How many bytes a move wrote.
-    fn written(self) -> Result<usize, Refused> {
+    /// How many bytes were written.
+    pub(crate) fn written(self) -> Result<usize, Refused> {
         let [place, written] = self.values;
         match self.refusal {
             // Not more than `out` has.

@@ -8,7 +8,7 @@ mod exports;
 
 use exports::{Told, Trailing};
 use lukaripe::{Refusal, Scalar, CASES_LENGTH, CASE_LENGTH, RECORD_LENGTH, SHORT_RECORD_LENGTH};
-use lukaripe::{DESCRIPTION_DEPTH, TAG_ARRAY, TAG_SLICE, TAG_STRUCT};
+use lukaripe::{DESCRIPTION_DEPTH, TAG_ARRAY, TAG_LONG_STRUCT, TAG_SLICE, TAG_STRUCT};
 use std::collections::BTreeSet;
 use std::fmt::Debug;
 use std::mem::{align_of, size_of};
@@ -74,6 +74,7 @@ fn constants() -> Vec<String> {
         of_constant("TAG_ARRAY", TAG_ARRAY.into()),
         of_constant("TAG_STRUCT", TAG_STRUCT.into()),
         of_constant("TAG_SLICE", TAG_SLICE.into()),
+        of_constant("TAG_LONG_STRUCT", TAG_LONG_STRUCT.into()),
         of_constant("DESCRIPTION_DEPTH", DESCRIPTION_DEPTH as u64),
         of_constant("SHORT_RECORD_LENGTH", SHORT_RECORD_LENGTH as u64),
     ];

@@ -263,6 +263,7 @@ pub fn call(function: u64, i: &mut Inputs) -> Option<Vec<u64>> {
         51 => read(&i.bytes()),
         52 => layout(Layout::for_array(i.layout()?, i.number())),
         53 => layout(Layout::for_slice_of(i.layout()?)),
+        54 | 55 => shorts::call(function, i)?,
         _ => panic!("no function {function}"),
     })
 }

@@ -1,4 +1,4 @@
-//! Short records, and moves.
+//! Short records, moves, and descriptions rewritten, which are told as a move is.
 
 use super::layouts::words_of;
 use super::{told, Inputs};
@@ -45,7 +45,8 @@ fn moved(i: &mut Inputs, into: Move, to_vec: MoveToVec) -> Vec<u64> {
     let answer = into(&records, &mut area[..len]);
     let written = answer.unwrap_or(0);
     assert_eq!(area[written..], [BEFORE; AREA][written..]);
-    if answer.map_err(|refused| refused.refusal) != Err(Refusal::OutputShort) {
+    let refusal = answer.map_err(|refused| refused.refusal);
+    if !matches!(refusal, Err(Refusal::OutputShort | Refusal::RewriteShort)) {
         assert_eq!(to_vec(&records), answer.map(|written| area[..written].to_vec()));
     }
     let told = match answer {
@@ -60,6 +61,8 @@ pub fn call(function: u64, i: &mut Inputs) -> Option<Vec<u64>> {
         39 => decoded(&i.bytes()),
         40 => encoded(i.layout()?, i.number() as usize),
         41 => moved(i, records_to_short, records_to_short_vec),
-        _ => moved(i, records_from_short, records_from_short_vec),
+        42 => moved(i, records_from_short, records_from_short_vec),
+        54 => moved(i, lengthen_counts, lengthen_counts_vec),
+        _ => moved(i, shorten_counts, shorten_counts_vec),
     })
 }
