@@ -6,7 +6,7 @@
 A type is a repr(C) struct of up to six members: scalars, structs before it, and arrays of these and of arrays; in one
 case of four the last is a slice of such, or a struct that ends in one. It asks for a packing, an alignment or neither,
 and no packed one holds an aligned one, which rustc refuses. Up to sixteen structs, arrays and slices are open at once,
-as in a description.
+as in a description. One of a hundred has 256 to 300 members more, mostly scalars.
 """
 
 import random
@@ -18,6 +18,8 @@ SCALARS = {"u8": 1, "u16": 2, "u32": 4, "u64": 8, "f32": 4, "f64": 8, "char": 4,
 DEPTH = 16
 # No type has more bytes, its last elements aside, so that some of them stand in main.rs's bytes.
 MOST_BYTES = 1 << 18
+# One type of so many has more members than a count of one byte has room for.
+MANY_IN = 100
 
 
 @dataclass
@@ -63,6 +65,8 @@ def draw(name, before):
         return member
 
     members = [fixed() for _ in range(random.randrange(6))]
+    if one_in(MANY_IN):
+        members = [scalar() if random.randrange(8) else fixed() for _ in range(256 + random.randrange(45))] + members
     ends_in_slice = one_in(4)
     if ends_in_slice and ending and one_in(2):
         members.append(random.choice(ending[-20:]))
@@ -96,6 +100,8 @@ def main():
     lines += ["const CHECKS: &[Check] = &[", *checks, "];"]
     depths = [f"    {struct.name}::DEPTH," for struct in structs]
     lines += ["const DEPTHS: &[usize] = &[", *depths, "];"]
+    members = [f"    {struct.name}::MEMBERS," for struct in structs]
+    lines += ["const MEMBERS: &[usize] = &[", *members, "];"]
     with open(sys.argv[1], "w", encoding="utf-8") as out:
         out.write("\n".join(lines) + "\n")
 

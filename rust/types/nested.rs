@@ -11,6 +11,8 @@ type Check = fn() -> Checked;
 /// A type that has a description, and how many structs, arrays and slices are open in it at once.
 trait Described {
     const DEPTH: usize;
+    /// The members of a struct.
+    const MEMBERS: usize = 0;
 
     /// Appends it.
     fn describe(out: &mut Vec<u8>);
@@ -67,13 +69,40 @@ const fn greatest(depths: &[usize]) -> usize {
     most
 }
 
-/// What the description reads as; refused, it is all zeros, which no layout is.
-fn read<T: Described + ?Sized>() -> [u64; 6] {
-    let mut description = Vec::new();
-    T::describe(&mut description);
+/// The head of a struct: the count has two bytes where one has no room for it, and where it is odd.
+fn struct_head(align: u64, packing: u64, members: usize) -> Vec<u8> {
+    let [low, high] = (members as u16).to_le_bytes();
+    if members > 255 || members % 2 == 1 {
+        return vec![19, power(align), power(packing), low, high];
+    }
+    vec![17, power(align), power(packing), low]
+}
+
+/// What bytes read as; refused, it is all zeros, which no layout is.
+fn read_bytes(description: &[u8]) -> [u64; 6] {
     // SAFETY: the bytes are as many as said.
     let told = unsafe { lukaripe_read(description.as_ptr(), description.len()) };
     told.values[1..].try_into().unwrap()
+}
+
+/// The same with every count in two bytes.
+fn read_lengthened(description: &[u8]) -> [u64; 6] {
+    let mut out = vec![0; 2 * description.len()];
+    // SAFETY: the bytes are as many as said.
+    let told =
+        unsafe { lukaripe_lengthen_counts(description.as_ptr(), description.len(), out.as_mut_ptr(), out.len()) };
+    read_bytes(&out[..told.values[1] as usize])
+}
+
+/// What the description reads as, and no layout where it reads as another one with long counts.
+fn read<T: Described + ?Sized>() -> [u64; 6] {
+    let mut description = Vec::new();
+    T::describe(&mut description);
+    let layout = read_bytes(&description);
+    if read_lengthened(&description) != layout {
+        return [0; 6];
+    }
+    layout
 }
 
 /// What is read is what composition by hand gives of what the members read as.
@@ -108,10 +137,13 @@ macro_rules! define {
 
         impl Described for $name {
             const DEPTH: usize = 1 + greatest(&[$(<$type as Described>::DEPTH),*]);
+            const MEMBERS: usize = {
+                let members: &[&str] = &[$(stringify!($field)),*];
+                members.len()
+            };
 
             fn describe(out: &mut Vec<u8>) {
-                let members: &[&str] = &[$(stringify!($field)),*];
-                out.extend([17, power($align), power($packing), members.len() as u8]);
+                out.extend(struct_head($align, $packing, Self::MEMBERS));
                 $(<$type as Described>::describe(out);)*
             }
         }
@@ -178,9 +210,10 @@ pub fn check_all() -> Result<String, String> {
         compared += check().map_err(|what| format!("DIFFERENCE in N{at} of {}: {what}", env!("NESTED")))?;
     }
     let deep = DEPTHS.iter().filter(|depth| **depth > 4).count();
+    let many = MEMBERS.iter().filter(|members| **members > 255).count();
     Ok(format!(
-        "{} descriptions, {deep} of them more than 4 and up to {} parts deep: {compared} alignments, sizes, places and \
-         gaps are the compiler's",
+        "{} descriptions, {deep} of them more than 4 and up to {} parts deep and {many} of more than 255 members: \
+         {compared} alignments, sizes, places and gaps are the compiler's",
         CHECKS.len(),
         greatest(DEPTHS),
     ))
