@@ -96,7 +96,7 @@ pub struct Case {
     pub short: Vec<u8>,
     pub short_room: usize,
     /// Records to be moved, in both forms. The room for them in the other form is lent, and stands here as the numbers
-    /// below do.
+    /// below do. The first is also the room for all cases, and for a rewritten description.
     pub records: Vec<u8>,
     pub shorts: Vec<u8>,
     pub shorts_room: Vec<Cell<u8>>,
@@ -199,12 +199,36 @@ pub fn counts(set: Set, len: usize) -> Vec<Case> {
 
 /// Cases with descriptions of structs of so many members; of 0, of structs inside structs.
 pub fn descriptions(set: Set, members: u8) -> Vec<Case> {
+    described(set, 17, members)
+}
+
+/// The same with room for what they are rewritten to: with long counts, or from those.
+pub fn to_lengthen(set: Set, members: u8) -> Vec<Case> {
+    let mut cases = described(set, 17, members);
+    let longer = described(set, 19, members);
+    for (case, longer) in cases.iter_mut().zip(longer) {
+        case.shorts_room = vec![Cell::new(0); longer.description.len()];
+    }
+    cases
+}
+
+pub fn to_shorten(set: Set, members: u8) -> Vec<Case> {
+    let mut cases = described(set, 19, members);
+    let shorter = described(set, 17, members);
+    for (case, shorter) in cases.iter_mut().zip(shorter) {
+        case.shorts_room = vec![Cell::new(0); shorter.description.len()];
+    }
+    cases
+}
+
+/// Each struct has this tag.
+fn described(set: Set, tag: u8, members: u8) -> Vec<Case> {
     let mut random = Random::new(set as u64);
     let mut cases = drawn(set, CASES, 0);
     for case in &mut cases {
         case.description = match members {
-            0 => describe::deep(&mut random, set),
-            members => describe::wide(&mut random, set, members),
+            0 => describe::deep(&mut random, set, tag),
+            members => describe::wide(&mut random, set, tag, members),
         };
     }
     cases

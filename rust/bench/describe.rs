@@ -1,5 +1,6 @@
 //! The reader of descriptions as one would write it in Rust, with the export's refusals and the same answer: a slice
-//! and a place, and a function for each form, which call each other. Beside it the descriptions to read.
+//! and a place, and a function for each form, which call each other; and the rewriting, a pass over the heads for their
+//! number and one that writes. Beside them the descriptions to read.
 
 use super::cases::Set;
 use super::exports::Told;
@@ -38,7 +39,7 @@ impl Reader<'_> {
         let tag = self.place as u64;
         match self.byte()? {
             code @ 0..=8 => Ok((SCALARS[code as usize], 0)),
-            16..=18 if depth == 0 => Err((35, tag)),
+            16..=19 if depth == 0 => Err((35, tag)),
             16 => {
                 let rest = &self.bytes[self.place..];
                 let count = rest.first_chunk().ok_or((33, self.bytes.len() as u64))?;
@@ -49,7 +50,7 @@ impl Reader<'_> {
                 let size_info = SizeInfo::Sized { size };
                 Ok((DstLayout { align, size_info, statically_shallow_unpadded: unpadded }, modifier))
             }
-            17 => self.record(depth - 1, tag),
+            form @ (17 | 19) => self.record(depth - 1, tag, form == 19),
             18 => {
                 let (size, align, (_, modifier)) = self.element(depth, tag)?;
                 Ok((DstLayout::for_slice(size, align.get()), modifier))
@@ -69,8 +70,9 @@ impl Reader<'_> {
     }
 
     #[inline]
-    fn record(&mut self, depth: usize, tag: u64) -> Read<(DstLayout, u64)> {
-        let (align, packing, members) = (self.power()?, self.power()?, self.byte()?);
+    fn record(&mut self, depth: usize, tag: u64, long: bool) -> Read<(DstLayout, u64)> {
+        let (align, packing) = (self.power()?, self.power()?);
+        let members = u16::from_le_bytes([self.byte()?, if long { self.byte()? } else { 0 }]);
         let (mut whole, mut of_all) = (DstLayout::new_zst(align), if align.is_some() { 4 } else { 0 });
         for _ in 0..members {
             let (member, modifier) = self.part(depth)?;
@@ -81,24 +83,92 @@ impl Reader<'_> {
     }
 }
 
-pub unsafe extern "C" fn read(description: *const u8, len: usize) -> Told<7> {
-    let mut reader = Reader { bytes: unsafe { slice::from_raw_parts(description, len) }, place: 0 };
-    let read = reader.part(16).and_then(|layout| match reader.place {
-        place if place < len => Err((38, place as u64)),
+#[inline]
+fn whole(description: &[u8]) -> Read<(DstLayout, u64)> {
+    let mut reader = Reader { bytes: description, place: 0 };
+    let layout = reader.part(16)?;
+    match reader.place {
+        place if place < description.len() => Err((38, place as u64)),
         _ => Ok(layout),
-    });
-    told_at(read)
+    }
+}
+
+pub unsafe extern "C" fn read(description: *const u8, len: usize) -> Told<7> {
+    told_at(whole(unsafe { slice::from_raw_parts(description, len) }))
+}
+
+// ---- the rewriting ----
+
+/// The heads of a description that was read.
+fn heads(description: &[u8]) -> impl Iterator<Item = (usize, &[u8])> {
+    let mut at = 0;
+    core::iter::from_fn(move || {
+        let tag = *description.get(at)?;
+        let place = at;
+        at += match tag {
+            16 | 19 => 5,
+            17 => 4,
+            _ => 1,
+        };
+        Some((place, &description[place..at]))
+    })
+}
+
+#[inline]
+fn rewritten(long: bool, description: &[u8], out: &mut [u8]) -> Read<usize> {
+    whole(description)?;
+    let mut len = description.len();
+    for (place, head) in heads(description) {
+        match head {
+            [17, ..] if long => len += 1,
+            [19, .., 0] if !long => len -= 1,
+            [19, ..] if !long => return Err((44, place as u64)),
+            _ => {}
+        }
+    }
+    let mut rest = out.get_mut(..len).ok_or((45, 0))?;
+    for (_, head) in heads(description) {
+        let (front, behind) = rest.split_at_mut(match head {
+            [17, ..] if long => 5,
+            [19, ..] if !long => 4,
+            _ => head.len(),
+        });
+        match *head {
+            [17, align, packing, count] if long => front.copy_from_slice(&[19, align, packing, count, 0]),
+            [19, align, packing, count, _] if !long => front.copy_from_slice(&[17, align, packing, count]),
+            _ => front.copy_from_slice(head),
+        }
+        rest = behind;
+    }
+    Ok(len)
+}
+
+fn told_written(says: Read<usize>) -> Told<2> {
+    match says {
+        Ok(written) => Told { refusal: 0, values: [0, written as u64] },
+        Err((refusal, place)) => Told { refusal, values: [place, 0] },
+    }
+}
+
+pub unsafe extern "C" fn lengthen_counts(description: *const u8, len: usize, out: *mut u8, out_len: usize) -> Told<2> {
+    let description = unsafe { slice::from_raw_parts(description, len) };
+    told_written(rewritten(true, description, unsafe { slice::from_raw_parts_mut(out, out_len) }))
+}
+
+pub unsafe extern "C" fn shorten_counts(description: *const u8, len: usize, out: *mut u8, out_len: usize) -> Told<2> {
+    let description = unsafe { slice::from_raw_parts(description, len) };
+    told_written(rewritten(false, description, unsafe { slice::from_raw_parts_mut(out, out_len) }))
 }
 
 // ---- descriptions ----
 
 /// A struct of as many members, each at least one byte, the last of them a slice.
-pub fn wide(random: &mut Random, set: Set, members: u8) -> Vec<u8> {
-    let mut out = head(random, set, members);
+pub fn wide(random: &mut Random, set: Set, tag: u8, members: u8) -> Vec<u8> {
+    let mut out = head(random, set, tag, members);
     for _ in 1..members {
         match random.below(8) {
             0 => {
-                out.extend(head(random, set, 3));
+                out.extend(head(random, set, tag, 3));
                 out.extend((0..3).map(|_| scalar(random)));
             }
             1 => {
@@ -114,10 +184,10 @@ pub fn wide(random: &mut Random, set: Set, members: u8) -> Vec<u8> {
 }
 
 /// Structs of two members, each in the one before: with the slice in the last there are 15 parts open.
-pub fn deep(random: &mut Random, set: Set) -> Vec<u8> {
+pub fn deep(random: &mut Random, set: Set, tag: u8) -> Vec<u8> {
     let mut out = Vec::new();
     for _ in 0..14 {
-        out.extend(head(random, set, 2));
+        out.extend(head(random, set, tag, 2));
         out.push(scalar(random));
     }
     out.extend([18, scalar(random)]);
@@ -128,13 +198,17 @@ fn scalar(random: &mut Random) -> u8 {
     random.below(9) as u8
 }
 
-/// The head of a struct, typically without alignment and packing.
-fn head(random: &mut Random, set: Set, members: u8) -> Vec<u8> {
+/// The head of a struct with this tag, typically without alignment and packing.
+fn head(random: &mut Random, set: Set, tag: u8, members: u8) -> Vec<u8> {
     let power = |random: &mut Random| match set {
         Set::Typical | Set::Refused if random.one_in(8) => 1 + random.below(6),
         Set::Typical | Set::Refused => 0,
         Set::Random => random.below(31),
         Set::Worst => 20 + random.below(11),
     };
-    vec![17, power(random) as u8, power(random) as u8, members]
+    let mut out = vec![tag, power(random) as u8, power(random) as u8, members];
+    if tag == 19 {
+        out.push(0);
+    }
+    out
 }

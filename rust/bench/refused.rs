@@ -343,6 +343,23 @@ pub const READ: &[Spoil] = &[
     }),
 ];
 
+/// Of rewriting: some of reading, and the room.
+pub const LENGTHEN: &[Spoil] = &[
+    (33, |c| c.description.truncate(c.description.len() - 1)),
+    (34, |c| end_in(c, &[18, 9])),
+    (38, |c| c.description.push(0)),
+    (45, |c| drop(c.shorts_room.pop())),
+];
+
+/// Back: also a struct of 300 members.
+pub const SHORTEN: &[Spoil] = &[
+    (33, |c| c.description.truncate(c.description.len() - 1)),
+    (34, |c| end_in(c, &[18, 9])),
+    (38, |c| c.description.push(0)),
+    (44, |c| c.description = [&[19, 0, 0, 44, 1][..], &[0; 300]].concat()),
+    (45, |c| drop(c.shorts_room.pop())),
+];
+
 // ---- short records ----
 
 /// Of the record of a trailing layout in its short form: kind, spare bytes and power, then that of a fixed one with a

@@ -1,6 +1,6 @@
 //! The table of functions: how each side of one is called on a case.
 
-use super::cases::{cases, counts, descriptions, gained, lists, moves, Case, Set};
+use super::cases::{cases, counts, descriptions, gained, lists, moves, to_lengthen, to_shorten, Case, Set};
 use super::exports::*;
 use super::refused::*;
 use super::{describe, full, go_through, plain, tested};
@@ -253,6 +253,18 @@ pub fn rows() -> Vec<Row> {
             [lukaripe_records_from_short, tested::records_from_short], moved(&c.shorts, &c.records_room, f);),
         row!("records_from_short, 100000 records", |set| moves(set, 100_000), FROM_SHORT, f, c =>
             [lukaripe_records_from_short, tested::records_from_short], moved(&c.shorts, &c.records_room, f);),
+        row!("lengthen_counts, 10 members", |set| to_lengthen(set, 10), LENGTHEN, f, c =>
+            [lukaripe_lengthen_counts, describe::lengthen_counts], moved(&c.description, &c.shorts_room, f);),
+        row!("lengthen_counts, 254 members", |set| to_lengthen(set, 254), LENGTHEN, f, c =>
+            [lukaripe_lengthen_counts, describe::lengthen_counts], moved(&c.description, &c.shorts_room, f);),
+        row!("lengthen_counts, 15 deep", |set| to_lengthen(set, 0), LENGTHEN, f, c =>
+            [lukaripe_lengthen_counts, describe::lengthen_counts], moved(&c.description, &c.shorts_room, f);),
+        row!("shorten_counts, 10 members", |set| to_shorten(set, 10), SHORTEN, f, c =>
+            [lukaripe_shorten_counts, describe::shorten_counts], moved(&c.description, &c.shorts_room, f);),
+        row!("shorten_counts, 254 members", |set| to_shorten(set, 254), SHORTEN, f, c =>
+            [lukaripe_shorten_counts, describe::shorten_counts], moved(&c.description, &c.shorts_room, f);),
+        row!("shorten_counts, 15 deep", |set| to_shorten(set, 0), SHORTEN, f, c =>
+            [lukaripe_shorten_counts, describe::shorten_counts], moved(&c.description, &c.shorts_room, f);),
         row!("write_cases, up to 3 members", |set| moves(set, 107), CASES, f, c =>
             [lukaripe_write_cases, tested::write_cases], wrote(3, &c.shorts_room, f);),
         row!("write_cases, up to 6 members", |set| moves(set, 6_827), CASES, f, c =>
