@@ -156,7 +156,6 @@ FAULTS = [
     ("[u8; ]", "a number, decimal digits alone, is missing at column 6"),
     ("[u8; 0x10]", "a number, decimal digits alone, is missing at column 6"),
     ("[u8; 4294967296]", "count 4294967296 at column 6: a count is at most 2^32 - 1"),
-    (f"[struct {{ {'u8, ' * 256} }}]", "more than 255 members in the struct at column 2"),
 ]
 
 
@@ -405,6 +404,21 @@ class Describe(WithProgram):
         members = "u8, " * 255
         self.says(f"{CLI} describe 'struct {{ {members} }}'", 0, bytes([17, 0, 0, 255]) + bytes(255))
         self.assertIn("\nwhole: alignment 1, size 255, ", self.shows(f"'struct {{ {members} }}'"))
+        # Above 255 the count has two bytes, under another tag.
+        members += "[u16; 2], " * 45
+        described = bytes([19, 0, 0, 44, 1]) + bytes(255) + bytes([16, 2, 0, 0, 0, 1]) * 45
+        self.says(f"{CLI} describe 'struct {{ {members} }}'", 0, described)
+        self.assertIn("\nwhole: alignment 2, size 436, ", self.shows(f"'struct {{ {members} }}'"))
+        ran = self.run_shell(f"{CLI} describe --hex 'struct {{ {members} }}'")
+        self.assertEqual(ran.stdout.decode().split("\n")[0], "13 00 00 2c 01  struct, 300 members")
+        # What is refused behind such a head has its letter.
+        refused = "struct { " + "u8, " * 299 + "[[u8]; 2] }"
+        first = f"{CLI} describe '{refused}' 2>&1 | head -1 | cut -c 1-36"
+        self.says(first, 0, "lukaripe: the array at column 1206: \n")
+
+    def test_long_structs_are_read(self):
+        said = self.run_shell(f"{CLI} describe 'struct {{ u8, u32 }}' | {CLI} describe --read -").stdout.decode()
+        self.says(f"{CLI} describe --read -", 0, said, input=bytes([19, 0, 0, 2, 0, 0, 2]))
 
     def test_options(self):
         for words, said in [

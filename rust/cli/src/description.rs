@@ -2,14 +2,36 @@
 
 use crate::member::{member_at, Member, CLOSING, SCALARS};
 use crate::record::{members_said, Asked, Inner, Record};
-use lukaripe::{for_repr_c_struct_places, Layout, Refused, TAG_ARRAY, TAG_SLICE, TAG_STRUCT};
+use lukaripe::{for_repr_c_struct_places, Layout, Refused, TAG_ARRAY, TAG_LONG_STRUCT, TAG_SLICE, TAG_STRUCT};
 use std::collections::BTreeMap;
 use std::iter;
 use std::num::NonZeroU64;
 use std::ops::Range;
 
-/// The most members of a struct: their number is a byte.
-pub const MEMBERS: u8 = u8::MAX;
+/// The number of a struct's members, in the byte or the two bytes that its head has for it.
+#[derive(Clone, Copy, Debug, PartialEq, Eq)]
+pub enum Members {
+    Byte(u8),
+    Two(u16),
+}
+
+impl Members {
+    /// The most members of a struct.
+    pub const MOST: u16 = u16::MAX;
+
+    /// One member more, in a byte where that holds it.
+    pub fn one_more(self) -> Option<Members> {
+        let more = self.number().checked_add(1)?;
+        Some(u8::try_from(more).map_or(Members::Two(more), Members::Byte))
+    }
+
+    pub fn number(self) -> u16 {
+        match self {
+            Members::Byte(members) => members.into(),
+            Members::Two(members) => members,
+        }
+    }
+}
 
 /// What the head of a part says.
 #[derive(Clone, Copy, Debug, PartialEq, Eq)]
@@ -17,8 +39,7 @@ pub enum Form {
     /// By its code.
     Scalar(usize),
     Array(u32),
-    /// With the number of its members.
-    Struct(Asked, u8),
+    Struct(Asked, Members),
     Slice,
 }
 
@@ -29,18 +50,32 @@ impl Form {
         match self {
             Form::Scalar(code) => vec![code as u8],
             Form::Array(count) => [&[TAG_ARRAY][..], &count.to_le_bytes()].concat(),
-            Form::Struct(asked, members) => vec![TAG_STRUCT, power(asked.align), power(asked.packed), members],
+            Form::Struct(asked, members) => {
+                let mut head = vec![TAG_STRUCT, power(asked.align), power(asked.packed)];
+                match members {
+                    Members::Byte(members) => head.push(members),
+                    Members::Two(members) => {
+                        head[0] = TAG_LONG_STRUCT;
+                        head.extend(members.to_le_bytes());
+                    }
+                }
+                head
+            }
             Form::Slice => vec![TAG_SLICE],
         }
     }
 
     /// What the head says that the bytes begin with, of a description that the library accepts.
     fn read(bytes: &[u8]) -> Option<Form> {
-        let asked = |power: u8| power.checked_sub(1).and_then(|power| NonZeroU64::new(1 << power));
+        let power = |power: u8| power.checked_sub(1).and_then(|power| NonZeroU64::new(1 << power));
+        let asked = |align: u8, packed: u8| Asked { align: power(align), packed: power(packed) };
         match *bytes {
             [TAG_ARRAY, a, b, c, d, ..] => Some(Form::Array(u32::from_le_bytes([a, b, c, d]))),
             [TAG_STRUCT, align, packed, members, ..] => {
-                Some(Form::Struct(Asked { align: asked(align), packed: asked(packed) }, members))
+                Some(Form::Struct(asked(align, packed), Members::Byte(members)))
+            }
+            [TAG_LONG_STRUCT, align, packed, low, high, ..] => {
+                Some(Form::Struct(asked(align, packed), Members::Two(u16::from_le_bytes([low, high]))))
             }
             [TAG_SLICE, ..] => Some(Form::Slice),
             [code, ..] if usize::from(code) < SCALARS.len() => Some(Form::Scalar(code.into())),
@@ -49,11 +84,11 @@ impl Form {
     }
 
     /// The bytes of the head.
-    fn length(self) -> usize {
+    pub fn length(self) -> usize {
         match self {
             Form::Scalar(_) | Form::Slice => 1,
-            Form::Struct(..) => 4,
-            Form::Array(_) => 5,
+            Form::Struct(_, Members::Byte(_)) => 4,
+            Form::Struct(_, Members::Two(_)) | Form::Array(_) => 5,
         }
     }
 
@@ -62,7 +97,7 @@ impl Form {
         match self {
             Form::Scalar(_) => 0,
             Form::Array(_) | Form::Slice => 1,
-            Form::Struct(_, members) => members.into(),
+            Form::Struct(_, members) => members.number().into(),
         }
     }
 }
@@ -248,7 +283,7 @@ impl Description {
             let form = self.form(part);
             let name = self.names.get(&part).map(|name| format!("{name}: ")).unwrap_or_default();
             let count = match form {
-                Form::Struct(_, members) => format!(", {}", members_said(members.into())),
+                Form::Struct(_, members) => format!(", {}", members_said(members.number().into())),
                 _ => String::new(),
             };
             let head = hex(&self.bytes[part..part + form.length()]);
@@ -311,6 +346,15 @@ mod tests {
             assert_eq!(heads, described.bytes, "{text}");
             assert_eq!(described.span(0), 0..heads.len(), "{text}");
         }
+    }
+
+    #[test]
+    fn a_count_of_two_bytes_is_read() {
+        let described = Description::of_bytes(vec![19, 0, 4, 2, 0, 0, 17, 0, 0, 1, 3]);
+        assert_eq!(described.span(0), 0..11);
+        assert_eq!(described.held(0), [5, 6]);
+        assert_eq!(described.listing().lines().next(), Some("13 00 04 02 00  struct(packed 8), 2 members"));
+        assert_eq!(described.record_with_inner().map(|record| record.whole), described.layout());
     }
 
     #[test]

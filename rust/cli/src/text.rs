@@ -7,7 +7,7 @@
 //! field  = [ name ':' ] type
 //! ```
 
-use crate::description::{Description, Form, Part, MEMBERS};
+use crate::description::{Description, Form, Members, Part};
 use crate::member::{other_than, SCALARS};
 use crate::record::Asked;
 use crate::words::{number, quoted, NoNumber};
@@ -199,7 +199,7 @@ impl<'a> Reader<'a> {
                 let asked = self.mods(&mut letters)?;
                 letters.push(self.at());
                 self.expect("{")?;
-                (Form::Struct(asked, 0), letters, !self.accept("}"))
+                (Form::Struct(asked, Members::Byte(0)), letters, !self.accept("}"))
             }
             "[" => {
                 self.next += 1;
@@ -221,11 +221,15 @@ impl<'a> Reader<'a> {
     fn goes_on(&mut self, holder: usize) -> Result<bool, Fault> {
         match self.parts[holder].form {
             Form::Struct(asked, members) => {
-                if members == MEMBERS {
-                    let what = format!("more than {MEMBERS} members in the struct");
+                let Some(members) = members.one_more() else {
+                    let what = format!("more than {} members in the struct", Members::MOST);
                     return fault(self.letters[holder][0], what);
-                }
-                self.parts[holder].form = Form::Struct(asked, members + 1);
+                };
+                let form = Form::Struct(asked, members);
+                self.parts[holder].form = form;
+                // The count has a byte more where it no longer fits one.
+                let letters = &mut self.letters[holder];
+                letters.resize(form.length(), letters[letters.len() - 1]);
                 let goes_on = self.accept(",");
                 if !goes_on && self.peek() != "}" {
                     return self.missing("',' or '}'");
@@ -383,7 +387,11 @@ mod tests {
         assert_eq!(bytes(" [ [ bool ; 4294967295 ]\n;\t0 ] "), [16, 0, 0, 0, 0, 16, 255, 255, 255, 255, 7]);
         // A name may be any word.
         assert_eq!(bytes("struct { struct: u8, u8: u16, \u{e9}_1: [u8; 1] }"), [17, 0, 0, 3, 0, 1, 16, 1, 0, 0, 0, 0]);
-        assert_eq!(bytes(&format!("struct {{ {} }}", "u8,".repeat(255)))[..5], [17, 0, 0, 255, 0]);
+        let of_members = |members: usize| bytes(&format!("struct(packed 1) {{ {} }}", "u8,".repeat(members)));
+        assert_eq!(of_members(255)[..5], [17, 0, 1, 255, 0]);
+        assert_eq!(of_members(256)[..6], [19, 0, 1, 0, 1, 0]);
+        assert_eq!(of_members(65535)[..6], [19, 0, 1, 255, 255, 0]);
+        assert_eq!(of_members(300).len(), 305);
     }
 
     #[test]
@@ -444,8 +452,8 @@ mod tests {
         ] {
             assert_eq!(wrong(text), format!("{said}; see --help"), "{text}");
         }
-        let many = format!("[struct {{ {} }}]", "u8, ".repeat(256));
-        assert_eq!(wrong(&many), "more than 255 members in the struct at column 2; see --help");
+        let many = format!("[struct {{ {} }}]", "u8, ".repeat(65536));
+        assert_eq!(wrong(&many), "more than 65535 members in the struct at column 2; see --help");
     }
 
     #[test]
