@@ -250,7 +250,8 @@ const PAGES: &[&[u64]] = &[
     described!(19, 65),
     described!(19, 64, 65),
     described!(19, 64, 64, 0, 0),
-    // 256 members are counted by the second byte; they are read.
+    // 256 members are counted by the second byte; they are read, and so are as many as there can be.
+    &words::<{ 1 + 65_540usize.div_ceil(8) }>(&of_bytes::<65_540>([19, 0, 0, 255, 255])),
     &words::<{ 1 + 261usize.div_ceil(8) }>(&of_bytes::<261>([19, 0, 0, 0, 1])),
     &words::<{ 1 + 260usize.div_ceil(8) }>(&of_bytes::<260>([19, 0, 0, 0, 1])),
     &words::<{ 1 + 262usize.div_ceil(8) }>(&of_bytes::<262>([19, 0, 0, 0, 1])),
