@@ -13,6 +13,6 @@ pub extern "C" fn lukaripe_records_from_short(records: &[u8], out: &mut [u8]) ->
         now (out .exit) ≡ filled (moveFor fromShort (now (records .entry)) (length (now (out .entry)))) (now (out .entry))
         ⌝ }
 {
-    let answer = moves::records_from_short(records, out);
+    let answer = moves_back::records_from_short(records, out);
     exports_short::moved_out(answer)
 }

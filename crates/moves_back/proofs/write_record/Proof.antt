@@ -1,4 +1,4 @@
--- `moves::write_record` meets its contract. Assumes nothing.
+-- `moves_back::write_record` meets its contract. Assumes nothing.
 use mathlib.Core.Path.{sym, subst, _∙_}
 use Prim.Native.Nat.{ℕ, _/_, _%_, _<_}
 use native.Mathlib.Omega.{arith}
@@ -7,8 +7,8 @@ use Rattle.short_defs.specs.Short.{shortAt}
 use Rattle.short_defs.proofs.Records.{from-short}
 use Rattle.short_defs.proofs.Told.{last-read, writes-record}
 use borrow.Author.Needs.{needs}
-use Rattle.moves.proofs.write_record.Statement.{statement}
-use Rattle.moves.proofs.write_record.Tie as tie
+use Rattle.moves_back.proofs.write_record.Statement.{statement}
+use Rattle.moves_back.proofs.write_record.Tie as tie
 
 read-word-requires : tie.Need-read-word-requires
 read-word-requires c κs = search needs

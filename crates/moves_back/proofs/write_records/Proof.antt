@@ -1,4 +1,4 @@
--- `moves::write_records` meets its contract. Assumes nothing.
+-- `moves_back::write_records` meets its contract. Assumes nothing.
 use mathlib.Core.Path.{ap, _∙_}
 use mathlib.Core.List.{List}
 use Prim.Native.Nat.{ℕ, _+_, _-_, _*_, _/_}
@@ -9,8 +9,8 @@ use Rattle.short_defs.specs.Moves.{fromShort}
 use Rattle.short_defs.proofs.Lists.{looked, looked-length, tested-each, Writing, writing-begins, writing-length, writing-on, writing-ends}
 use Rattle.short_defs.proofs.Ways.{wide-proper}
 use borrow.Author.Needs.{needs}
-use Rattle.moves.proofs.write_records.Statement.{statement}
-use Rattle.moves.proofs.write_records.Tie as tie
+use Rattle.moves_back.proofs.write_records.Statement.{statement}
+use Rattle.moves_back.proofs.write_records.Tie as tie
 
 abbrev Inv-loop : tie.InvT-loop
 Inv-loop records out₀ count i₀ out i = Writing fromShort (wide-proper .whole) count i records out₀ out

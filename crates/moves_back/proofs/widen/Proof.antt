@@ -1,4 +1,4 @@
--- `moves::widen` meets its contract. Assumes nothing.
+-- `moves_back::widen` meets its contract. Assumes nothing.
 use mathlib.Core.Path.{sym, ap, _∙_}
 use Prim.Native.Nat.{_/_}
 use lib.ListN.{length}
@@ -7,10 +7,10 @@ use Rattle.short_defs.specs.Moves.{fromShort}
 use Rattle.short_defs.proofs.Lists.{moved-length}
 use Rattle.short_defs.proofs.Meaning.{sized}
 use Rattle.short_defs.proofs.Ways.{wide-proper, is-stopped, is-moved}
 use Rattle.moves.specs.View.{testSays}
 use borrow.Author.Needs.{needs}
-use Rattle.moves.proofs.widen.Statement.{statement}
-use Rattle.moves.proofs.widen.Tie as tie
+use Rattle.moves_back.proofs.widen.Statement.{statement}
+use Rattle.moves_back.proofs.widen.Tie as tie
 
 test-shorts-requires : tie.Need-test-shorts-requires
 test-shorts-requires c κs = search needs

@@ -1,11 +1,11 @@
--- `moves::test_short` meets its contract. Assumes nothing.
+-- `moves_back::test_short` meets its contract. Assumes nothing.
 use mathlib.Core.Path.{sym}
 use Rattle.util_defs.proofs.Tables.{told-by}
 use Rattle.layout.specs.View.{layoutSays}
 use Rattle.short_defs.proofs.Told.{short-own, short-on}
 use borrow.Author.Needs.{needs}
-use Rattle.moves.proofs.test_short.Statement.{statement}
-use Rattle.moves.proofs.test_short.Tie as tie
+use Rattle.moves_back.proofs.test_short.Statement.{statement}
+use Rattle.moves_back.proofs.test_short.Tie as tie
 
 decode-short-requires : tie.Need-decode-short-requires
 decode-short-requires c κs = search needs

@@ -1,4 +1,4 @@
--- `moves::test_shorts` meets its contract. Assumes nothing.
+-- `moves_back::test_shorts` meets its contract. Assumes nothing.
 use mathlib.Core.Path.{_≡_, sym, ap, _∙_}
 use Prim.Native.Nat.{ℕ, _-_, _*_, _/_}
 use native.Mathlib.Omega.{arith}
@@ -8,8 +8,8 @@ use Rattle.layout.specs.View.{checkSays}
 use Rattle.short_defs.specs.Moves.{fromShort, tested}
 use Rattle.short_defs.proofs.Lists.{test-on, test-off, test-end}
 use borrow.Author.Needs.{needs}
-use Rattle.moves.proofs.test_shorts.Statement.{statement}
-use Rattle.moves.proofs.test_shorts.Tie as tie
+use Rattle.moves_back.proofs.test_shorts.Statement.{statement}
+use Rattle.moves_back.proofs.test_shorts.Tie as tie
 
 abbrev Inv-loop : tie.InvT-loop
 Inv-loop records count i₀ i = tested fromShort i (count - i) (drop (i * 32) records) ≡ tested fromShort 0 count records

@@ -1,11 +1,11 @@
--- `moves::records_from_short` meets its contract. Assumes nothing.
+-- `moves_back::records_from_short` meets its contract. Assumes nothing.
 use native.Mathlib.Omega.{arith}
 use Rattle.short_defs.specs.Moves.{fromShort}
 use Rattle.short_defs.specs.Trips.{Widened}
 use Rattle.short_defs.proofs.Ways.{wide-proper, move-told, is-uneven, is-short, fits-room}
 use borrow.Author.Needs.{needs}
-use Rattle.moves.proofs.records_from_short.Statement.{statement}
-use Rattle.moves.proofs.records_from_short.Tie as tie
+use Rattle.moves_back.proofs.records_from_short.Statement.{statement}
+use Rattle.moves_back.proofs.records_from_short.Tie as tie
 
 widen-requires : tie.Need-widen-requires
 widen-requires c κs = fits-room fromShort (c .before .before .before .before .before .args .records .now) (c .before .before .before .before .before .args .out .now) (omega arith) (c .before .before .if1 .taken) (omega (arith, c .before .if2 .left))
