@@ -4,7 +4,7 @@ use mathlib.Core.Bool.{Bool, true, false, cond}
 use mathlib.Core.List.{List, [], _∷_}
 use Prim.Native.Nat.{ℕ, _+_, _-_, _^_, _≤_, _<_}
 use native.Mathlib.Omega.{arith}
-use borrow.Author.Tests.{leb-true, le-leb, leb-false, lt-leb}
+use borrow.Author.Tests.{leb-true}
 use lib.Dec.{leb}
 use lib.ListN.{length, length-append}
 use Rattle.util_defs.specs.Placed.{Placed, reached, stopped, goOn}
@@ -14,10 +14,10 @@ use Rattle.describe_defs.specs.Describe.{structTag, describedFor}
 use Rattle.describe_defs.proofs.Steps.{not-stopped, reached-one, went}
 use Rattle.describe_defs.proofs.Meaning.{accepts}
 use Rattle.rewrite_defs.specs.Heads.{headsOf, joined, hasTag, tagsAmong, tagsIn}
-use Rattle.rewrite_defs.specs.Rewrite.{Way, longer, shorter, from, countsFit, rewritten, roomFor, rewriteFor, bytesFor, filled}
-use Rattle.rewrite_defs.specs.Means.{Fits, LengthIs, RewriteMeans}
+use Rattle.rewrite_defs.specs.Rewrite.{Way, longer, shorter, from, countsFit, rewritten, rewriteFor, bytesFor, filled}
+use Rattle.rewrite_defs.specs.Means.{LengthIs, RewriteMeans}
 use Rattle.rewrite_defs.proofs.Whole.{AllWhole, described-whole}
-use Rattle.rewrite_defs.proofs.Trips.{fits, fit-so, is-rewritten}
+use Rattle.rewrite_defs.proofs.Trips.{fits, is-rewritten}
 use Rattle.rewrite_defs.proofs.Meaning.{same-stop, rewrite-means}
 use Rattle.rewrite.specs.View.{Whole, Read, lengthTo}
 

@@ -1,18 +1,17 @@
 -- The loops over the heads of a description. Assumes nothing.
-use mathlib.Core.Path.{_≡_, refl, sym, ap, subst, _∙_}
+use mathlib.Core.Path.{_≡_, refl, sym, ap, _∙_}
 use mathlib.Core.Bool.{Bool, true, false, cond}
 use mathlib.Core.List.{List, [], _∷_, _++_, map, append-nil, append-assoc}
-use Prim.Native.Nat.{ℕ, zero, suc, _+_, _-_, _≤_, _<_}
+use Prim.Native.Nat.{ℕ, _+_, _-_, _≤_, _<_}
 use native.Mathlib.Omega.{arith}
 use lib.Dec.{eqb}
 use lib.ListN.{length, take, drop, getD, length-append, length-drop, drop-of-length-le}
-use lib.Seq.{sets, sets-eq, take-at, drop-at, drop-drop, drop-append-add, take-append-seam}
-use Rattle.util_defs.specs.Placed.{Placed, reached, stopped, goOn}
+use lib.Seq.{sets, sets-eq, take-at, drop-drop, drop-append-add}
+use Rattle.util_defs.specs.Placed.{reached, stopped, goOn}
 use Rattle.describe_defs.specs.Describe.{structTag, tagOf}
 use Rattle.rewrite_defs.specs.Heads.{behindTag, headsOf, joined, hasTag, tagsAmong, tagsIn}
 use Rattle.rewrite_defs.specs.Rewrite.{Way, longer, shorter, from, turnedHead, countAbove, countsFit, rewritten, filled}
-use Rattle.rewrite_defs.specs.Means.{Fits}
-use Rattle.rewrite_defs.proofs.Whole.{IsWhole, AllWhole}
+use Rattle.rewrite_defs.proofs.Whole.{AllWhole}
 use Rattle.rewrite_defs.proofs.Same.{byte-in, head-room, past-head}
 use Rattle.rewrite.specs.View.{headAt, HeadIn, Whole}
 use Rattle.rewrite.proofs.Ways.{head-tag, head-length}

@@ -2,7 +2,7 @@
 use mathlib.Core.Path.{_≡_, refl, sym, ap, subst, _∙_}
 use mathlib.Core.Bool.{Bool, true, false, cond}
 use mathlib.Core.List.{List, [], _∷_, _++_}
-use Prim.Native.Nat.{ℕ, _+_, _≤_, _<_}
+use Prim.Native.Nat.{ℕ, _+_, _≤_}
 use native.Mathlib.Omega.{arith}
 use borrow.Author.Tests.{leb-false, lt-leb}
 use lib.Dec.{leb}
@@ -15,7 +15,7 @@ use Rattle.describe_defs.proofs.Steps.{not-stopped}
 use Rattle.describe_defs.proofs.Meaning.{accepted, accepts}
 use Rattle.rewrite_defs.specs.Heads.{headsOf, joined}
 use Rattle.rewrite_defs.specs.Rewrite.{Way, countAbove, countsFit, rewritten, roomFor, rewriteFor, bytesFor, filled}
-use Rattle.rewrite_defs.specs.Means.{Fits, FirstAbove, Refused, unread, above, noRoom, Written, RewriteMeans, OneAnswer}
+use Rattle.rewrite_defs.specs.Means.{Fits, Refused, unread, above, noRoom, RewriteMeans, OneAnswer}
 use Rattle.rewrite_defs.proofs.Trips.{fits, fit-so, found, rewrite-on, is-rewritten, one-rewriting}
 
 -- where counts do not fit, the first head whose count is above

@@ -1,6 +1,6 @@
 -- A rewritten description describes the same layout. Assumes nothing.
 use mathlib.Core.Path.{_≡_, refl, sym, ap, subst, _∙_}
-use mathlib.Core.Bool.{Bool, true, false, cond}
+use mathlib.Core.Bool.{false}
 use mathlib.Core.List.{List, [], _∷_, _++_, map}
 use Prim.Native.Nat.{ℕ, zero, suc, _+_, _-_, _*_, _≤_, _<_}
 use native.Mathlib.Omega.{arith}
@@ -8,15 +8,15 @@ use borrow.Author.Tests.{ne-eqb, ltb-false}
 use lib.ListN.{length, take, drop, getD, length-append, length-drop, List·getD-append}
 use lib.Seq.{drop-drop, drop-at, getD-drop, drop-append-le, take-append-le}
 use Rattle.layout_defs.specs.Layout.{Layout}
-use Rattle.scalar.specs.Scalar.{Target, scalarLayout}
+use Rattle.scalar.specs.Scalar.{Target}
 use Rattle.words.specs.Bytes.{valueOf}
 use Rattle.describe_defs.specs.Describe.{Counted, byOne, byTwo, structTag, countBytes, tagOf}
 use Rattle.describe_defs.specs.Grammar.{Stands, IsByte, IsPower, IsCount, Run, none, one, Header, ScalarIs, aCode, PartIs, aScalar, anArray, aStruct, aSlice, Describes}
 use Rattle.describe_defs.proofs.Steps.{tag-code}
-use Rattle.rewrite_defs.specs.Heads.{behindTag, joined, hasTag}
-use Rattle.rewrite_defs.specs.Rewrite.{Way, longer, shorter, from, into, turnedHead, countAbove}
+use Rattle.rewrite_defs.specs.Heads.{behindTag, joined}
+use Rattle.rewrite_defs.specs.Rewrite.{Way, longer, shorter, turnedHead, countAbove}
 use Rattle.rewrite_defs.specs.Means.{Fits}
-use Rattle.rewrite_defs.proofs.Whole.{IsWhole, AllWhole}
+use Rattle.rewrite_defs.proofs.Whole.{AllWhole}
 
 -- ---- bytes and counts of a head that stands at t
 module _ (s h v : List ℕ) (t : ℕ) (e : drop t s ≡ h ++ v) where

@@ -2,27 +2,27 @@
 use mathlib.Core.Path.{_≡_, refl, sym, ap, subst, _∙_}
 use mathlib.Core.Bool.{Bool, true, false, cond}
 use mathlib.Core.List.{List, [], _∷_, _++_, map}
-use Prim.Native.Nat.{ℕ, zero, suc, _+_, _*_, _≤_, _<_}
+use Prim.Native.Nat.{ℕ, _+_, _*_, _≤_, _<_}
 use native.Mathlib.Omega.{arith}
-use borrow.Author.Tests.{le-ltb, le-leb, ltb-true, ltb-false, leb-true, leb-false}
-use lib.Dec.{eqb, ltb, leb}
-use lib.ListN.{length, take, drop, getD, length-append, length-drop, List·getD-append, List·getD-eq-default}
+use borrow.Author.Tests.{le-ltb, le-leb, ltb-true, ltb-false, leb-true}
+use lib.Dec.{ltb, leb}
+use lib.ListN.{length, drop, getD, length-drop, List·getD-append, List·getD-eq-default}
 use lib.Seq.{drop-length, getD-append-add}
-use Rattle.util_defs.specs.Placed.{Placed, reached, stopped, goOn}
+use Rattle.util_defs.specs.Placed.{reached, stopped, goOn}
 use Rattle.layout_defs.specs.Layout.{Layout}
 use Rattle.scalar.specs.Scalar.{Target}
 use Rattle.words.specs.Bytes.{valueOf}
 use Rattle.words.proofs.LittleEndian.{AllBytes}
 use Rattle.describe_defs.specs.Describe.{structTag, describedFor}
 use Rattle.describe_defs.specs.Grammar.{Describes, Description}
-use Rattle.describe_defs.proofs.Steps.{not-stopped, reached-one, went, went-if}
+use Rattle.describe_defs.proofs.Steps.{not-stopped, went, went-if}
 use Rattle.describe_defs.proofs.Grammar.{reads}
-use Rattle.describe_defs.proofs.Meaning.{moved, accepted, accepts, one-layout}
+use Rattle.describe_defs.proofs.Meaning.{moved, accepted, accepts}
 use Rattle.rewrite_defs.specs.Heads.{headsOf, joined, hasTag, tagsAmong}
 use Rattle.rewrite_defs.specs.Rewrite.{Way, longer, shorter, from, into, back, turnedHead, countAbove, countsFit, rewritten, roomFor, rewriteFor}
 use Rattle.rewrite_defs.specs.Means.{SameStruct, same, Turned, Turns, none, turns, keeps, Fits, Rewritten, LengthIs, ThereAndBack, OneRewriting, SameLayout}
 use Rattle.rewrite_defs.proofs.Whole.{AllWhole, heads-of, described-whole}
-use Rattle.rewrite_defs.proofs.Same.{Rest, described-over}
+use Rattle.rewrite_defs.proofs.Same.{described-over}
 use Rattle.rewrite_defs.proofs.Turning.{Becomes, turned, kept, becomes, all-whole, all-gone, all-grow, all-turn, none-first, all-back}
 
 -- ---- counts that fit

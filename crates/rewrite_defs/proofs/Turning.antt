@@ -1,17 +1,17 @@
 -- Heads that are turned: whole, none of the old tag, so many bytes more or fewer, and turned back the same. Assumes nothing.
-use mathlib.Core.Path.{_≡_, refl, sym, ap, _∙_}
+use mathlib.Core.Path.{_≡_, refl}
 use mathlib.Core.Bool.{Bool, true, false, cond}
 use mathlib.Core.List.{List, [], _∷_, _++_, map}
-use Prim.Native.Nat.{ℕ, zero, suc, _+_, _*_, _≤_, _<_}
+use Prim.Native.Nat.{ℕ, _+_, _*_}
 use native.Mathlib.Omega.{arith}
-use borrow.Author.Tests.{eqb-true, eqb-false, ltb-false, le-ltb}
+use borrow.Author.Tests.{eqb-true, ltb-false}
 use lib.Dec.{eqb, ltb}
-use lib.ListN.{length, take, drop, length-append}
+use lib.ListN.{length, take, length-append}
 use Rattle.words.specs.Bytes.{valueOf}
-use Rattle.describe_defs.specs.Describe.{structTag, tagOf}
-use Rattle.rewrite_defs.specs.Heads.{behindTag, hasTag, joined, tagsAmong}
+use Rattle.describe_defs.specs.Describe.{structTag}
+use Rattle.rewrite_defs.specs.Heads.{hasTag, joined, tagsAmong}
 use Rattle.rewrite_defs.specs.Rewrite.{Way, longer, shorter, from, into, back, turnedHead, countAbove}
-use Rattle.rewrite_defs.specs.Means.{SameStruct, same, Turned, Turns, none, turns, keeps, Fits}
+use Rattle.rewrite_defs.specs.Means.{same, Turned, Turns, none, turns, keeps, Fits}
 use Rattle.rewrite_defs.proofs.Whole.{IsWhole, AllWhole}
 
 -- what becomes of a head, by whether it is turned: its statement need hold only of a struct of the old tag in its shape, and of a

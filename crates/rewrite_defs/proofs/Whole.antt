@@ -1,13 +1,13 @@
 -- The bytes of a description are its heads, one behind the other. Assumes nothing.
 use mathlib.Core.Path.{_≡_, refl, sym, ap, subst, _∙_}
 use mathlib.Core.List.{List, [], _∷_, _++_}
-use Prim.Native.Nat.{ℕ, zero, suc, _+_, _≤_, _<_}
+use Prim.Native.Nat.{ℕ, zero, suc, _+_, _≤_}
 use native.Mathlib.Omega.{arith}
 use lib.ListN.{length, take, drop, getD, length-append, length-drop, take-append-drop}
 use lib.Seq.{drop-cons, drop-drop, length-take-le, take-at, drop-at, drop-length}
 use Rattle.layout_defs.specs.Layout.{Layout}
 use Rattle.scalar.specs.Scalar.{Target}
-use Rattle.describe_defs.specs.Describe.{countBytes, byOne, byTwo, Tag, code, tagOf}
+use Rattle.describe_defs.specs.Describe.{byOne, byTwo, tagOf}
 use Rattle.describe_defs.specs.Grammar.{Stands, IsByte, Run, ScalarIs, aCode, PartIs, aScalar, anArray, aStruct, aSlice, Describes, Description}
 use Rattle.describe_defs.specs.Grammar.{none, one}
 use Rattle.describe_defs.proofs.Steps.{tag-code}

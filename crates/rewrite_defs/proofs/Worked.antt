@@ -1,7 +1,6 @@
 -- Worked rewritings. Assumes nothing.
 use mathlib.Core.Path.{_≡_, refl}
-use mathlib.Core.List.{List, [], _∷_}
-use Prim.Native.Nat.{ℕ}
+use mathlib.Core.List.{[], _∷_}
 use Rattle.util_defs.specs.Placed.{reached, stopped}
 use Rattle.words.specs.Bytes.{valueOf}
 use Rattle.rewrite_defs.specs.Heads.{headsUpTo, tagsAmong, tagsIn}

@@ -1,7 +1,6 @@
 -- The heads of a description as bytes, one behind the other (document 02, request 8): a part's head is as long as its tag says,
 -- and the parts stand in the order of their heads. So a byte 17 or 19 in a count or a power is no tag. Assumes nothing.
-use mathlib.Core.Path.{_≡_}
-use mathlib.Core.Bool.{Bool, true, false, cond}
+use mathlib.Core.Bool.{Bool, false, cond}
 use mathlib.Core.List.{List, [], _∷_, _++_}
 use Prim.Native.Nat.{ℕ, zero, suc, _+_}
 use lib.Dec.{eqb}

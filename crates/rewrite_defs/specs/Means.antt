@@ -11,7 +11,8 @@ use Rattle.words.proofs.LittleEndian.{AllBytes}
 use Rattle.describe_defs.specs.Describe.{structTag, describedFor}
 use Rattle.describe_defs.specs.Grammar.{Description}
 use Rattle.rewrite_defs.specs.Heads.{headsOf, hasTag, joined, tagsIn}
-use Rattle.rewrite_defs.specs.Rewrite.{Way, longer, shorter, from, into, back, countAbove, rewritten, rewriteFor, bytesFor, filled}
+use Rattle.rewrite_defs.specs.Rewrite.{Way, longer, shorter, from, into, back, countAbove, rewritten}
+use Rattle.rewrite_defs.specs.Rewrite.{rewriteFor, bytesFor, filled}
 
 -- a 17 and the 19 that says the same: the same alignment, packing and count
 pub data SameStruct : List ℕ → List ℕ → Type 0 where

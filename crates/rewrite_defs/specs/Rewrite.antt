@@ -1,13 +1,13 @@
 -- Rewriting a description (document 02, request 8): every 17 turned into 19, or every 19 into 17. Assumes nothing.
-use mathlib.Core.Bool.{Bool, true, false, cond}
+use mathlib.Core.Bool.{Bool, false, cond}
 use mathlib.Core.List.{List, [], _∷_, _++_, map}
-use Prim.Native.Nat.{ℕ, zero, suc, _+_, _≤_, _<_}
-use lib.Dec.{eqb, ltb, leb}
+use Prim.Native.Nat.{ℕ, _+_}
+use lib.Dec.{ltb, leb}
 use lib.ListN.{length, take, drop}
 use Rattle.util_defs.specs.Placed.{Placed, reached, stopped, goOn}
 use Rattle.scalar.specs.Scalar.{Target}
 use Rattle.words.specs.Bytes.{valueOf}
-use Rattle.describe_defs.specs.Describe.{Counted, byOne, byTwo, structTag, countBytes, describedFor}
+use Rattle.describe_defs.specs.Describe.{Counted, byOne, byTwo, structTag, describedFor}
 use Rattle.rewrite_defs.specs.Heads.{headsOf, hasTag, joined}
 
 -- the two ways: each 17 into 19, and back
