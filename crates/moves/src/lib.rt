@@ -1,4 +1,5 @@
-// Lists of records of 48 bytes moved to short ones of 32, between two lent buffers (document 02, request 6). The whole list is tested first, so that nothing is written where it is refused.
+// Lists of records of 48 bytes moved to short ones of 32, between two lent buffers (document 02, request 6). The whole list is
+// tested first, so that nothing is written where it is refused.
 ghost use mathlib.Core.Path.{_≡_};
 ghost use Prim.Native.Nat.{_*_, _/_, _%_, _≤_};
 ghost use lib.ListN.{length};
