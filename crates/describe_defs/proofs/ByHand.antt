@@ -7,13 +7,15 @@ use native.Mathlib.Omega.{arith}
 use borrow.Author.Tests.{eq-eqb}
 use lib.ListN.{length, take, drop, getD, length-append, length-map}
 use lib.Seq.{drop-cons, take-append-seam, drop-append-seam}
+use Rattle.util_defs.specs.Width.{M}
 use Rattle.util_defs.specs.Refusal.{answered}
+use lib.Pow.{pow-pos}
 use Rattle.util_defs.specs.Placed.{goOn}
-use Rattle.layout_defs.specs.Layout.{Layout}
+use Rattle.layout_defs.specs.Layout.{Layout, checkFor}
 use Rattle.scalar.specs.Scalar.{Target, target64, scalarLayout}
-use Rattle.record_defs.specs.Record.{recordBytes, wordsOf, decodeFor}
+use Rattle.record_defs.specs.Record.{recordBytes, wordsOf, decodeFor, FitsIn}
 use Rattle.record_defs.proofs.Records.{record-length}
-use Rattle.record_defs.proofs.RoundTrips.{Fits, layout-back}
+use Rattle.record_defs.proofs.RoundTrips.{Fits, layout-back, same-check}
 use Rattle.words.specs.Bytes.{valueOf}
 use Rattle.compose_defs.specs.Compose.{Composed, composed, refusedAt, Member, ported, membersOf, structFor}
 use Rattle.compose_defs.specs.Places.{listed}
@@ -84,31 +86,46 @@ listed-below n z [] h i = z
 listed-below n z (x ∷ xs) h zero = h .0
 listed-below n z (x ∷ xs) h (suc i) = listed-below n z xs (h .1) i
 
+below64 : (b : ℕ) → b ≤ 8 → getD (target64 .sizes) b 0 < 256 ^ 8
+below64 b h =
+    listed-below (256 ^ 8) (omega arith) (target64 .sizes)
+    (omega arith, (omega arith, (omega arith, (omega arith, (omega arith, (omega arith, (omega arith, (omega arith, (omega arith, tt))))))))) b
+
 fits64 : (b : ℕ) → b ≤ 8 → Fits (wordsOf (scalarLayout target64 b))
 fits64 b h =
-    let x : getD (target64 .sizes) b 0 < 256 ^ 8 = listed-below (256 ^ 8) (omega arith) (target64 .sizes) (omega arith, (omega arith, (omega arith, (omega arith, (omega arith, (omega arith, (omega arith, (omega arith, (omega arith, tt))))))))) b in
+    let x = below64 b h in
     record { align = x; kind = omega arith; size = x; offset = omega arith; elem = omega arith; word = omega arith }
+
+held64 : (b : ℕ) → b ≤ 8 → FitsIn 64 (wordsOf (scalarLayout target64 b))
+held64 b h =
+    let x : getD (target64 .sizes) b 0 ≤ M 64 = omega (arith, below64 b h) in
+    record { align = x; size = x; offset = omega arith; elem = omega arith; word = omega arith }
 
 -- ---- the struct of them
 whole : (s : List ℕ) (c : Composed) → goOn (byHand 0 (length s) c) (wholly s) ≡ wholeByHand c
 whole s (composed l) = rw (eq-eqb (length s) (length s) refl)
 whole s (refusedAt k place) = refl
 
-module _ (w : ℕ) (target : Target) (good : ScalarsAccepted w target) (fits : (b : ℕ) → b ≤ 8 → Fits (wordsOf (scalarLayout target b))) where
+module _ (w : ℕ) (target : Target) (good : ScalarsAccepted w target) (fits : (b : ℕ) → b ≤ 8 → Fits (wordsOf (scalarLayout target b)))
+    (held : (b : ℕ) → b ≤ 8 → FitsIn w (wordsOf (scalarLayout target b))) where
+  good-record : (b : ℕ) → b ≤ 8 → checkFor 64 (scalarLayout target b) ≡ answered tt
+  good-record b h =
+      same-check 64 w (scalarLayout target b) (omega (arith, fits b h .align)) (omega (arith, held b h .align, pow-pos w)) ∙ good b h
+
   scalars-recorded : (cs : List ℕ) → Codes cs → Recorded w (map (scalarLayout target) cs)
   scalars-recorded [] h = tt
-  scalars-recorded (c ∷ cs) h = (layout-back w (scalarLayout target c) (fits c (h .0)) (good c (h .0)), scalars-recorded cs (h .1))
+  scalars-recorded (c ∷ cs) h = (layout-back w (scalarLayout target c) (fits c (h .0)) (held c (h .0)) (good-record c (h .0)), scalars-recorded cs (h .1))
 
   pub as-scalars : AsScalars w target
   unfolding describedFor valueOf
-  as-scalars a p cs ha hp hc =
+  as-scalars a p cs ha hp fa fp hc =
       let s = ofCodes a p cs in
       let ms = map (scalarLayout target) cs in
       let n : length cs ≡ length ms = sym (length-map cs (scalarLayout target)) in
-      let h : Header s 0 byOne (powerOf a) (powerOf p) (length ms) = record {
+      let h : Header w s 0 byOne (powerOf a) (powerOf p) (length ms) = record {
         tag = record { within = omega arith; is = refl };
-        aligned = record { byte = a; at = record { within = omega arith; is = refl }; most = ha; is = refl };
-        packed = record { byte = p; at = record { within = omega arith; is = refl }; most = hp; is = refl };
+        aligned = record { byte = a; at = record { within = omega arith; is = refl }; most = ha; fits = fa; is = refl };
+        packed = record { byte = p; at = record { within = omega arith; is = refl }; most = hp; fits = fp; is = refl };
         count = record { within = omega arith; is = let z : length cs + 256 * 0 ≡ length cs = omega arith in z ∙ n };
       } in
       let r : Run (Describes w target 15 s) 4 (length s) ms = codes-run w target s 15 4 cs hc (omega arith) refl in
@@ -117,4 +134,4 @@ module _ (w : ℕ) (target : Target) (good : ScalarsAccepted w target) (fits : (
       ap (λ q. goOn q (wholly s)) x ∙ whole s (structFor w ported (powerOf a) (powerOf p) (recordsOf ms))
 
 pub as-scalars64 : AsScalars 64 target64
-as-scalars64 = as-scalars 64 target64 scalars64 fits64
+as-scalars64 = as-scalars 64 target64 scalars64 fits64 held64

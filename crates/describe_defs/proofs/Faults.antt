@@ -5,7 +5,7 @@ use mathlib.Core.List.{List, []}
 use Prim.Native.Nat.{ℕ, zero, suc, _+_, _*_, _≤_, _<_, max}
 use native.Mathlib.Nat.{max-eq-right}
 use native.Mathlib.Omega.{arith}
-use borrow.Author.Tests.{lt-leb, ne-eqb, ltb-true, ltb-false, leb-false, eqb-false}
+use borrow.Author.Tests.{lt-leb, ne-eqb, ltb-true, ltb-false, leb-false, eqb-false, leb-true}
 use lib.Dec.{eqb, ltb, leb}
 use lib.ListN.{length, take, drop, getD}
 use Rattle.util_defs.specs.Width.{M}
@@ -20,10 +20,10 @@ use Rattle.words.specs.Bytes.{valueOf}
 use Rattle.compose_defs.specs.Compose.{composed, refusedAt, ported, beginFor, memberStep, addMembers}
 use Rattle.describe_defs.specs.Elements.{elementSize, elementFor, arrayFor, sliceOfFor}
 use Rattle.describe_defs.specs.Describe.{Counted, byOne, byTwo, structTag, countBytes, Part, Reader, Form, array, struct, slice, Tag, code, opens, unknown, tagOf, byteAt, countAt, powerOf, powerAt}
-use Rattle.describe_defs.specs.Describe.{addRead, closed, structBody, structAt, arrayAt, sliceAt, formAt, tagged, taggedAt, partFor, wholly, describedFor}
+use Rattle.describe_defs.specs.Describe.{addRead, closed, structBody, structAt, arrayAt, sliceAt, formAt, tagged, taggedAt, partFor, wholly, describedFor, powerIn}
 use Rattle.describe_defs.specs.Grammar.{Stands, IsByte, IsCount, Run, none, one, members, Header, Describes}
 use Rattle.describe_defs.specs.Faults as F
-use Rattle.describe_defs.specs.Faults.{tagByte, UnknownTag, BadPower, noPower, powerAbove, badAlign, badPacking, noCount, ScalarsAccepted}
+use Rattle.describe_defs.specs.Faults.{tagByte, UnknownTag, BadPower, noPower, powerAbove, powerPasses, badAlign, badPacking, noCount, ScalarsAccepted}
 use Rattle.describe_defs.specs.Faults.{Comes, first, element, sliced, member, PartFault, Fault}
 use Rattle.describe_defs.proofs.Steps.{not-stopped, byte-found, power-found, count-found, TagMeans, tag-means}
 use Rattle.describe_defs.proofs.Elements.{element-trailing, element-sized, array-off, array-past, array-on, slice-off, slice-on}
@@ -71,16 +71,18 @@ module _ (s : List ℕ) (i : ℕ) {k j : ℕ} where
       go true g e = absurd (not-stopped (sym e))
       go false g e = (ltb-false i (length s) g, e)
 
-  power-stops : i ≤ length s → powerAt s i ≡ stopped k j → BadPower s i k j
-  power-stops h e = go (halted (byteAt s i) (λ b. cond (leb b 64) (reached (powerOf b)) (stopped 34 i)) e)
+  power-stops : (w : ℕ) → i ≤ length s → powerAt w s i ≡ stopped k j → BadPower w s i k j
+  power-stops w h e = go (halted (byteAt s i) (powerIn w i) e)
     where
-      judged : (b : ℕ) → IsByte s i b → (t : Bool) → leb b 64 ≡ t → cond t (reached (powerOf b)) (stopped 34 i) ≡ stopped k j → BadPower s i k j
-      judged b x true g e = absurd (not-stopped (sym e))
-      judged b x false g e = stopped-as (BadPower s i) e (powerAbove x (omega (arith, leb-false b 64 g)))
+      judged : (b : ℕ) → IsByte s i b → (t u : Bool) → leb b 64 ≡ t → leb (powerOf b) (M w) ≡ u
+          → cond t (cond u (reached (powerOf b)) (stopped 43 i)) (stopped 34 i) ≡ stopped k j → BadPower w s i k j
+      judged b x true true g f e = absurd (not-stopped (sym e))
+      judged b x true false g f e = stopped-as (BadPower w s i) e (powerPasses x (leb-true b 64 g) (leb-false (powerOf b) (M w) f))
+      judged b x false u g f e = stopped-as (BadPower w s i) e (powerAbove x (omega (arith, leb-false b 64 g)))
 
-      go : Halted (byteAt s i) (λ b. cond (leb b 64) (reached (powerOf b)) (stopped 34 i)) k j → BadPower s i k j
-      go (before e) = let x = byte-stops e in stopped-as (BadPower s i) (x .1) (noPower (omega (arith, h, x .0)))
-      go (behind b x e) = judged b (byte-found s i x) (leb b 64) refl e
+      go : Halted (byteAt s i) (powerIn w i) k j → BadPower w s i k j
+      go (before e) = let x = byte-stops e in stopped-as (BadPower w s i) (x .1) (noPower (omega (arith, h, x .0)))
+      go (behind b x e) = judged b (byte-found s i x) (leb b 64) (leb (powerOf b) (M w)) refl refl e
 
   count-stops : (n : ℕ) → i ≤ length s → countAt n s i ≡ stopped k j → (length s < i + n) × (_≡_ {A = Placed ℕ} (stopped 33 (length s)) (stopped k j))
   count-stops n h e = go (leb (i + n) (length s)) refl e
@@ -243,7 +245,7 @@ module _ (w : ℕ) (target : Target) (good : ScalarsAccepted w target) (s : List
             read (before z) = below (t + 1) k i (sliced c h) z
             read (behind x z e) = judged x z (halted-at {T = Part} t (sliceOfFor w (x .0)) (λ l. reached (l, x .1)) e)
 
-        body-fault : (o : Counted) {align packing n : ℕ} → Header s t o align packing n → structBody w part t (t + 3 + countBytes o) align packing n ≡ stopped k i → Refusal k i
+        body-fault : (o : Counted) {align packing n : ℕ} → Header w s t o align packing n → structBody w part t (t + 3 + countBytes o) align packing n ≡ stopped k i → Refusal k i
         body-fault o {align} {packing} {n} h e = begun (halted-at t (beginFor w ported align packing) (λ l. goOn (addRead w part packing t n l (t + 3 + countBytes o)) (closed w t)) e)
           where
             Inner : Stands
@@ -259,7 +261,7 @@ module _ (w : ℕ) (target : Target) (good : ScalarsAccepted w target) (s : List
             closed-fault l x b y (here q a z) =
                 let r = run-found w part Inner packing t (describes w target s d) n 0 (t + 3 + countBytes o) (x .1) l (x .0) y in
                 stopped-as (Refusal) z
-                (F.ofStruct {place = length (members (r .ms))} c (record { header = subst (Header s t o align packing) (sym (r .count)) h; run = r .run }) (rw (b, r .adds, a)))
+                (F.ofStruct {place = length (members (r .ms))} c (record { header = subst (Header w s t o align packing) (sym (r .count)) h; run = r .run }) (rw (b, r .adds, a)))
 
             added : (l : Layout) → beginFor w ported align packing ≡ answered l → Halted (addRead w part packing t n l (t + 3 + countBytes o)) (closed w t) k i → Refusal k i
             added l b (before y) = members-fault l b (broke w part Inner packing t (describes w target s d) n 0 l (t + 3 + countBytes o) y)
@@ -271,23 +273,23 @@ module _ (w : ℕ) (target : Target) (good : ScalarsAccepted w target) (s : List
 
         struct-fault : (o : Counted) → IsByte s t (structTag o) → structAt w part s t o ≡ stopped k i → Refusal k i
         unfolding structAt
-        struct-fault o h e = aligned (halted (powerAt s (t + 1)) (λ align. goOn (powerAt s (t + 2)) (λ packing. goOn (countAt (countBytes o) s (t + 3)) (λ n. structBody w part t (t + 3 + countBytes o) align packing n))) e)
+        struct-fault o h e = aligned (halted (powerAt w s (t + 1)) (λ align. goOn (powerAt w s (t + 2)) (λ packing. goOn (countAt (countBytes o) s (t + 3)) (λ n. structBody w part t (t + 3 + countBytes o) align packing n))) e)
           where
-            counted : (a p : ℕ) → powerAt s (t + 1) ≡ reached a → powerAt s (t + 2) ≡ reached p → Halted (countAt (countBytes o) s (t + 3)) (λ n. structBody w part t (t + 3 + countBytes o) a p n) k i → Refusal k i
+            counted : (a p : ℕ) → powerAt w s (t + 1) ≡ reached a → powerAt w s (t + 2) ≡ reached p → Halted (countAt (countBytes o) s (t + 3)) (λ n. structBody w part t (t + 3 + countBytes o) a p n) k i → Refusal k i
             counted a p x y (before z) =
-                let u = power-found s (t + 2) y in
+                let u = power-found w s (t + 2) y in
                 let v = count-stops s (t + 3) (countBytes o) (omega (arith, u .at .within)) z in
-                stopped-as (Refusal) (v .1) (F.inHeader o c h (noCount (power-found s (t + 1) x) u (v .0)))
+                stopped-as (Refusal) (v .1) (F.inHeader o c h (noCount (power-found w s (t + 1) x) u (v .0)))
             counted a p x y (behind n z e) =
-                body-fault o (record { tag = h; aligned = power-found s (t + 1) x; packed = power-found s (t + 2) y; count = count-found (countBytes o) s (t + 3) z }) e
+                body-fault o (record { tag = h; aligned = power-found w s (t + 1) x; packed = power-found w s (t + 2) y; count = count-found (countBytes o) s (t + 3) z }) e
 
-            packed : (a : ℕ) → powerAt s (t + 1) ≡ reached a → Halted (powerAt s (t + 2)) (λ packing. goOn (countAt (countBytes o) s (t + 3)) (λ n. structBody w part t (t + 3 + countBytes o) a packing n)) k i → Refusal k i
-            packed a x (before y) = let u = power-found s (t + 1) x in F.inHeader o c h (badPacking u (power-stops s (t + 2) (omega (arith, u .at .within)) y))
+            packed : (a : ℕ) → powerAt w s (t + 1) ≡ reached a → Halted (powerAt w s (t + 2)) (λ packing. goOn (countAt (countBytes o) s (t + 3)) (λ n. structBody w part t (t + 3 + countBytes o) a packing n)) k i → Refusal k i
+            packed a x (before y) = let u = power-found w s (t + 1) x in F.inHeader o c h (badPacking u (power-stops s (t + 2) w (omega (arith, u .at .within)) y))
             packed a x (behind p y e) = counted a p x y (halted (countAt (countBytes o) s (t + 3)) (λ n. structBody w part t (t + 3 + countBytes o) a p n) e)
 
-            aligned : Halted (powerAt s (t + 1)) (λ align. goOn (powerAt s (t + 2)) (λ packing. goOn (countAt (countBytes o) s (t + 3)) (λ n. structBody w part t (t + 3 + countBytes o) align packing n))) k i → Refusal k i
-            aligned (before x) = F.inHeader o c h (badAlign (power-stops s (t + 1) (omega (arith, h .within)) x))
-            aligned (behind a x e) = packed a x (halted (powerAt s (t + 2)) (λ packing. goOn (countAt (countBytes o) s (t + 3)) (λ n. structBody w part t (t + 3 + countBytes o) a packing n)) e)
+            aligned : Halted (powerAt w s (t + 1)) (λ align. goOn (powerAt w s (t + 2)) (λ packing. goOn (countAt (countBytes o) s (t + 3)) (λ n. structBody w part t (t + 3 + countBytes o) align packing n))) k i → Refusal k i
+            aligned (before x) = F.inHeader o c h (badAlign (power-stops s (t + 1) w (omega (arith, h .within)) x))
+            aligned (behind a x e) = packed a x (halted (powerAt w s (t + 2)) (λ packing. goOn (countAt (countBytes o) s (t + 3)) (λ n. structBody w part t (t + 3 + countBytes o) a packing n)) e)
 
         form-fault : (f : Form) → IsByte s t (tagByte f) → formAt w part s t f ≡ stopped k i → Refusal k i
         form-fault array h e = array-fault h e

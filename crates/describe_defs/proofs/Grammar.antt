@@ -106,9 +106,9 @@ module _ (w : ℕ) (target : Target) (s : List ℕ) (t : ℕ) where
   tagged-slice inside h = rw (byte-is s t h)
 
   -- a struct by its header
-  pub struct-is : (part : Reader) {c : Counted} {align packing n : ℕ} → Header s t c align packing n → structAt w part s t c ≡ structBody w part t (t + 3 + countBytes c) align packing n
+  pub struct-is : (part : Reader) {c : Counted} {align packing n : ℕ} → Header w s t c align packing n → structAt w part s t c ≡ structBody w part t (t + 3 + countBytes c) align packing n
   unfolding structAt
-  struct-is part {c} h = rw (power-is s (t + 1) (h .aligned), power-is s (t + 2) (h .packed), count-is (countBytes c) s (t + 3) (h .count))
+  struct-is part {c} h = rw (power-is w s (t + 1) (h .aligned), power-is w s (t + 2) (h .packed), count-is (countBytes c) s (t + 3) (h .count))
 
   pub array-is : (part : Reader) {j n : ℕ} {m l : Layout} → IsCount 4 s (t + 1) n → part (t + 1 + 4) ≡ reached (m, j) → arrayFor w m n ≡ answered l → arrayAt w part s t ≡ reached (l, j)
   unfolding arrayAt
@@ -161,8 +161,8 @@ module _ (w : ℕ) (target : Target) (s : List ℕ) (t : ℕ) where
     unfolding structAt
     struct-found k h e =
         let i = t + 3 + countBytes k in
-        let a = went (powerAt s (t + 1)) (λ align. goOn (powerAt s (t + 2)) (λ packing. goOn (countAt (countBytes k) s (t + 3)) (λ n. structBody w part t i align packing n))) e in
-        let b = went (powerAt s (t + 2)) (λ packing. goOn (countAt (countBytes k) s (t + 3)) (λ n. structBody w part t i (a .to) packing n)) (a .then) in
+        let a = went (powerAt w s (t + 1)) (λ align. goOn (powerAt w s (t + 2)) (λ packing. goOn (countAt (countBytes k) s (t + 3)) (λ n. structBody w part t i align packing n))) e in
+        let b = went (powerAt w s (t + 2)) (λ packing. goOn (countAt (countBytes k) s (t + 3)) (λ n. structBody w part t i (a .to) packing n)) (a .then) in
         let c = went (countAt (countBytes k) s (t + 3)) (λ n. structBody w part t i (a .to) (b .to) n) (b .then) in
         let d = went-at t (beginFor w ported (a .to) (b .to)) (λ l. goOn (addRead w part (b .to) t (c .to) l i) (closed w t)) (c .then) in
         let u = went (addRead w part (b .to) t (c .to) (d .to) i) (closed w t) (d .then) in
@@ -170,7 +170,7 @@ module _ (w : ℕ) (target : Target) (s : List ℕ) (t : ℕ) where
         let r = run-found w part Inner (b .to) t f (c .to) 0 i (u .to .1) (d .to) (u .to .0) (u .first) in
         subst (λ (y : Part). PartIs w target s Inner t (y .1) (y .0)) (reached-one (v .then))
         (aStruct {c = k}
-        (record { tag = h; aligned = power-found s (t + 1) (a .first); packed = power-found s (t + 2) (b .first); count = subst (IsCount (countBytes k) s (t + 3)) (sym (r .count)) (count-found (countBytes k) s (t + 3) (c .first)) })
+        (record { tag = h; aligned = power-found w s (t + 1) (a .first); packed = power-found w s (t + 2) (b .first); count = subst (IsCount (countBytes k) s (t + 3)) (sym (r .count)) (count-found (countBytes k) s (t + 3) (c .first)) })
         (r .run)
         (struct-made w (a .to) (b .to) (r .ms) (d .first) (r .adds) (v .first)))
 

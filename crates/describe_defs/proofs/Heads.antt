@@ -27,29 +27,29 @@ alike (reached x) f g h = h x
 alike (stopped k i) f g h = refl
 
 module _ (w : ℕ) (target : Target) (part : Reader) (s : List ℕ) (t : ℕ) where
-  form-by-head : (f : Form) → formAt w part s t f ≡ goOn (formHead s t f) (bodyAt w target part t)
+  form-by-head : (f : Form) → formAt w part s t f ≡ goOn (formHead w s t f) (bodyAt w target part t)
   unfolding arrayAt structAt sliceAt
   form-by-head array = sym (assoc (countAt 4 s (t + 1)) (λ n. reached (arrayHead n)) (bodyAt w target part t))
   form-by-head (struct c) =
-      alike (powerAt s (t + 1)) _ _ (λ a.
-      alike (powerAt s (t + 2)) _ _ (λ p. sym (assoc (countAt (countBytes c) s (t + 3)) (λ n. reached (structHead a p n (t + 3 + countBytes c))) (bodyAt w target part t)))
-      ∙ sym (assoc (powerAt s (t + 2)) (packedHead s t c a) (bodyAt w target part t)))
-      ∙ sym (assoc (powerAt s (t + 1)) (alignedHead s t c) (bodyAt w target part t))
+      alike (powerAt w s (t + 1)) _ _ (λ a.
+      alike (powerAt w s (t + 2)) _ _ (λ p. sym (assoc (countAt (countBytes c) s (t + 3)) (λ n. reached (structHead a p n (t + 3 + countBytes c))) (bodyAt w target part t)))
+      ∙ sym (assoc (powerAt w s (t + 2)) (packedHead s t c a) (bodyAt w target part t)))
+      ∙ sym (assoc (powerAt w s (t + 1)) (alignedHead w s t c) (bodyAt w target part t))
   form-by-head slice = refl
 
-  tag-by-head : (inside : Form → Placed Part) (d b : ℕ) → ((f : Form) → inside f ≡ goOn (opening d s t f) (bodyAt w target part t))
-      → (g : Tag) → tagged target t b inside g ≡ goOn (tagHead d s t b g) (bodyAt w target part t)
+  tag-by-head : (inside : Form → Placed Part) (d b : ℕ) → ((f : Form) → inside f ≡ goOn (opening w d s t f) (bodyAt w target part t))
+      → (g : Tag) → tagged target t b inside g ≡ goOn (tagHead w d s t b g) (bodyAt w target part t)
   tag-by-head inside d b h code = refl
   tag-by-head inside d b h (opens f) = h f
   tag-by-head inside d b h unknown = refl
 
-  tagged-by-head : (inside : Form → Placed Part) (d : ℕ) → ((f : Form) → inside f ≡ goOn (opening d s t f) (bodyAt w target part t))
-      → taggedAt target s t inside ≡ goOn (headAt d s t) (bodyAt w target part t)
+  tagged-by-head : (inside : Form → Placed Part) (d : ℕ) → ((f : Form) → inside f ≡ goOn (opening w d s t f) (bodyAt w target part t))
+      → taggedAt target s t inside ≡ goOn (headAt w d s t) (bodyAt w target part t)
   unfolding headAt
   tagged-by-head inside d h =
-      alike (byteAt s t) _ _ (λ b. tag-by-head inside d b h (tagOf b)) ∙ sym (assoc (byteAt s t) (λ b. tagHead d s t b (tagOf b)) (bodyAt w target part t))
+      alike (byteAt s t) _ _ (λ b. tag-by-head inside d b h (tagOf b)) ∙ sym (assoc (byteAt s t) (λ b. tagHead w d s t b (tagOf b)) (bodyAt w target part t))
 
-pub part-by-head : (w : ℕ) (target : Target) (d : ℕ) (s : List ℕ) (t : ℕ) → partFor w target d s t ≡ goOn (headAt d s t) (bodyAt w target (partFor w target (d - 1) s) t)
+pub part-by-head : (w : ℕ) (target : Target) (d : ℕ) (s : List ℕ) (t : ℕ) → partFor w target d s t ≡ goOn (headAt w d s t) (bodyAt w target (partFor w target (d - 1) s) t)
 unfolding partFor
 part-by-head w target zero s t = tagged-by-head w target (partFor w target (0 - 1) s) s t (λ f. stopped 35 t) 0 (λ f. refl)
 part-by-head w target (suc d) s t =
@@ -63,30 +63,30 @@ Room d s t (arrayHead n) = (0 < d) × (t + 5 ≤ length s)
 Room d s t (structHead align packing n i) = (0 < d) × (t < i) × (i ≤ length s)
 Room d s t sliceHead = (0 < d) × (t + 1 ≤ length s)
 
-module _ (s : List ℕ) (t : ℕ) where
-  form-room : (d : ℕ) (f : Form) (h : Head) → t < length s → formHead s t f ≡ reached h → Room (suc d) s t h
+module _ (w : ℕ) (s : List ℕ) (t : ℕ) where
+  form-room : (d : ℕ) (f : Form) (h : Head) → t < length s → formHead w s t f ≡ reached h → Room (suc d) s t h
   form-room d array h l e =
       let x = went (countAt 4 s (t + 1)) (λ n. reached (arrayHead n)) e in
       let c = count-found 4 s (t + 1) (x .first) in
       subst (Room (suc d) s t) (reached-one (x .then)) (omega arith, omega (arith, c .within))
   form-room d (struct k) h l e =
-      let x = went (powerAt s (t + 1)) (alignedHead s t k) e in
-      let y = went (powerAt s (t + 2)) (packedHead s t k (x .to)) (x .then) in
+      let x = went (powerAt w s (t + 1)) (alignedHead w s t k) e in
+      let y = went (powerAt w s (t + 2)) (packedHead s t k (x .to)) (x .then) in
       let z = went (countAt (countBytes k) s (t + 3)) (λ n. reached (structHead (x .to) (y .to) n (t + 3 + countBytes k))) (y .then) in
       let c = count-found (countBytes k) s (t + 3) (z .first) in
       subst (Room (suc d) s t) (reached-one (z .then)) (omega arith, omega arith, c .within)
   form-room d slice h l e = subst (Room (suc d) s t) (reached-one e) (omega arith, omega arith)
 
-  tag-room : (d b : ℕ) (g : Tag) (h : Head) → t < length s → TagMeans b g → tagHead d s t b g ≡ reached h → Room d s t h
+  tag-room : (d b : ℕ) (g : Tag) (h : Head) → t < length s → TagMeans b g → tagHead w d s t b g ≡ reached h → Room d s t h
   tag-room d b code h l m e = subst (Room d s t) (reached-one e) (l, m)
   tag-room zero b (opens f) h l m e = absurd (not-stopped e)
   tag-room (suc d) b (opens f) h l m e = form-room d f h l e
   tag-room d b unknown h l m e = absurd (not-stopped e)
 
-  pub head-room : (d : ℕ) {h : Head} → headAt d s t ≡ reached h → Room d s t h
+  pub head-room : (d : ℕ) {h : Head} → headAt w d s t ≡ reached h → Room d s t h
   unfolding headAt
   head-room d {h} e =
-      let x = went (byteAt s t) (λ b. tagHead d s t b (tagOf b)) e in
+      let x = went (byteAt s t) (λ b. tagHead w d s t b (tagOf b)) e in
       tag-room d (x .to) (tagOf (x .to)) h (byte-found s t (x .first) .within) (tag-means (x .to)) (x .then)
 
 -- the members by what the code tests
@@ -113,34 +113,34 @@ module _ (w : ℕ) (part : Reader) (packing t : ℕ) (l : Layout) (i : ℕ) wher
   add-none (suc n) e = absurd (omega arith)
 
 -- what reading a head means
-module _ (s : List ℕ) (t : ℕ) where
-  form-found : (d : ℕ) (f : Form) (h : Head) → IsByte s t (tagByte f) → opening d s t f ≡ reached h → HeadIs d s t h
+module _ (w : ℕ) (s : List ℕ) (t : ℕ) where
+  form-found : (d : ℕ) (f : Form) (h : Head) → IsByte s t (tagByte f) → opening w d s t f ≡ reached h → HeadIs w d s t h
   form-found zero f h b e = absurd (not-stopped e)
   form-found (suc d) array h b e =
       let x = went (countAt 4 s (t + 1)) (λ n. reached (arrayHead n)) e in
-      subst (HeadIs (suc d) s t) (reached-one (x .then)) (omega arith, (b, count-found 4 s (t + 1) (x .first)))
+      subst (HeadIs w (suc d) s t) (reached-one (x .then)) (omega arith, (b, count-found 4 s (t + 1) (x .first)))
   form-found (suc d) (struct k) h b e =
-      let x = went (powerAt s (t + 1)) (alignedHead s t k) e in
-      let y = went (powerAt s (t + 2)) (packedHead s t k (x .to)) (x .then) in
+      let x = went (powerAt w s (t + 1)) (alignedHead w s t k) e in
+      let y = went (powerAt w s (t + 2)) (packedHead s t k (x .to)) (x .then) in
       let z = went (countAt (countBytes k) s (t + 3)) (λ n. reached (structHead (x .to) (y .to) n (t + 3 + countBytes k))) (y .then) in
-      let g : Header s t k (x .to) (y .to) (z .to) = record { tag = b; aligned = power-found s (t + 1) (x .first); packed = power-found s (t + 2) (y .first); count = count-found (countBytes k) s (t + 3) (z .first) } in
-      subst (HeadIs (suc d) s t) (reached-one (z .then)) (omega arith, header k g)
-  form-found (suc d) slice h b e = subst (HeadIs (suc d) s t) (reached-one e) (omega arith, b)
+      let g : Header w s t k (x .to) (y .to) (z .to) = record { tag = b; aligned = power-found w s (t + 1) (x .first); packed = power-found w s (t + 2) (y .first); count = count-found (countBytes k) s (t + 3) (z .first) } in
+      subst (HeadIs w (suc d) s t) (reached-one (z .then)) (omega arith, header k g)
+  form-found (suc d) slice h b e = subst (HeadIs w (suc d) s t) (reached-one e) (omega arith, b)
 
-  pub head-found : (d : ℕ) (h : Head) → headAt d s t ≡ reached h → HeadIs d s t h
+  pub head-found : (d : ℕ) (h : Head) → headAt w d s t ≡ reached h → HeadIs w d s t h
   unfolding headAt
   head-found d h e =
-      let x = went (byteAt s t) (λ b. tagHead d s t b (tagOf b)) e in
+      let x = went (byteAt s t) (λ b. tagHead w d s t b (tagOf b)) e in
       go (x .to) (byte-found s t (x .first)) (tagOf (x .to)) (tag-means (x .to)) (x .then)
     where
-      go : (b : ℕ) → IsByte s t b → (g : Tag) → TagMeans b g → tagHead d s t b g ≡ reached h → HeadIs d s t h
-      go b i code m e = subst (HeadIs d s t) (reached-one e) (i, m)
+      go : (b : ℕ) → IsByte s t b → (g : Tag) → TagMeans b g → tagHead w d s t b g ≡ reached h → HeadIs w d s t h
+      go b i code m e = subst (HeadIs w d s t) (reached-one e) (i, m)
       go b i (opens array) m e = form-found d array h (subst (IsByte s t) m i) e
       go b i (opens (struct k)) m e = form-found d (struct k) h (subst (IsByte s t) m i) e
       go b i (opens slice) m e = form-found d slice h (subst (IsByte s t) m i) e
       go b i unknown m e = absurd (not-stopped e)
 
-  pub head-is : (d : ℕ) (h : Head) → HeadIs d s t h → headAt d s t ≡ reached h
+  pub head-is : (d : ℕ) (h : Head) → HeadIs w d s t h → headAt w d s t ≡ reached h
   unfolding headAt
   head-is d (codeHead b) h = rw (byte-is s t (h .0), tag-code b (h .1))
   head-is zero (arrayHead n) h = absurd (omega (arith, h .0))
@@ -148,18 +148,18 @@ module _ (s : List ℕ) (t : ℕ) where
   head-is zero (structHead a p n i) h = absurd (omega (arith, h .0))
   head-is (suc d) (structHead a p n i) h = go i (h .1)
     where
-      go : (i : ℕ) → HeaderTo s t a p n i → goOn (byteAt s t) (λ b. tagHead (suc d) s t b (tagOf b)) ≡ reached (structHead a p n i)
-      go i (header byOne g) = rw (byte-is s t (g .tag), power-is s (t + 1) (g .aligned), power-is s (t + 2) (g .packed), count-is 1 s (t + 3) (g .count))
-      go i (header byTwo g) = rw (byte-is s t (g .tag), power-is s (t + 1) (g .aligned), power-is s (t + 2) (g .packed), count-is 2 s (t + 3) (g .count))
+      go : (i : ℕ) → HeaderTo w s t a p n i → goOn (byteAt s t) (λ b. tagHead w (suc d) s t b (tagOf b)) ≡ reached (structHead a p n i)
+      go i (header byOne g) = rw (byte-is s t (g .tag), power-is w s (t + 1) (g .aligned), power-is w s (t + 2) (g .packed), count-is 1 s (t + 3) (g .count))
+      go i (header byTwo g) = rw (byte-is s t (g .tag), power-is w s (t + 1) (g .aligned), power-is w s (t + 2) (g .packed), count-is 2 s (t + 3) (g .count))
   head-is zero sliceHead h = absurd (omega (arith, h .0))
   head-is (suc d) sliceHead h = rw (byte-is s t (h .1))
 
-  pub one-head : (d : ℕ) (h g : Head) → HeadIs d s t h → HeadIs d s t g → h ≡ g
+  pub one-head : (d : ℕ) (h g : Head) → HeadIs w d s t h → HeadIs w d s t g → h ≡ g
   one-head d h g x y = reached-one (sym (head-is d h x) ∙ head-is d g y)
 
-  pub head-told : (d : ℕ) {r : Placed Head} → r ≡ headAt d s t → (r ≡ headAt d s t) × HeadMeans d s t r
+  pub head-told : (d : ℕ) {r : Placed Head} → r ≡ headAt w d s t → (r ≡ headAt w d s t) × HeadMeans w d s t r
   head-told d {r} e = (e, go r (sym e))
     where
-      go : (r : Placed Head) → headAt d s t ≡ r → HeadMeans d s t r
+      go : (r : Placed Head) → headAt w d s t ≡ r → HeadMeans w d s t r
       go (reached h) e = head-found d h e
       go (stopped k i) e = λ h g. not-stopped (sym e ∙ head-is d h g)

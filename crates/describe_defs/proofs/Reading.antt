@@ -4,8 +4,9 @@ use mathlib.Core.List.{List}
 use Prim.Native.Nat.{ℕ, zero, suc, _+_, _-_, _≤_, _<_}
 use native.Mathlib.Nat.{max-eq-right}
 use native.Mathlib.Omega.{arith}
-use borrow.Author.Tests.{le-ltb, lt-leb, ne-eqb}
+use borrow.Author.Tests.{le-ltb, lt-leb, ne-eqb, le-leb}
 use lib.ListN.{length, take, drop}
+use Rattle.util_defs.specs.Width.{M}
 use Rattle.util_defs.specs.Refusal.{Outcome, answered, refused}
 use Rattle.util_defs.specs.Placed.{Placed, reached, stopped, atPlace, goOn}
 use Rattle.layout_defs.specs.Layout.{Layout}
@@ -14,11 +15,11 @@ use Rattle.words.specs.Bytes.{valueOf}
 use Rattle.compose_defs.specs.Compose.{composed, refusedAt, andThen, ported, beginFor, memberStep, addMembers, composeMembers}
 use Rattle.compose_defs.proofs.Modifiers.{not-composed}
 use Rattle.describe_defs.specs.Elements.{arrayFor, sliceOfFor}
-use Rattle.describe_defs.specs.Describe.{Counted, structTag, countBytes, countAt, Part, Reader, Form, array, struct, slice, byteAt, powerAt}
+use Rattle.describe_defs.specs.Describe.{Counted, structTag, countBytes, countAt, Part, Reader, Form, array, struct, slice, byteAt, powerAt, powerOf}
 use Rattle.describe_defs.specs.Describe.{addRead, closed, structBody, structAt, arrayAt, sliceAt, formAt, partFor, describedFor}
 use Rattle.describe_defs.specs.Grammar.{Stands, IsByte, IsCount, Run, none, one, members, Describes}
 use Rattle.describe_defs.specs.Faults as F
-use Rattle.describe_defs.specs.Faults.{tagByte, UnknownTag, BadPower, noPower, powerAbove, BadHeader, badAlign, badPacking, noCount, ScalarsAccepted}
+use Rattle.describe_defs.specs.Faults.{tagByte, UnknownTag, BadPower, noPower, powerAbove, powerPasses, BadHeader, badAlign, badPacking, noCount, ScalarsAccepted}
 use Rattle.describe_defs.specs.Faults.{Comes, first, element, sliced, member, PartFault, PartMeans, Fault, ReadMeans}
 use Rattle.describe_defs.specs.ByHand.{byHand}
 use Rattle.describe_defs.proofs.Steps.{not-stopped, byte-is, power-is, count-is}
@@ -32,9 +33,10 @@ use Rattle.describe_defs.proofs.Faults.{trailing-refused, array-passes,
 byte-missing : (s : List ℕ) (i : ℕ) → length s ≤ i → byteAt s i ≡ stopped 33 i
 byte-missing s i h = rw (le-ltb i (length s) h)
 
-power-missing : (s : List ℕ) (i : ℕ) {k j : ℕ} → BadPower s i k j → powerAt s i ≡ stopped k j
-power-missing s i (noPower e) = rw (byte-missing s i (omega (arith, e)))
-power-missing s i (powerAbove {b = b} h g) = rw (byte-is s i h, lt-leb b 64 g)
+power-missing : (w : ℕ) (s : List ℕ) (i : ℕ) {k j : ℕ} → BadPower w s i k j → powerAt w s i ≡ stopped k j
+power-missing w s i (noPower e) = rw (byte-missing s i (omega (arith, e)))
+power-missing w s i (powerAbove {b = b} h g) = rw (byte-is s i h, lt-leb b 64 g)
+power-missing w s i (powerPasses {b = b} h m g) = rw (byte-is s i h, le-leb b 64 m, lt-leb (powerOf b) (M w) g)
 
 -- ---- members that are added, and what comes then
 module _ (w : ℕ) (part : Reader) (Inner : Stands) (packing t : ℕ) (g : Gives part Inner) where
@@ -121,13 +123,13 @@ module _ (w : ℕ) (target : Target) (s : List ℕ) where
   too-deep t (struct o) h = tagged-struct w target s t (λ f. stopped 35 t) o h
   too-deep t slice h = tagged-slice w target s t (λ f. stopped 35 t) h
 
-  header-stops : (part : Reader) (t : ℕ) (o : Counted) {k i : ℕ} → t < length s → BadHeader s t o k i → structAt w part s t o ≡ stopped k i
+  header-stops : (part : Reader) (t : ℕ) (o : Counted) {k i : ℕ} → t < length s → BadHeader w s t o k i → structAt w part s t o ≡ stopped k i
   unfolding structAt
-  header-stops part t o z (badAlign x) = rw (power-missing s (t + 1) x)
-  header-stops part t o z (badPacking h x) = rw (power-is s (t + 1) h, power-missing s (t + 2) x)
+  header-stops part t o z (badAlign x) = rw (power-missing w s (t + 1) x)
+  header-stops part t o z (badPacking h x) = rw (power-is w s (t + 1) h, power-missing w s (t + 2) x)
   header-stops part t o z (noCount h g e) =
       let x : t + 3 ≤ length s = omega (arith, g .at .within) in
-      rw (power-is s (t + 1) h, power-is s (t + 2) g, lt-leb (t + 3 + countBytes o) (length s) e, max-eq-right x)
+      rw (power-is w s (t + 1) h, power-is w s (t + 2) g, lt-leb (t + 3 + countBytes o) (length s) e, max-eq-right x)
 
   count-cut : (part : Reader) (t : ℕ) → t < length s → length s < t + 1 + 4 → arrayAt w part s t ≡ stopped 33 (length s)
   unfolding arrayAt

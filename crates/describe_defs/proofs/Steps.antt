@@ -7,10 +7,11 @@ use native.Mathlib.Omega.{arith}
 use borrow.Author.Tests.{lt-ltb, le-leb, ltb-true, leb-true, leb-false, eqb-true, eqb-false}
 use lib.Dec.{eqb, ltb, leb}
 use lib.ListN.{length, take, drop, getD}
+use Rattle.util_defs.specs.Width.{M}
 use Rattle.util_defs.specs.Refusal.{Outcome, answered, refused}
 use Rattle.util_defs.specs.Placed.{Placed, reached, stopped, atPlace, goOn}
 use Rattle.words.specs.Bytes.{valueOf}
-use Rattle.describe_defs.specs.Describe.{Counted, byOne, byTwo, structTag, array, struct, slice, Tag, code, opens, unknown, tagOf, byteAt, countAt, powerOf, powerAt}
+use Rattle.describe_defs.specs.Describe.{Counted, byOne, byTwo, structTag, array, struct, slice, Tag, code, opens, unknown, tagOf, byteAt, countAt, powerOf, powerIn, powerAt}
 use Rattle.describe_defs.specs.Grammar.{IsByte, IsCount, IsPower}
 
 -- a refusal reaches nothing
@@ -52,6 +53,10 @@ pub went-if : {T : Type 0} (b : Bool) (x y : T) (k i : ℕ) → cond b (reached 
 went-if true x y k i e = (refl, reached-one e)
 went-if false x y k i e = absurd (not-stopped e)
 
+pub passed-if : {T : Type 0} (b : Bool) (o : Placed T) (y : T) (k i : ℕ) → cond b o (stopped k i) ≡ reached y → (b ≡ true) × (o ≡ reached y)
+passed-if true o y k i e = (refl, e)
+passed-if false o y k i e = absurd (not-stopped e)
+
 -- the byte, the power and the count at a place
 pub byte-found : (s : List ℕ) (i : ℕ) {b : ℕ} → byteAt s i ≡ reached b → IsByte s i b
 byte-found s i {b} e =
@@ -61,14 +66,16 @@ byte-found s i {b} e =
 pub byte-is : (s : List ℕ) (i : ℕ) {b : ℕ} → IsByte s i b → byteAt s i ≡ reached b
 byte-is s i h = rw (lt-ltb i (length s) (h .within), h .is)
 
-pub power-found : (s : List ℕ) (i : ℕ) {a : ℕ} → powerAt s i ≡ reached a → IsPower s i a
-power-found s i {a} e =
-    let x = went (byteAt s i) (λ b. cond (leb b 64) (reached (powerOf b)) (stopped 34 i)) e in
-    let y = went-if (leb (x .to) 64) (powerOf (x .to)) a 34 i (x .then) in
-    record { byte = x .to; at = byte-found s i (x .first); most = leb-true (x .to) 64 (y .0); is = sym (y .1) }
+pub power-found : (w : ℕ) (s : List ℕ) (i : ℕ) {a : ℕ} → powerAt w s i ≡ reached a → IsPower w s i a
+power-found w s i {a} e =
+    let x = went (byteAt s i) (powerIn w i) e in
+    let b = x .to in
+    let y = passed-if (leb b 64) (cond (leb (powerOf b) (M w)) (reached (powerOf b)) (stopped 43 i)) a 34 i (x .then) in
+    let z = went-if (leb (powerOf b) (M w)) (powerOf b) a 43 i (y .1) in
+    record { byte = b; at = byte-found s i (x .first); most = leb-true b 64 (y .0); fits = leb-true (powerOf b) (M w) (z .0); is = sym (z .1) }
 
-pub power-is : (s : List ℕ) (i : ℕ) {a : ℕ} → IsPower s i a → powerAt s i ≡ reached a
-power-is s i h = rw (byte-is s i (h .at), le-leb (h .byte) 64 (h .most), h .is)
+pub power-is : (w : ℕ) (s : List ℕ) (i : ℕ) {a : ℕ} → IsPower w s i a → powerAt w s i ≡ reached a
+power-is w s i h = rw (byte-is s i (h .at), le-leb (h .byte) 64 (h .most), le-leb (powerOf (h .byte)) (M w) (h .fits), h .is)
 
 pub count-found : (k : ℕ) (s : List ℕ) (i : ℕ) {n : ℕ} → countAt k s i ≡ reached n → IsCount k s i n
 count-found k s i {n} e =

@@ -3,6 +3,7 @@ use mathlib.Core.Path.{_≡_}
 use mathlib.Core.List.{List, [], _∷_, _++_, map}
 use Prim.Native.Nat.{ℕ, suc, _+_, _%_, _≤_}
 use lib.ListN.{length}
+use Rattle.util_defs.specs.Width.{M}
 use Rattle.util_defs.specs.Placed.{Placed, reached, stopped}
 use Rattle.layout_defs.specs.Layout.{Layout}
 use Rattle.scalar.specs.Scalar.{Target, greatestCode, scalarLayout}
@@ -23,14 +24,14 @@ byHand t j (refusedAt k place) = stopped k t
 -- a struct whose members are read is the composition of their layouts
 abbrev pub AsByHand : ℕ → Target → List ℕ → Type 0
 AsByHand w target s =
-    (d t j align packing : ℕ) (c : Counted) (ms : List Layout) → Header s t c align packing (length ms)
+    (d t j align packing : ℕ) (c : Counted) (ms : List Layout) → Header w s t c align packing (length ms)
     → Run (Describes w target d s) (t + 3 + countBytes c) j ms
     → partFor w target (suc d) s t ≡ byHand t j (composeStruct w ported align packing (members ms))
 
 -- and `for_repr_c_struct` of a list of records that has these layouts
 abbrev pub AsByRecords : ℕ → Target → List ℕ → Type 0
 AsByRecords w target s =
-    (d t j align packing : ℕ) (c : Counted) (ms : List Layout) (records : List ℕ) → Header s t c align packing (length ms)
+    (d t j align packing : ℕ) (c : Counted) (ms : List Layout) (records : List ℕ) → Header w s t c align packing (length ms)
     → Run (Describes w target d s) (t + 3 + countBytes c) j ms → length records % recordLength ≡ 0
     → listed w records ≡ members ms
     → partFor w target (suc d) s t ≡ byHand t j (structFor w ported align packing records)
@@ -53,9 +54,9 @@ abbrev pub wholeByHand : Composed → Placed Layout
 wholeByHand (composed l) = reached l
 wholeByHand (refusedAt k place) = stopped k 0
 
--- it reads as `for_repr_c_struct` of the scalars' records
+-- it reads as `for_repr_c_struct` of the scalars' records, where alignment and packing fit the width
 abbrev pub AsScalars : ℕ → Target → Type 0
 AsScalars w target =
-    (a p : ℕ) (cs : List ℕ) → a ≤ 1 + greatestPower → p ≤ 1 + greatestPower → Codes cs
+    (a p : ℕ) (cs : List ℕ) → a ≤ 1 + greatestPower → p ≤ 1 + greatestPower → powerOf a ≤ M w → powerOf p ≤ M w → Codes cs
     → describedFor w target (ofCodes a p cs)
     ≡ wholeByHand (structFor w ported (powerOf a) (powerOf p) (recordsOf (map (scalarLayout target) cs)))

@@ -1,10 +1,11 @@
--- Nested type descriptions (document 02, requests 4 and 8): what reading one gives, the first refusal that is met with its place,
--- in the order of reading. Assumes nothing.
+-- Nested type descriptions (document 02, requests 4, 7 and 8): what reading one gives, the first refusal that is met with its
+-- place, in the order of reading. Assumes nothing.
 use mathlib.Core.Bool.{cond}
 use mathlib.Core.List.{List}
 use Prim.Native.Nat.{ℕ, zero, suc, _+_, _-_, _^_, max}
 use lib.Dec.{eqb, ltb, leb}
 use lib.ListN.{length, take, drop, getD}
+use Rattle.util_defs.specs.Width.{M}
 use Rattle.util_defs.specs.Refusal.{answered}
 use Rattle.util_defs.specs.Placed.{Placed, reached, stopped, atPlace, goOn}
 use Rattle.layout_defs.specs.Layout.{Layout}
@@ -68,15 +69,20 @@ countLength = 4
 abbrev pub countAt : ℕ → List ℕ → ℕ → Placed ℕ
 countAt k s i = cond (leb (i + k) (length s)) (reached (valueOf (take k (drop i s)))) (stopped 33 (max i (length s)))
 
--- an alignment or a packing as one byte: 0 none, else 1 + the power; 34 for a power above the greatest
+-- an alignment or a packing as one byte: 0 none, else 1 + the power; 34 for a power above the greatest, 43 where the number does
+-- not fit the width
 abbrev pub greatestPower : ℕ
 greatestPower = 63
 
 abbrev pub powerOf : ℕ → ℕ
 powerOf b = cond (eqb b 0) 0 (2 ^ (b - 1))
 
-abbrev pub powerAt : List ℕ → ℕ → Placed ℕ
-powerAt s i = goOn (byteAt s i) (λ b. cond (leb b (1 + greatestPower)) (reached (powerOf b)) (stopped 34 i))
+abbrev pub powerIn : ℕ → ℕ → ℕ → Placed ℕ
+powerIn w i b =
+    cond (leb b (1 + greatestPower)) (cond (leb (powerOf b) (M w)) (reached (powerOf b)) (stopped 43 i)) (stopped 34 i)
+
+abbrev pub powerAt : ℕ → List ℕ → ℕ → Placed ℕ
+powerAt w s i = goOn (byteAt s i) (powerIn w i)
 
 -- n members at the end of a layout: each read whole, then added by the step of a composition, whose refusal stands at the tag t
 unfoldable pub addRead : ℕ → Reader → ℕ → ℕ → ℕ → Layout → ℕ → Placed Part
@@ -94,8 +100,8 @@ structBody w part t i align packing n =
 
 unfoldable pub structAt : ℕ → Reader → List ℕ → ℕ → Counted → Placed Part
 structAt w part s t c =
-    goOn (powerAt s (t + 1)) (λ align.
-    goOn (powerAt s (t + 2)) (λ packing.
+    goOn (powerAt w s (t + 1)) (λ align.
+    goOn (powerAt w s (t + 2)) (λ packing.
     goOn (countAt (countBytes c) s (t + 3)) (λ n.
     structBody w part t (t + 3 + countBytes c) align packing n)))
 

@@ -1,4 +1,4 @@
--- Why bytes are refused as a description, and at which place (document 02, requests 4 and 8): the fault that reading comes to.
+-- Why bytes are refused as a description, and at which place (document 02, requests 4, 7 and 8): the fault that reading comes to.
 -- Assumes nothing.
 use mathlib.Core.Path.{_≡_}
 use mathlib.Core.List.{List}
@@ -13,7 +13,7 @@ use Rattle.scalar.specs.Scalar.{Target, greatestCode, scalarLayout}
 use Rattle.compose_defs.specs.Compose.{composed, refusedAt, ported, composeMembers, composeStruct}
 use Rattle.describe_defs.specs.Elements.{elementSize}
 use Rattle.describe_defs.specs.Describe.{Part, Counted, structTag, countBytes, Form, array, struct, slice, countLength}
-use Rattle.describe_defs.specs.Describe.{greatestPower, greatestDepth}
+use Rattle.describe_defs.specs.Describe.{greatestPower, powerOf, greatestDepth}
 use Rattle.describe_defs.specs.Grammar.{IsByte, IsPower, IsCount, Run, members, Header, Describes, Description}
 
 -- the tags that open a part; a byte that is none of them and no scalar's code
@@ -25,17 +25,18 @@ tagByte slice = 18
 abbrev pub UnknownTag : ℕ → Type 0
 UnknownTag b = (greatestCode < b) × ((f : Form) → b ≡ tagByte f → ⊥)
 
--- no alignment or packing at i: the byte is missing, or its power is above the greatest
-pub data BadPower (s : List ℕ) (i : ℕ) : ℕ → ℕ → Type 0 where
-  noPower : i ≡ length s → BadPower s i 33 i
-  powerAbove : {b : ℕ} → IsByte s i b → 1 + greatestPower < b → BadPower s i 34 i
+-- no alignment or packing at i: the byte is missing, its power is above the greatest, or the number does not fit the width
+pub data BadPower (w : ℕ) (s : List ℕ) (i : ℕ) : ℕ → ℕ → Type 0 where
+  noPower : i ≡ length s → BadPower w s i 33 i
+  powerAbove : {b : ℕ} → IsByte s i b → 1 + greatestPower < b → BadPower w s i 34 i
+  powerPasses : {b : ℕ} → IsByte s i b → b ≤ 1 + greatestPower → M w < powerOf b → BadPower w s i 43 i
 
 -- no header of a struct at t: its bytes are judged one by one
-pub data BadHeader (s : List ℕ) (t : ℕ) (c : Counted) : ℕ → ℕ → Type 0 where
-  badAlign : {k i : ℕ} → BadPower s (t + 1) k i → BadHeader s t c k i
-  badPacking : {align k i : ℕ} → IsPower s (t + 1) align → BadPower s (t + 2) k i → BadHeader s t c k i
-  noCount : {align packing : ℕ} → IsPower s (t + 1) align → IsPower s (t + 2) packing → length s < t + 3 + countBytes c
-      → BadHeader s t c 33 (length s)
+pub data BadHeader (w : ℕ) (s : List ℕ) (t : ℕ) (c : Counted) : ℕ → ℕ → Type 0 where
+  badAlign : {k i : ℕ} → BadPower w s (t + 1) k i → BadHeader w s t c k i
+  badPacking : {align k i : ℕ} → IsPower w s (t + 1) align → BadPower w s (t + 2) k i → BadHeader w s t c k i
+  noCount : {align packing : ℕ} → IsPower w s (t + 1) align → IsPower w s (t + 2) packing → length s < t + 3 + countBytes c
+      → BadHeader w s t c 33 (length s)
 
 -- the scalars of the target are layouts at the width
 abbrev pub ScalarsAccepted : ℕ → Target → Type 0
@@ -56,7 +57,7 @@ module _ (w : ℕ) (target : Target) (s : List ℕ) where
 
   -- the first members of a struct at t, as many as were read
   pub record MembersOf (d t : ℕ) (c : Counted) (align packing n j : ℕ) (ms : List Layout) : Type 0 where
-    pub header : Header s t c align packing n
+    pub header : Header w s t c align packing n
     pub run : Run (Describes w target d s) (t + 3 + countBytes c) j ms
 
   -- a part at a place is read, with so many more that may be open
@@ -71,14 +72,14 @@ module _ (w : ℕ) (target : Target) (s : List ℕ) where
           → composeMembers w ported align packing (members ms) ≡ composed l → Comes d j
 
     -- a refusal and its place. 33: bytes run out, at the first that is missing. 34: a tag is unknown, or a power above the
-    -- greatest. 35: a tag opens one part too many. 36: an element is trailing. 37: an array's size passes M. What refuses to
-    -- compose a struct, of the members so far, or of all of them with closing padding
+    -- greatest. 35: a tag opens one part too many. 36: an element is trailing. 37: an array's size passes M. 43: a power does not
+    -- fit the width. What refuses to compose a struct, of the members so far, or of all of them with closing padding
     pub data PartFault : ℕ → ℕ → Type 0 where
       noTag : {d t : ℕ} → Comes d t → length s ≤ t → PartFault 33 t
       unknownTag : {d t b : ℕ} → Comes d t → IsByte s t b → UnknownTag b → PartFault 34 t
       tooDeep : {t : ℕ} → Comes zero t → (f : Form) → IsByte s t (tagByte f) → PartFault 35 t
       countCut : {d t : ℕ} → Comes (suc d) t → IsByte s t 16 → length s < t + 1 + countLength → PartFault 33 (length s)
-      inHeader : {d t k i : ℕ} (c : Counted) → Comes (suc d) t → IsByte s t (structTag c) → BadHeader s t c k i → PartFault k i
+      inHeader : {d t k i : ℕ} (c : Counted) → Comes (suc d) t → IsByte s t (structTag c) → BadHeader w s t c k i → PartFault k i
       arrayOfTrailing : {d t n : ℕ} {m : Layout} → Comes (suc d) t → ArrayOf d t n m → IsTrailing (m .info) → PartFault 36 t
       sliceOfTrailing : {d t : ℕ} {m : Layout} → Comes (suc d) t → SliceOf d t m → IsTrailing (m .info) → PartFault 36 t
       arrayPasses : {d t n : ℕ} {m : Layout} → Comes (suc d) t → ArrayOf d t n m → M w < elementSize m * n → PartFault 37 t

@@ -1,9 +1,10 @@
--- The grammar of type descriptions (document 02, requests 4 and 8), without refusals: which bytes describe a type, and which
+-- The grammar of type descriptions (document 02, requests 4, 7 and 8), without refusals: which bytes describe a type, and which
 -- layout it has. Assumes nothing.
 use mathlib.Core.Path.{_≡_}
 use mathlib.Core.List.{List, [], _∷_, map}
 use Prim.Native.Nat.{ℕ, zero, suc, _+_, _≤_, _<_}
 use lib.ListN.{length, take, drop, getD}
+use Rattle.util_defs.specs.Width.{M}
 use Rattle.util_defs.specs.Refusal.{answered}
 use Rattle.layout_defs.specs.Layout.{Layout}
 use Rattle.scalar.specs.Scalar.{Target, greatestCode, scalarLayout}
@@ -21,11 +22,12 @@ pub record IsByte (s : List ℕ) (i b : ℕ) : Type 0 where
   pub within : i < length s
   pub is : getD s i 0 ≡ b
 
--- the byte at i stands for an alignment or a packing: 0 none, else 1 + the power
-pub record IsPower (s : List ℕ) (i a : ℕ) : Type 0 where
+-- the byte at i stands for an alignment or a packing that fits the width: 0 none, else 1 + the power
+pub record IsPower (w : ℕ) (s : List ℕ) (i a : ℕ) : Type 0 where
   pub byte : ℕ
   pub at : IsByte s i byte
   pub most : byte ≤ 1 + greatestPower
+  pub fits : powerOf byte ≤ M w
   pub is : a ≡ powerOf byte
 
 -- n is the little-endian count of k bytes at i
@@ -43,10 +45,10 @@ abbrev pub members : List Layout → List Member
 members ms = map answered ms
 
 -- the header of a struct at t: the tag 17 or 19, alignment and packing, and the member count
-pub record Header (s : List ℕ) (t : ℕ) (c : Counted) (align packing n : ℕ) : Type 0 where
+pub record Header (w : ℕ) (s : List ℕ) (t : ℕ) (c : Counted) (align packing n : ℕ) : Type 0 where
   pub tag : IsByte s t (structTag c)
-  pub aligned : IsPower s (t + 1) align
-  pub packed : IsPower s (t + 2) packing
+  pub aligned : IsPower w s (t + 1) align
+  pub packed : IsPower w s (t + 2) packing
   pub count : IsCount (countBytes c) s (t + 3) n
 
 -- a scalar: its code
@@ -59,7 +61,7 @@ pub data PartIs (w : ℕ) (target : Target) (s : List ℕ) (Inner : Stands) : �
   aScalar : {t j : ℕ} {l : Layout} → ScalarIs target s t j l → PartIs w target s Inner t j l
   anArray : {t j n : ℕ} {m l : Layout} → IsByte s t 16 → IsCount countLength s (t + 1) n → Inner (t + 1 + countLength) j m
       → arrayFor w m n ≡ answered l → PartIs w target s Inner t j l
-  aStruct : {t j align packing : ℕ} {c : Counted} {ms : List Layout} {l : Layout} → Header s t c align packing (length ms)
+  aStruct : {t j align packing : ℕ} {c : Counted} {ms : List Layout} {l : Layout} → Header w s t c align packing (length ms)
       → Run Inner (t + 3 + countBytes c) j ms → composeStruct w ported align packing (members ms) ≡ composed l
       → PartIs w target s Inner t j l
   aSlice : {t j : ℕ} {m l : Layout} → IsByte s t 18 → Inner (t + 1) j m → sliceOfFor w m ≡ answered l

@@ -23,26 +23,26 @@ abbrev pub packedHead : List ℕ → ℕ → Counted → ℕ → ℕ → Placed 
 packedHead s t c align packing =
     goOn (countAt (countBytes c) s (t + 3)) (λ n. reached (structHead align packing n (t + 3 + countBytes c)))
 
-abbrev pub alignedHead : List ℕ → ℕ → Counted → ℕ → Placed Head
-alignedHead s t c align = goOn (powerAt s (t + 2)) (packedHead s t c align)
+abbrev pub alignedHead : ℕ → List ℕ → ℕ → Counted → ℕ → Placed Head
+alignedHead w s t c align = goOn (powerAt w s (t + 2)) (packedHead s t c align)
 
-abbrev pub formHead : List ℕ → ℕ → Form → Placed Head
-formHead s t array = goOn (countAt countLength s (t + 1)) (λ n. reached (arrayHead n))
-formHead s t (struct c) = goOn (powerAt s (t + 1)) (alignedHead s t c)
-formHead s t slice = reached sliceHead
+abbrev pub formHead : ℕ → List ℕ → ℕ → Form → Placed Head
+formHead w s t array = goOn (countAt countLength s (t + 1)) (λ n. reached (arrayHead n))
+formHead w s t (struct c) = goOn (powerAt w s (t + 1)) (alignedHead w s t c)
+formHead w s t slice = reached sliceHead
 
 -- with so many parts more that may be open
-abbrev pub opening : ℕ → List ℕ → ℕ → Form → Placed Head
-opening zero s t f = stopped 35 t
-opening (suc d) s t f = formHead s t f
+abbrev pub opening : ℕ → ℕ → List ℕ → ℕ → Form → Placed Head
+opening w zero s t f = stopped 35 t
+opening w (suc d) s t f = formHead w s t f
 
-abbrev pub tagHead : ℕ → List ℕ → ℕ → ℕ → Tag → Placed Head
-tagHead d s t b code = reached (codeHead b)
-tagHead d s t b (opens f) = opening d s t f
-tagHead d s t b unknown = stopped 34 t
+abbrev pub tagHead : ℕ → ℕ → List ℕ → ℕ → ℕ → Tag → Placed Head
+tagHead w d s t b code = reached (codeHead b)
+tagHead w d s t b (opens f) = opening w d s t f
+tagHead w d s t b unknown = stopped 34 t
 
-unfoldable pub headAt : ℕ → List ℕ → ℕ → Placed Head
-headAt d s t = goOn (byteAt s t) (λ b. tagHead d s t b (tagOf b))
+unfoldable pub headAt : ℕ → ℕ → List ℕ → ℕ → Placed Head
+headAt w d s t = goOn (byteAt s t) (λ b. tagHead w d s t b (tagOf b))
 
 -- a part of which some step makes another layout
 abbrev pub made : ℕ → (Layout → Outcome Layout) → Part → Placed Part
@@ -56,16 +56,16 @@ bodyAt w target part t (structHead align packing n i) = structBody w part t i al
 bodyAt w target part t sliceHead = goOn (part (t + 1)) (made t (sliceOfFor w))
 
 -- a struct's header at t, behind which its members stand from i on
-pub data HeaderTo (s : List ℕ) (t align packing n : ℕ) : ℕ → Type 0 where
-  header : (c : Counted) → Header s t c align packing n → HeaderTo s t align packing n (t + 3 + countBytes c)
+pub data HeaderTo (w : ℕ) (s : List ℕ) (t align packing n : ℕ) : ℕ → Type 0 where
+  header : (c : Counted) → Header w s t c align packing n → HeaderTo w s t align packing n (t + 3 + countBytes c)
 
 -- what reading a head means: it stands at t, and a part may be opened there; a refusal, that none does
-abbrev pub HeadIs : ℕ → List ℕ → ℕ → Head → Type 0
-HeadIs d s t (codeHead b) = IsByte s t b × (b ≤ greatestCode)
-HeadIs d s t (arrayHead n) = (0 < d) × (IsByte s t 16 × IsCount countLength s (t + 1) n)
-HeadIs d s t (structHead align packing n i) = (0 < d) × HeaderTo s t align packing n i
-HeadIs d s t sliceHead = (0 < d) × IsByte s t 18
+abbrev pub HeadIs : ℕ → ℕ → List ℕ → ℕ → Head → Type 0
+HeadIs w d s t (codeHead b) = IsByte s t b × (b ≤ greatestCode)
+HeadIs w d s t (arrayHead n) = (0 < d) × (IsByte s t 16 × IsCount countLength s (t + 1) n)
+HeadIs w d s t (structHead align packing n i) = (0 < d) × HeaderTo w s t align packing n i
+HeadIs w d s t sliceHead = (0 < d) × IsByte s t 18
 
-abbrev pub HeadMeans : ℕ → List ℕ → ℕ → Placed Head → Type 0
-HeadMeans d s t (reached h) = HeadIs d s t h
-HeadMeans d s t (stopped k i) = (h : Head) → HeadIs d s t h → ⊥
+abbrev pub HeadMeans : ℕ → ℕ → List ℕ → ℕ → Placed Head → Type 0
+HeadMeans w d s t (reached h) = HeadIs w d s t h
+HeadMeans w d s t (stopped k i) = (h : Head) → HeadIs w d s t h → ⊥

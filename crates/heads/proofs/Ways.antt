@@ -3,12 +3,14 @@ use mathlib.Core.Path.{_≡_, refl, sym, ap, _∙_}
 use mathlib.Core.Bool.{Bool, true, false}
 use mathlib.Core.List.{List}
 use Prim.Native.Nat.{ℕ, zero, suc, _+_, _-_, _*_, _%_, _^_, _≤_, _<_, max}
-use native.Mathlib.Nat.{pow-le-pow-right, mod-eq-of-lt, max-eq-left, max-eq-right}
+use native.Mathlib.Nat.{pow-le-pow-right, mod-eq-of-lt, max-eq-left, max-eq-right, two-pow-succ}
 use native.Mathlib.Omega.{arith}
 use borrow.Author.Tests.{lt-ltb, le-ltb, le-leb, lt-leb, eq-eqb, ne-eqb, eqb-true, eqb-false}
 use lib.Dec.{eqb}
+use lib.Pow.{pow-pos}
 use lib.ListN.{length, take, drop, getD}
 use lib.Seq.{drop-cons}
+use Rattle.util_defs.specs.Width.{M}
 use Rattle.util_defs.specs.Placed.{Placed, reached, stopped, goOn}
 use Rattle.words.specs.Bytes.{valueOf}
 use Rattle.words.proofs.LittleEndian.{value-parts}
@@ -66,73 +68,81 @@ module _ (s : List ℕ) (i : ℕ) where
       → reached (m + 256 * n) ≡ countAt (countBytes (counted b)) s i
   members-two e h f g = rw e (count-whole 2 s i h (joined-two s i h f g))
 
-module _ (s : List ℕ) (i : ℕ) where
-  pub power-cut : length s ≤ i → stopped 33 i ≡ powerAt s i
+module _ (w : ℕ) (s : List ℕ) (i : ℕ) where
+  pub power-cut : length s ≤ i → stopped 33 i ≡ powerAt w s i
   power-cut h = sym (rw (le-ltb i (length s) h))
 
-  pub power-above : i < length s → 64 < getD s i 0 → stopped 34 i ≡ powerAt s i
+  pub power-above : i < length s → 64 < getD s i 0 → stopped 34 i ≡ powerAt w s i
   power-above h g = sym (rw (lt-ltb i (length s) h, lt-leb (getD s i 0) 64 g))
 
-  pub power-none : i < length s → getD s i 0 ≡ 0 → reached 0 ≡ powerAt s i
-  power-none h e = sym (rw (lt-ltb i (length s) h, e))
+  -- 2 to the power is held where the byte is at most the number of bits
+  pub power-passes : i < length s → getD s i 0 ≤ 64 → w < getD s i 0 → stopped 43 i ≡ powerAt w s i
+  power-passes h g f =
+      let m : 2 ^ w ≤ 2 ^ (getD s i 0 - 1) = pow-le-pow-right (omega arith) (omega arith) in
+      sym (rw (lt-ltb i (length s) h, le-leb (getD s i 0) 64 g, ne-eqb (getD s i 0) 0 (λ e. omega (arith, e, f)), lt-leb (2 ^ (getD s i 0 - 1)) (M w) (omega (arith, pow-pos w))))
+
+  pub power-none : i < length s → getD s i 0 ≡ 0 → reached 0 ≡ powerAt w s i
+  power-none h e = sym (rw (lt-ltb i (length s) h, e, le-leb 0 (M w) (omega arith)))
 
   shifted : (p : ℕ) → p ≤ 63 → 1 * 2 ^ p % 2 ^ 64 ≡ 2 ^ p
   shifted p h = let b : 2 ^ p ≤ 2 ^ 63 = pow-le-pow-right (omega arith) h in omega arith
 
-  pub power-some : i < length s → getD s i 0 ≤ 64 → (getD s i 0 ≡ 0 → ⊥) → reached (1 * 2 ^ (getD s i 0 - 1) % 2 ^ 64) ≡ powerAt s i
-  power-some h g f =
-      ap reached (shifted (getD s i 0 - 1) (omega arith)) ∙ sym (rw (lt-ltb i (length s) h, le-leb (getD s i 0) 64 g, ne-eqb (getD s i 0) 0 f))
+  pub power-some : i < length s → getD s i 0 ≤ 64 → getD s i 0 ≤ w → (getD s i 0 ≡ 0 → ⊥) → reached (1 * 2 ^ (getD s i 0 - 1) % 2 ^ 64) ≡ powerAt w s i
+  power-some h g k f =
+      let m : 2 ^ suc (getD s i 0 - 1) ≤ 2 ^ w = pow-le-pow-right (omega arith) (omega arith) in
+      ap reached (shifted (getD s i 0 - 1) (omega arith))
+      ∙ sym (rw (lt-ltb i (length s) h, le-leb (getD s i 0) 64 g, ne-eqb (getD s i 0) 0 f, le-leb (2 ^ (getD s i 0 - 1)) (M w) (omega (arith, m, pow-pos (getD s i 0 - 1), two-pow-succ (getD s i 0 - 1)))))
 
 -- the head by its tag
-module _ (d : ℕ) (s : List ℕ) (t : ℕ) where
-  pub head-cut : length s ≤ t → stopped 33 t ≡ headAt d s t
+module _ (w d : ℕ) (s : List ℕ) (t : ℕ) where
+  pub head-cut : length s ≤ t → stopped 33 t ≡ headAt w d s t
   unfolding headAt
   head-cut h = sym (rw (le-ltb t (length s) h))
 
-  pub head-code : {b : ℕ} → t < length s → getD s t 0 ≤ 8 → b ≡ getD s t 0 → reached (codeHead b) ≡ headAt d s t
+  pub head-code : {b : ℕ} → t < length s → getD s t 0 ≤ 8 → b ≡ getD s t 0 → reached (codeHead b) ≡ headAt w d s t
   unfolding headAt
   head-code h g e = sym (rw (lt-ltb t (length s) h, le-leb (getD s t 0) 8 g, e))
 
-  pub head-unknown : t < length s → 8 < getD s t 0 → (getD s t 0 ≡ 16 → ⊥) → (getD s t 0 ≡ 17 → ⊥) → (getD s t 0 ≡ 18 → ⊥) → (getD s t 0 ≡ 19 → ⊥) → stopped 34 t ≡ headAt d s t
+  pub head-unknown : t < length s → 8 < getD s t 0 → (getD s t 0 ≡ 16 → ⊥) → (getD s t 0 ≡ 17 → ⊥) → (getD s t 0 ≡ 18 → ⊥) → (getD s t 0 ≡ 19 → ⊥) → stopped 34 t ≡ headAt w d s t
   unfolding headAt
   head-unknown h g a b c e =
       sym (rw (lt-ltb t (length s) h, lt-leb (getD s t 0) 8 g, ne-eqb (getD s t 0) 16 a, ne-eqb (getD s t 0) 17 b, ne-eqb (getD s t 0) 18 c, ne-eqb (getD s t 0) 19 e))
 
   -- one that opens a part
-  pub head-array : t < length s → getD s t 0 ≡ 16 → headAt d s t ≡ opening d s t array
+  pub head-array : t < length s → getD s t 0 ≡ 16 → headAt w d s t ≡ opening w d s t array
   unfolding headAt
   head-array h e = rw (lt-ltb t (length s) h, e)
 
-  pub head-struct : (c : Counted) → t < length s → getD s t 0 ≡ structTag c → headAt d s t ≡ opening d s t (struct c)
+  pub head-struct : (c : Counted) → t < length s → getD s t 0 ≡ structTag c → headAt w d s t ≡ opening w d s t (struct c)
   unfolding headAt
   head-struct byOne h e = rw (lt-ltb t (length s) h, e)
   head-struct byTwo h e = rw (lt-ltb t (length s) h, e)
 
-  pub head-slice : t < length s → getD s t 0 ≡ 18 → headAt d s t ≡ opening d s t slice
+  pub head-slice : t < length s → getD s t 0 ≡ 18 → headAt w d s t ≡ opening w d s t slice
   unfolding headAt
   head-slice h e = rw (lt-ltb t (length s) h, e)
 
-  pub opened : (f : Form) → (d ≡ 0 → ⊥) → opening d s t f ≡ formHead s t f
+  pub opened : (f : Form) → (d ≡ 0 → ⊥) → opening w d s t f ≡ formHead w s t f
   opened = open-by d
     where
-      open-by : (e : ℕ) (f : Form) → (e ≡ 0 → ⊥) → opening e s t f ≡ formHead s t f
+      open-by : (e : ℕ) (f : Form) → (e ≡ 0 → ⊥) → opening w e s t f ≡ formHead w s t f
       open-by zero f n = absurd (n refl)
       open-by (suc e) f n = refl
 
   -- a tag of neither an array nor a slice is a struct's
   pub head-struct-by : t < length s → 16 ≤ getD s t 0 → getD s t 0 ≤ 19 → (getD s t 0 ≡ 16 → ⊥) → (getD s t 0 ≡ 18 → ⊥) → (d ≡ 0 → ⊥)
-      → formHead s t (struct (counted (eqb (getD s t 0) 19))) ≡ headAt d s t
+      → formHead w s t (struct (counted (eqb (getD s t 0) 19))) ≡ headAt w d s t
   head-struct-by h a b c e f = go (eqb (getD s t 0) 19) refl
     where
-      go : (p : Bool) → eqb (getD s t 0) 19 ≡ p → formHead s t (struct (counted p)) ≡ headAt d s t
+      go : (p : Bool) → eqb (getD s t 0) 19 ≡ p → formHead w s t (struct (counted p)) ≡ headAt w d s t
       go true g = sym (head-struct byTwo h (eqb-true (getD s t 0) 19 g) ∙ opened (struct byTwo) f)
       go false g = let x = eqb-false (getD s t 0) 19 g in sym (head-struct byOne h (omega arith) ∙ opened (struct byOne) f)
 
-  pub head-deep : t < length s → 16 ≤ getD s t 0 → getD s t 0 ≤ 19 → d ≡ 0 → stopped 35 t ≡ headAt d s t
+  pub head-deep : t < length s → 16 ≤ getD s t 0 → getD s t 0 ≤ 19 → d ≡ 0 → stopped 35 t ≡ headAt w d s t
   unfolding headAt
   head-deep h a b e = sym (rw (lt-ltb t (length s) h) (go d e (tagOf (getD s t 0)) (tag-means (getD s t 0))))
     where
-      go : (n : ℕ) → n ≡ 0 → (g : Tag) → TagMeans (getD s t 0) g → tagHead n s t (getD s t 0) g ≡ stopped 35 t
+      go : (n : ℕ) → n ≡ 0 → (g : Tag) → TagMeans (getD s t 0) g → tagHead w n s t (getD s t 0) g ≡ stopped 35 t
       go zero e code m = absurd (omega (arith, a, m))
       go zero e (opens f) m = refl
       go zero e unknown m = absurd (omega (arith, a, b, m .1 .0, m .1 .1 .0, m .1 .1 .1 .0, m .1 .1 .1 .1))

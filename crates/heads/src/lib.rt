@@ -1,10 +1,12 @@
-// The heads of the parts of a description: a tag, and what stands between that and the parts in it.
+// The heads of the parts of a description: a tag, and what stands between that and the parts in it. Of words of so many bits: an
+// alignment or a packing that they do not hold is refused.
 ghost use mathlib.Core.Path.{_≡_};
 ghost use Prim.Native.Nat.{_+_, _≤_, _<_};
 ghost use lib.ListN.{length, take, drop};
+ghost use Rattle.util_defs.specs.Placed.{reached, goOn};
 ghost use Rattle.words.specs.Bytes.{valueOf};
-ghost use Rattle.describe_defs.specs.Describe.{countBytes, array, struct, countLength, countAt, powerAt};
-ghost use Rattle.describe_defs.specs.Heads.{packedHead, alignedHead, formHead, headAt, HeadMeans};
+ghost use Rattle.describe_defs.specs.Describe.{countBytes, struct, countLength, countAt, powerAt};
+ghost use Rattle.describe_defs.specs.Heads.{packedHead, alignedHead, arrayHead, formHead, headAt, HeadMeans};
 ghost use Rattle.heads.specs.View.{counted, numberRead, headSays};
 use util::refusal;
 
@@ -116,8 +118,8 @@ fn read_members(s: &[u8], at: usize, long: bool) -> NumberAnswer
 }
 
 // An alignment or a packing: 0 for none, else 1 + the power.
-fn read_power(s: &[u8], at: usize) -> NumberAnswer
-    ensures { λ r. ⌜ numberRead r ≡ powerAt (now (s .entry)) at ⌝ }
+fn read_power(bits: u8, s: &[u8], at: usize) -> NumberAnswer
+    ensures { λ r. ⌜ numberRead r ≡ powerAt bits (now (s .entry)) at ⌝ }
 {
     if s.len() <= at {
         return NumberAnswer::Refused {
@@ -132,6 +134,12 @@ fn read_power(s: &[u8], at: usize) -> NumberAnswer
             place: at,
         };
     }
+    if byte > bits {
+        return NumberAnswer::Refused {
+            number: refusal::NUMBER_PASSES_WIDTH,
+            place: at,
+        };
+    }
     if byte == 0 {
         return NumberAnswer::Number(0);
     }
@@ -141,7 +149,7 @@ fn read_power(s: &[u8], at: usize) -> NumberAnswer
 // The head of an array, whose tag is at at.
 fn array_head(s: &[u8], at: usize) -> HeadAnswer
     requires { ⌜ at < length (now s) ⌝ }
-    ensures { λ r. ⌜ headSays r ≡ formHead (now (s .entry)) at array ⌝ }
+    ensures { λ r. ⌜ headSays r ≡ goOn (countAt countLength (now (s .entry)) (at + 1)) (λ n. reached (arrayHead n)) ⌝ }
 {
     match read_count(s, at + 1) {
         NumberAnswer::Number(count) => HeadAnswer::Array { count },
@@ -173,31 +181,31 @@ fn packed_head(s: &[u8], at: usize, long: bool, align: u64, packed: u64) -> Head
 }
 
 // That of a struct behind its alignment.
-fn aligned_head(s: &[u8], at: usize, long: bool, align: u64) -> HeadAnswer
+fn aligned_head(bits: u8, s: &[u8], at: usize, long: bool, align: u64) -> HeadAnswer
     requires { ⌜ at + 1 < length (now s) ⌝ }
-    ensures { λ r. ⌜ headSays r ≡ alignedHead (now (s .entry)) at (counted long) align ⌝ }
+    ensures { λ r. ⌜ headSays r ≡ alignedHead bits (now (s .entry)) at (counted long) align ⌝ }
 {
-    match read_power(s, at + 2) {
+    match read_power(bits, s, at + 2) {
         NumberAnswer::Number(packed) => packed_head(s, at, long, align, packed),
         NumberAnswer::Refused { number, place } => HeadAnswer::Refused { number, place },
     }
 }
 
 // That of a struct, byte by byte; long, where its member count has two bytes.
-fn struct_head(s: &[u8], at: usize, long: bool) -> HeadAnswer
+fn struct_head(bits: u8, s: &[u8], at: usize, long: bool) -> HeadAnswer
     requires { ⌜ at < length (now s) ⌝ }
-    ensures { λ r. ⌜ headSays r ≡ formHead (now (s .entry)) at (struct (counted long)) ⌝ }
+    ensures { λ r. ⌜ headSays r ≡ formHead bits (now (s .entry)) at (struct (counted long)) ⌝ }
 {
-    match read_power(s, at + 1) {
-        NumberAnswer::Number(align) => aligned_head(s, at, long, align),
+    match read_power(bits, s, at + 1) {
+        NumberAnswer::Number(align) => aligned_head(bits, s, at, long, align),
         NumberAnswer::Refused { number, place } => HeadAnswer::Refused { number, place },
     }
 }
 
 // The head of a part at at, with depth parts more that may be open.
-pub fn head(s: &[u8], at: usize, depth: usize) -> HeadAnswer
-    ensures answer { λ r. ⌜ headSays r ≡ headAt depth (now (s .entry)) at ⌝ }
-    ensures meaning { λ r. ⌜ HeadMeans depth (now (s .entry)) at (headSays r) ⌝ }
+pub fn head(bits: u8, s: &[u8], at: usize, depth: usize) -> HeadAnswer
+    ensures answer { λ r. ⌜ headSays r ≡ headAt bits depth (now (s .entry)) at ⌝ }
+    ensures meaning { λ r. ⌜ HeadMeans bits depth (now (s .entry)) at (headSays r) ⌝ }
 {
     if s.len() <= at {
         return HeadAnswer::Refused {
@@ -233,5 +241,5 @@ pub fn head(s: &[u8], at: usize, depth: usize) -> HeadAnswer
     if tag == SLICE_TAG {
         return HeadAnswer::Slice;
     }
-    struct_head(s, at, tag == LONG_STRUCT_TAG)
+    struct_head(bits, s, at, tag == LONG_STRUCT_TAG)
 }

@@ -8,7 +8,7 @@ ghost use lib.Seq.{sets};
 ghost use Rattle.util_defs.specs.Refusal.{Meets};
 ghost use Rattle.layout.specs.View.{layoutOf, layoutSays};
 ghost use Rattle.record_defs.specs.Record.{wordsAt, recordBytes, wordsOf, wordsCauses, recordCauses, wordsFor};
-ghost use Rattle.record_defs.specs.Record.{decodeFor, Decodes};
+ghost use Rattle.record_defs.specs.Record.{ownFor, decodeFor, Decodes};
 ghost use Rattle.record_defs.specs.Record.{encodeFor, encodedInto, encodeWordsFor, encodedWordsInto};
 ghost use Rattle.record.specs.View.{wordsIn, encodeSays};
 use layout::DstLayout;
@@ -161,10 +161,11 @@ fn read_words(s: &[u8]) -> Words
     }
 }
 
-// The layout of a record.
+// The layout of a record. Words of 64 bits hold every number of it, so its own tests are all that can refuse it.
 pub fn decode(s: &[u8]) -> LayoutAnswer
     ensures answer { λ r. ⌜ layoutSays r ≡ decodeFor 64 (now (s .entry)) ⌝ }
     ensures meaning { λ r. ⌜ Meets (recordCauses 64 (now (s .entry))) (Decodes (wordsAt (now (s .entry)) 0)) (layoutSays r) ⌝ }
+    ensures own { λ r. ⌜ layoutSays r ≡ ownFor (now (s .entry)) ⌝ }
 {
     if s.len() == RECORD_BYTES {
         layout_from_words(read_words(s))

@@ -1,21 +1,23 @@
 -- What records mean, and what encoding leaves, over any width w. Assumes nothing.
 use mathlib.Core.Path.{_≡_, refl, sym, ap, _∙_}
-use mathlib.Core.Bool.{Bool, true, false, cond, _&&_}
-use mathlib.Core.List.{List, _++_}
+use mathlib.Core.Bool.{Bool, true, false, cond, not, _&&_}
+use mathlib.Core.List.{List, [], _∷_, _++_}
 use Prim.Native.Nat.{ℕ, zero, suc, _+_, _/_, _%_, _^_, _≤_, _<_}
 use native.Mathlib.Omega.{arith}
 use borrow.Author.Tests.{eq-eqb, ne-eqb}
 use lib.Dec.{eqb}
 use lib.ListN.{length}
 use lib.Seq.{sets}
-use Rattle.util_defs.specs.Refusal.{Cause, Outcome, answered, refused, unless, Tells, None, Meets, Decided}
-use Rattle.util_defs.proofs.Refusals.{known, tells-eq, tells-le, tells-lt, tells-not, tells-and, meets}
+use Rattle.util_defs.specs.Width.{M}
+use Rattle.util_defs.specs.Refusal.{Cause, Outcome, answered, refused, unless, Tells, holds, fails, None, Meets, Decided}
+use Rattle.util_defs.proofs.Refusals.{known, told-true, told-false, tells-as, tells-eq, tells-le, tells-lt, tells-not, tells-and, meets}
+use Rattle.util_defs.proofs.Tables.{apart, answer-is, refused-first, accepted-first, none-both, decided-both}
 use Rattle.util_defs.proofs.Helpers.{align-decided}
 use Rattle.trailing_defs.specs.Size.{Trailing}
 use Rattle.layout_defs.specs.Layout.{fixed, trailing, Layout, checkFor}
 use Rattle.words.specs.Bytes.{bytesOf, wordAt, wordBytes, putInto}
 use Rattle.words.proofs.LittleEndian.{sets-whole, word-length, put-within, put-next, more}
-use Rattle.record_defs.specs.Record.{Words, IsFixedKind, wordsAt, recordBytes, wordsOf, wordsLayout, laterWord, trailingWordZero, wordsCauses, recordCauses, wordsFor, decodeFor, Decodes, infoWords, writeFor, after, writtenInto, encodeFor}
+use Rattle.record_defs.specs.Record.{Words, IsFixedKind, wordsAt, recordBytes, wordsOf, wordsLayout, laterWord, trailingWordZero, wordsCauses, FitsIn, fitsIn, numberPasses, ownCauses, recordCauses, wordsFor, ownFor, decodeFor, Decodes, infoWords, writeFor, after, writtenInto, encodeFor}
 
 -- the bytes of a record
 pub record-length : (r : Words) → length (recordBytes r) ≡ 48
@@ -49,8 +51,21 @@ zero-decided r = tells-and (tells-not (tells-eq (r .kind / 2 % 2) 0)) (tells-eq 
 pub words-decided : (w : ℕ) (r : Words) → r .align < 2 ^ w → Decided (wordsCauses w r)
 words-decided w r h = (tells-lt 7 (r .kind), λ _. (align-decided w (r .align) h, λ _. (later-decided r, λ _. (zero-decided r, λ _. tt))))
 
-pub record-decided : (w : ℕ) (s : List ℕ) → wordAt s 0 < 2 ^ w → Decided (recordCauses w s)
-record-decided w s h = (tells-not (tells-eq (length s) 48), λ _. words-decided w (wordsAt s 0) h)
+-- 43 is decided; where no test of the record's own refuses, it alone is left
+pub tells-fits : (w : ℕ) (r : Words) → Tells (FitsIn w r) (fitsIn w r)
+tells-fits w r =
+    tells-as
+    (λ x. record { align = x .0; size = x .1 .0; offset = x .1 .1 .0; elem = x .1 .1 .1 .0; word = x .1 .1 .1 .1 })
+    (λ x. (x .align, (x .size, (x .offset, (x .elem, x .word)))))
+    (tells-and (tells-le (r .align) (M w)) (tells-and (tells-le (r .size) (M w)) (tells-and (tells-le (r .offset) (M w))
+    (tells-and (tells-le (r .elem) (M w)) (tells-le (r .word) (M w))))))
+
+own-decided : (s : List ℕ) → wordAt s 0 < 2 ^ 64 → Decided (ownCauses s)
+own-decided s h = (tells-not (tells-eq (length s) 48), λ _. words-decided 64 (wordsAt s 0) h)
+
+pub record-decided : (w : ℕ) (s : List ℕ) → wordAt s 0 < 2 ^ 64 → Decided (recordCauses w s)
+record-decided w s h =
+    decided-both (ownCauses s) (numberPasses w (wordsAt s 0) ∷ []) (own-decided s h) (λ _. (tells-not (tells-fits w (wordsAt s 0)), λ _. tt))
 
 -- words that are not refused are those of their layout
 pub decoded : (a k b o e v : ℕ) → (7 < k → ⊥) → (IsFixedKind k × ((o ≡ 0) × ((e ≡ 0) × (v ≡ 0)) → ⊥) → ⊥)
@@ -72,14 +87,51 @@ pub words-meets : (w : ℕ) (r : Words) → r .align < 2 ^ w → Meets (wordsCau
 unfolding wordsFor
 words-meets w r h = meets (wordsCauses w r) (wordsLayout r) (words-decided w r h) (words-decode w r)
 
-pub record-meets : (w : ℕ) (s : List ℕ) → wordAt s 0 < 2 ^ w → Meets (recordCauses w s) (Decodes (wordsAt s 0)) (decodeFor w s)
+pub own-meets : (s : List ℕ) → wordAt s 0 < 2 ^ 64 → Meets (ownCauses s) (Decodes (wordsAt s 0)) (ownFor s)
+unfolding ownFor
+own-meets s h = meets (ownCauses s) (wordsLayout (wordsAt s 0)) (own-decided s h) (λ n. words-decode 64 (wordsAt s 0) (n .1))
+
+pub record-meets : (w : ℕ) (s : List ℕ) → wordAt s 0 < 2 ^ 64 → Meets (recordCauses w s) (Decodes (wordsAt s 0)) (decodeFor w s)
 unfolding decodeFor
-record-meets w s h = meets (recordCauses w s) (wordsLayout (wordsAt s 0)) (record-decided w s h) (λ n. words-decode w (wordsAt s 0) (n .1))
+record-meets w s h = meets (recordCauses w s) (wordsLayout (wordsAt s 0)) (record-decided w s h) (λ n. words-decode 64 (wordsAt s 0) (none-both (ownCauses s) (numberPasses w (wordsAt s 0) ∷ []) n .0 .1))
 
 -- a record of the right length is its words
-pub decode-words : (w : ℕ) (s : List ℕ) → length s ≡ 48 → decodeFor w s ≡ wordsFor w (wordsAt s 0)
-unfolding decodeFor wordsFor unless
-decode-words w s h = simp (eq-eqb (length s) 48 h)
+pub own-words : (s : List ℕ) → length s ≡ 48 → ownFor s ≡ wordsFor 64 (wordsAt s 0)
+unfolding ownFor wordsFor unless
+own-words s h = simp (eq-eqb (length s) 48 h)
+
+-- at a width: refused as its own tests refuse it, by 43 where a number does not fit, else it is what those tests gave
+pub decode-own : (w : ℕ) (s : List ℕ) {k : ℕ} → ownFor s ≡ refused k → decodeFor w s ≡ refused k
+unfolding ownFor decodeFor
+decode-own w s e = refused-first (ownCauses s) (numberPasses w (wordsAt s 0) ∷ []) (wordsLayout (wordsAt s 0)) (wordsLayout (wordsAt s 0)) e
+
+pub decode-passes : (w : ℕ) (s : List ℕ) {l : Layout} → ownFor s ≡ answered l → fitsIn w (wordsAt s 0) ≡ false → decodeFor w s ≡ refused 43
+unfolding ownFor decodeFor unless
+decode-passes w s e h =
+    accepted-first (ownCauses s) (numberPasses w (wordsAt s 0) ∷ []) (wordsLayout (wordsAt s 0)) (wordsLayout (wordsAt s 0)) e ∙ rw h
+
+pub decode-fits : (w : ℕ) (s : List ℕ) → fitsIn w (wordsAt s 0) ≡ true → decodeFor w s ≡ ownFor s
+unfolding ownFor decodeFor unless
+decode-fits w s h = go (ownFor s) refl
+  where
+    x : Layout
+    x = wordsLayout (wordsAt s 0)
+
+    go : (o : Outcome Layout) → ownFor s ≡ o → decodeFor w s ≡ o
+    go (refused k) e = decode-own w s e
+    go (answered l) e =
+        accepted-first (ownCauses s) (numberPasses w (wordsAt s 0) ∷ []) x x e
+        ∙ ap (λ (b : Bool). cond (not b) (refused 43) (answered x)) h
+        ∙ sym (ap answered (answer-is (ownCauses s) x e))
+
+-- what is decoded at a width passed its own tests, and the width holds it
+pub decoded-own : (w : ℕ) (s : List ℕ) {l : Layout} → decodeFor w s ≡ answered l → (ownFor s ≡ answered l) × FitsIn w (wordsAt s 0)
+decoded-own w s {l} e = go (tells-fits w (wordsAt s 0)) (ownFor s) refl
+  where
+    go : {b : Bool} → Tells (FitsIn w (wordsAt s 0)) b → (o : Outcome Layout) → ownFor s ≡ o → (ownFor s ≡ answered l) × FitsIn w (wordsAt s 0)
+    go t (refused k) x = absurd (apart (sym (decode-own w s x) ∙ e))
+    go (holds f) (answered m) x = (sym (decode-fits w s (told-true (tells-fits w (wordsAt s 0)) f)) ∙ e, f)
+    go (fails n) (answered m) x = absurd (apart (sym (decode-passes w s x (told-false (tells-fits w (wordsAt s 0)) n)) ∙ e))
 
 -- the words of a layout by its kind
 pub fixed-words : (a k s : ℕ) (m u : Bool) → k ≡ 0 + cond m 1 0 + cond u 4 0 → infoWords a k (fixed s) ≡ wordsOf (record { align = a; info = fixed s; mark = m; modifier = u })

@@ -1,10 +1,11 @@
--- Records of layouts (document 01, module 7). Assumes nothing.
+-- Records of layouts (document 01, module 7; document 02, request 7). Assumes nothing.
 use mathlib.Core.Path.{_≡_}
 use mathlib.Core.Bool.{Bool, true, false, cond, not, _&&_}
 use mathlib.Core.List.{List, [], _∷_, _++_}
-use Prim.Native.Nat.{ℕ, _+_, _*_, _/_, _%_, _<_}
-use lib.Dec.{eqb, ltb}
+use Prim.Native.Nat.{ℕ, _+_, _*_, _/_, _%_, _≤_, _<_}
+use lib.Dec.{eqb, leb, ltb}
 use lib.ListN.{length}
+use Rattle.util_defs.specs.Width.{M}
 use Rattle.util_defs.specs.Refusal.{Outcome, answered, refused, Cause, unless}
 use Rattle.util_defs.specs.Helpers.{badAlign}
 use Rattle.layout_defs.specs.Layout.{Info, fixed, trailing, Layout, layoutCauses}
@@ -101,20 +102,53 @@ trailingWordZero r = record {
   means = (IsFixedKind (r .kind) → ⊥) × (r .word ≡ 0);
 }
 
--- what refuses six words; what refuses a record, whose length is tested before
+-- what refuses six words
 abbrev pub wordsCauses : ℕ → Words → List Cause
 wordsCauses w r = kindAbove (r .kind) ∷ badAlign w (r .align) ∷ laterWord r ∷ trailingWordZero r ∷ []
 
+-- "records keep 64-bit fields": so wide are their own tests at every width
+abbrev pub fieldBits : ℕ
+fieldBits = 64
+
+-- w bits hold the numbers of a record
+pub record FitsIn (w : ℕ) (r : Words) : Type 0 where
+  pub align : r .align ≤ M w
+  pub size : r .size ≤ M w
+  pub offset : r .offset ≤ M w
+  pub elem : r .elem ≤ M w
+  pub word : r .word ≤ M w
+
+abbrev pub fitsIn : ℕ → Words → Bool
+fitsIn w r =
+    leb (r .align) (M w)
+    && (leb (r .size) (M w) && (leb (r .offset) (M w) && (leb (r .elem) (M w) && leb (r .word) (M w))))
+
+-- 43: a number of a record does not fit the width
+abbrev pub numberPasses : ℕ → Words → Cause
+numberPasses w r = record { number = 43; test = not (fitsIn w r); means = FitsIn w r → ⊥ }
+
+-- a record's own tests, the length first; what refuses it at a width: "43 .. after the record's own tests"
+abbrev pub ownCauses : List ℕ → List Cause
+ownCauses s = badLength (length s) ∷ wordsCauses fieldBits (wordsAt s 0)
+
 abbrev pub recordCauses : ℕ → List ℕ → List Cause
-recordCauses w s = badLength (length s) ∷ wordsCauses w (wordsAt s 0)
+recordCauses w s = ownCauses s ++ (numberPasses w (wordsAt s 0) ∷ [])
 
 -- six words as a layout
 unfoldable pub wordsFor : ℕ → Words → Outcome Layout
 wordsFor w r = unless (wordsCauses w r) (wordsLayout r)
 
--- `decode`: a record as a layout
+-- a record as a layout, by its own tests alone, and `decode`, at a width
+unfoldable pub ownFor : List ℕ → Outcome Layout
+ownFor s = unless (ownCauses s) (wordsLayout (wordsAt s 0))
+
 unfoldable pub decodeFor : ℕ → List ℕ → Outcome Layout
 decodeFor w s = unless (recordCauses w s) (wordsLayout (wordsAt s 0))
+
+-- a layout that was read of another form of record, at a width
+abbrev pub fitted : ℕ → Outcome Layout → Outcome Layout
+fitted w (answered l) = unless (numberPasses w (wordsOf l) ∷ []) l
+fitted w (refused k) = refused k
 
 -- what decoding means: the layout's words are those of the record
 abbrev pub Decodes : Words → Layout → Type 0

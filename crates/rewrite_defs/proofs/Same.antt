@@ -47,19 +47,20 @@ count-one : (k : ℕ) (s : List ℕ) (i : ℕ) {n m : ℕ} → IsCount k s i n �
 count-one k s i h g = sym (h .is) ∙ g .is
 
 -- ---- the header of a struct, at two places
-module _ (s h v : List ℕ) (t : ℕ) (e : drop t s ≡ h ++ v) (s′ h′ v′ : List ℕ) (t′ : ℕ) (e′ : drop t′ s′ ≡ h′ ++ v′) where
-  power-over : (i : ℕ) {a : ℕ} → i < length h → i < length h′ → getD h i 0 ≡ getD h′ i 0 → IsPower s (t + i) a → IsPower s′ (t′ + i) a
+module _ (w : ℕ) (s h v : List ℕ) (t : ℕ) (e : drop t s ≡ h ++ v) (s′ h′ v′ : List ℕ) (t′ : ℕ) (e′ : drop t′ s′ ≡ h′ ++ v′) where
+  power-over : (i : ℕ) {a : ℕ} → i < length h → i < length h′ → getD h i 0 ≡ getD h′ i 0 → IsPower w s (t + i) a → IsPower w s′ (t′ + i) a
   power-over i l l′ q p = record {
     byte = p .byte;
     at = subst (IsByte s′ (t′ + i)) (sym q ∙ byte-one s (t + i) (byte-in s h v t e i l) (p .at)) (byte-in s′ h′ v′ t′ e′ i l′);
     most = p .most;
+    fits = p .fits;
     is = p .is;
   }
 
   pub header-over : (c c′ : Counted) {align packing n : ℕ} → length h ≡ 3 + countBytes c → length h′ ≡ 3 + countBytes c′
       → getD h′ 0 0 ≡ structTag c′ → getD h 1 0 ≡ getD h′ 1 0 → getD h 2 0 ≡ getD h′ 2 0
       → valueOf (take (countBytes c) (drop 3 h)) ≡ valueOf (take (countBytes c′) (drop 3 h′))
-      → Header s t c align packing n → Header s′ t′ c′ align packing n
+      → Header w s t c align packing n → Header w s′ t′ c′ align packing n
   header-over c c′ l l′ q a p n x = record {
     tag = subst (IsByte s′ t′) q (subst (λ (i : ℕ). IsByte s′ i (getD h′ 0 0)) (omega arith) (byte-in s′ h′ v′ t′ e′ 0 (omega arith)));
     aligned = power-over 1 (omega arith) (omega arith) a (x .aligned);
@@ -205,7 +206,7 @@ module _ (way : Way) (s s′ : List ℕ) where
       record {
         end = z .end;
         part = aStruct {c = k .to}
-            (header-over s (structTag c ∷ y .tail) (joined (y .next)) i (y .here) s′ (turnedHead way (structTag c ∷ y .tail)) (joined (map (turnedHead way) (y .next))) i′ (y .there) c (k .to) (k .old) (k .new) (k .tag) (k .align) (k .packing) (k .count) h)
+            (header-over w s (structTag c ∷ y .tail) (joined (y .next)) i (y .here) s′ (turnedHead way (structTag c ∷ y .tail)) (joined (map (turnedHead way) (y .next))) i′ (y .there) c (k .to) (k .old) (k .new) (k .tag) (k .align) (k .packing) (k .count) h)
             (z .part)
             a;
         rest = z .rest;

@@ -16,9 +16,9 @@ use Rattle.util_defs.proofs.Refusals.{answered-means, one-number, no-number}
 use Rattle.util_defs.proofs.Tables.{passed, both-none}
 use Rattle.words.proofs.LittleEndian.{AllBytes, all-part, part-below}
 use Rattle.layout_defs.specs.Layout.{Layout}
-use Rattle.record_defs.specs.Record.{Words, wordsOf, wordsAt, wordsLayout, wordsCauses, recordBytes, recordCauses, decodeFor, Decodes}
-use Rattle.record_defs.proofs.Records.{record-meets}
-use Rattle.record_defs.proofs.RoundTrips.{record-back}
+use Rattle.record_defs.specs.Record.{Words, wordsOf, wordsAt, wordsLayout, wordsCauses, recordBytes, ownCauses, ownFor, Decodes}
+use Rattle.record_defs.proofs.Records.{own-meets}
+use Rattle.record_defs.proofs.RoundTrips.{own-back}
 use Rattle.short_defs.specs.Short.{Short, shortAt, shortBytes, shortOf, wordsFrom, wordAbove, decodeShortCauses, decodeShortFor, DecodesShort}
 use Rattle.short_defs.specs.Moves.{Way, toShort, fromShort, countOf, recordOf, lengthCauses}
 use Rattle.short_defs.specs.Trips.{Shortened, Widened, Stops, Moves, MoveMeans}
@@ -44,8 +44,8 @@ short-is s {l} h e =
     ap shortBytes (answered-means (subst (Meets (decodeShortCauses s) (DecodesShort s)) e (decode-short-meets s)) .1)
     ∙ short-bytes-back s h (short-whole s e)
 
-means-old : (s : List ℕ) {l : Layout} → AllBytes s → decodeFor 64 s ≡ answered l → None (recordCauses 64 s) × Decodes (wordsAt s 0) l
-means-old s h e = answered-means (subst (Meets (recordCauses 64 s) (Decodes (wordsAt s 0))) e (record-meets 64 s (omega (arith, part-below 8 s 0 h))))
+means-old : (s : List ℕ) {l : Layout} → AllBytes s → ownFor s ≡ answered l → None (ownCauses s) × Decodes (wordsAt s 0) l
+means-old s h e = answered-means (subst (Meets (ownCauses s) (Decodes (wordsAt s 0))) e (own-meets s (omega (arith, part-below 8 s 0 h))))
 
 pub short-pinned : Pinned toShort Shortened
 short-pinned = record {
@@ -58,7 +58,7 @@ short-pinned = record {
 
 pub wide-pinned : Pinned fromShort Widened
 wide-pinned = record {
-  unique = λ s t t′ h g a b. sym (record-back 64 t h (a .of-old)) ∙ ap (λ (l : Layout). recordBytes (wordsOf l)) (same-answer (sym (a .of-short) ∙ b .of-short)) ∙ record-back 64 t′ g (b .of-old);
+  unique = λ s t t′ h g a b. sym (own-back t h (a .of-old)) ∙ ap (λ (l : Layout). recordBytes (wordsOf l)) (same-answer (sym (a .of-short) ∙ b .of-short)) ∙ own-back t′ g (b .of-old);
   accepts = λ s t h g a. answered-means (subst (Meets (decodeShortCauses s) (DecodesShort s)) (a .of-short) (decode-short-meets s)) .0 .1;
 }
 

@@ -14,7 +14,7 @@ use Rattle.util_defs.specs.Refusal.{answered}
 use Rattle.util_defs.specs.Placed.{judged}
 use Rattle.util_defs.proofs.Tables.{Passed, passed, passed-both, passes, both-passed}
 use Rattle.words.proofs.LittleEndian.{AllBytes}
-use Rattle.record_defs.specs.Record.{Words, wordsAt, recordBytes, wordsLayout, laterWord, trailingWordZero, wordsCauses, recordCauses, decodeFor}
+use Rattle.record_defs.specs.Record.{Words, wordsAt, recordBytes, wordsLayout, laterWord, trailingWordZero, wordsCauses, ownCauses, ownFor}
 use Rattle.record_defs.proofs.Records.{record-length}
 use Rattle.record_defs.proofs.RoundTrips.{Fits, words-back, bytes-back}
 use Rattle.short_defs.specs.Short.{Short, shortAt, shortBytes, shortOf, wordsFrom, wordAbove, toShortCauses, fromShortCauses, decodeShortCauses, decodeShortFor}
@@ -116,9 +116,9 @@ wide-inverts s h n e =
     is-false e = ap not e
 
 -- both forms of a record that is moved decode to the same layout
-decodes : (s : List ℕ) → length s ≡ 48 → judged (wordsCauses 64 (wordsAt s 0)) ≡ answered tt → decodeFor 64 s ≡ answered (wordsLayout (wordsAt s 0))
-unfolding decodeFor
-decodes s n e = passes (recordCauses 64 s) (wordsLayout (wordsAt s 0)) (ap not (eq-eqb (length s) 48 n), passed (wordsCauses 64 (wordsAt s 0)) tt e)
+decodes : (s : List ℕ) → length s ≡ 48 → judged (wordsCauses 64 (wordsAt s 0)) ≡ answered tt → ownFor s ≡ answered (wordsLayout (wordsAt s 0))
+unfolding ownFor
+decodes s n e = passes (ownCauses s) (wordsLayout (wordsAt s 0)) (ap not (eq-eqb (length s) 48 n), passed (wordsCauses 64 (wordsAt s 0)) tt e)
 
 decodes-short : (s : List ℕ) → length s ≡ 32 → judged (fromShortCauses (shortAt s 0)) ≡ answered tt → decodeShortFor s ≡ answered (wordsLayout (wordsFrom (shortAt s 0)))
 unfolding decodeShortFor

@@ -22,8 +22,8 @@ use Rattle.util_defs.proofs.Tables.{passed, accepted-first, refused-first, refu
 use Rattle.layout_defs.specs.Layout.{Info, fixed, trailing, Layout, layoutCauses, checkFor}
 use Rattle.words.specs.Bytes.{bytesOf, wordAt, wordBytes, putInto}
 use Rattle.words.proofs.LittleEndian.{AllBytes, part-below, word-length, put-within, put-next, more, sets-whole, bytes-parts, value-parts}
-use Rattle.record_defs.specs.Record.{Words, wordsOf, wordsLayout, wordsCauses, wordsFor, infoWords, kindOf, after, wordsAt, recordBytes, decodeFor}
-use Rattle.record_defs.proofs.Records.{later-decided, decoded, decode-words, put-record, record-length}
+use Rattle.record_defs.specs.Record.{Words, wordsOf, wordsLayout, wordsCauses, wordsFor, infoWords, kindOf, after, wordsAt, recordBytes, ownFor}
+use Rattle.record_defs.proofs.Records.{later-decided, decoded, own-words, put-record, record-length}
 use Rattle.record_defs.proofs.RoundTrips.{words-kept}
 use Rattle.short_defs.specs.Short.{Short, numberAt, shortAt, shortBytes, exponentOf, shortOf, wordsFrom, wordAbove, fromShortCauses, decodeShortCauses, decodeShortFor, DecodesShort, badShortLength, toShortCauses, encodeShortWordsFor, encodedShortWordsInto, encodeShortCauses, encodeShortFor, encodedShortInto}
 use Rattle.short_defs.specs.Moves.{toShort, fromShort}
@@ -212,23 +212,23 @@ short-held l r e c f hb ho he = record {
 
 -- the tests of one record by what decoding says, and what it becomes, either way
 module _ (s : List ℕ) where
-  pub record-own : {k : ℕ} → length s ≡ 48 → decodeFor 64 s ≡ refused k → judged (toShort .causes s) ≡ refused k
+  pub record-own : {k : ℕ} → length s ≡ 48 → ownFor s ≡ refused k → judged (toShort .causes s) ≡ refused k
   unfolding wordsFor
-  record-own n e = refused-first (wordsCauses 64 (wordsAt s 0)) (wordAbove (wordsAt s 0 .word) ∷ []) (wordsLayout (wordsAt s 0)) tt (sym (decode-words 64 s n) ∙ e)
+  record-own n e = refused-first (wordsCauses 64 (wordsAt s 0)) (wordAbove (wordsAt s 0 .word) ∷ []) (wordsLayout (wordsAt s 0)) tt (sym (own-words s n) ∙ e)
 
-  kept : {l : Layout} → length s ≡ 48 → decodeFor 64 s ≡ answered l → wordsOf l ≡ wordsAt s 0
-  kept n e = words-kept 64 (wordsAt s 0) (sym (decode-words 64 s n) ∙ e)
+  kept : {l : Layout} → length s ≡ 48 → ownFor s ≡ answered l → wordsOf l ≡ wordsAt s 0
+  kept n e = words-kept 64 (wordsAt s 0) (sym (own-words s n) ∙ e)
 
-  pub record-above : {l : Layout} → length s ≡ 48 → decodeFor 64 s ≡ answered l → leb (wordsOf l .word) (M 32) ≡ false → judged (toShort .causes s) ≡ refused 40
+  pub record-above : {l : Layout} → length s ≡ 48 → ownFor s ≡ answered l → leb (wordsOf l .word) (M 32) ≡ false → judged (toShort .causes s) ≡ refused 40
   unfolding wordsFor unless
   record-above {l} n e f =
-      accepted-first (wordsCauses 64 (wordsAt s 0)) (wordAbove (wordsAt s 0 .word) ∷ []) (wordsLayout (wordsAt s 0)) tt (sym (decode-words 64 s n) ∙ e)
+      accepted-first (wordsCauses 64 (wordsAt s 0)) (wordAbove (wordsAt s 0 .word) ∷ []) (wordsLayout (wordsAt s 0)) tt (sym (own-words s n) ∙ e)
       ∙ simp (lt-ltb (M 32) (wordsAt s 0 .word) (leb-false (wordsAt s 0 .word) (M 32) (ap (λ (r : Words). leb (r .word) (M 32)) (sym (kept n e)) ∙ f)))
 
-  pub record-fits : {l : Layout} → length s ≡ 48 → decodeFor 64 s ≡ answered l → leb (wordsOf l .word) (M 32) ≡ true → judged (toShort .causes s) ≡ answered tt
+  pub record-fits : {l : Layout} → length s ≡ 48 → ownFor s ≡ answered l → leb (wordsOf l .word) (M 32) ≡ true → judged (toShort .causes s) ≡ answered tt
   unfolding wordsFor unless
   record-fits {l} n e f =
-      accepted-first (wordsCauses 64 (wordsAt s 0)) (wordAbove (wordsAt s 0 .word) ∷ []) (wordsLayout (wordsAt s 0)) tt (sym (decode-words 64 s n) ∙ e)
+      accepted-first (wordsCauses 64 (wordsAt s 0)) (wordAbove (wordsAt s 0 .word) ∷ []) (wordsLayout (wordsAt s 0)) tt (sym (own-words s n) ∙ e)
       ∙ simp (le-ltb (M 32) (wordsAt s 0 .word) (leb-true (wordsAt s 0 .word) (M 32) (ap (λ (r : Words). leb (r .word) (M 32)) (sym (kept n e)) ∙ f)))
 
   pub short-own : {k : ℕ} → length s ≡ 32 → decodeShortFor s ≡ refused k → judged (fromShort .causes s) ≡ refused k

@@ -8,14 +8,14 @@ use Rattle.util_defs.specs.Refusal.{answered, None, First}
 use Rattle.util_defs.specs.Placed.{Placed, reached, stopped, judged}
 use Rattle.layout_defs.specs.Layout.{Layout}
 use Rattle.words.proofs.LittleEndian.{AllBytes}
-use Rattle.record_defs.specs.Record.{recordLength, decodeFor}
+use Rattle.record_defs.specs.Record.{recordLength, ownFor}
 use Rattle.short_defs.specs.Short.{shortLength, decodeShortFor}
 use Rattle.short_defs.specs.Moves.{Way, toShort, fromShort, countOf, recordOf, lengthCauses, moveFor}
 
 -- the two forms of one record: both decode to the same layout
 pub record BothForms (old short : List ℕ) : Type 0 where
   pub layout : Layout
-  pub of-old : decodeFor 64 old ≡ answered layout
+  pub of-old : ownFor old ≡ answered layout
   pub of-short : decodeShortFor short ≡ answered layout
 
 -- those, as each way has them: first the record, then what it became

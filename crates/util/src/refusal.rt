@@ -82,6 +82,8 @@ pub const WORD_ABOVE_SHORT: u64 = 40;
 pub const OUTPUT_SHORT: u64 = 41;
 // A short record's spare bytes are not zero, or its power is above the greatest.
 pub const SPARE_OR_POWER: u64 = 42;
+// A number of a record or of a description does not fit the width.
+pub const NUMBER_PASSES_WIDTH: u64 = 43;
 // A struct's member count is above that of one byte.
 pub const COUNT_ABOVE_BYTE: u64 = 44;
 // The output of a rewriting is too short.

@@ -20,7 +20,7 @@ enum-known-packed : tie.Need-enum-known-packed
 enum-known-packed c = search needs
 
 packed-head-requires : tie.Need-packed-head-requires
-packed-head-requires c κs = power-found (c .before .before .before .before .before .args .s .now) (c .before .before .before .before .before .args .at + 2) (sym (c .before .before .before .read-power .ensures) ∙ ap numberRead (c .before .packed .given .1)) .at .within
+packed-head-requires c κs = power-found (c .before .before .before .before .before .args .bits) (c .before .before .before .before .before .args .s .now) (c .before .before .before .before .before .args .at + 2) (sym (c .before .before .before .read-power .ensures) ∙ ap numberRead (c .before .packed .given .1)) .at .within
 
 enum-known-number : tie.Need-enum-known-number
 enum-known-number c = search needs

@@ -20,13 +20,13 @@ enum-known-number : tie.Need-enum-known-number
 enum-known-number c = search needs
 
 returns : tie.Need-returns
-returns c = let s = c .before .before .before .before .before .before .before .args .s .now in sym (record-fits s (c .before .before .before .before .before .before .before .pre) (told-by layoutSays (c .before .before .before .before .before .decode .ensures .0) (c .before .before .before .l .given .1)) (sym (c .before .fits-short .ensures) ∙ c .if1 .taken))
+returns c = let s = c .before .before .before .before .before .before .before .args .s .now in sym (record-fits s (c .before .before .before .before .before .before .before .pre) (told-by layoutSays (c .before .before .before .before .before .decode .ensures .1 .1) (c .before .before .before .l .given .1)) (sym (c .before .fits-short .ensures) ∙ c .if1 .taken))
 
 returns-2 : tie.Need-returns-2
-returns-2 c = let s = c .before .before .before .before .before .before .before .args .s .now in sym (record-above s (c .before .before .before .before .before .before .before .pre) (told-by layoutSays (c .before .before .before .before .before .decode .ensures .0) (c .before .before .before .l .given .1)) (sym (c .before .fits-short .ensures) ∙ c .if1 .left))
+returns-2 c = let s = c .before .before .before .before .before .before .before .args .s .now in sym (record-above s (c .before .before .before .before .before .before .before .pre) (told-by layoutSays (c .before .before .before .before .before .decode .ensures .1 .1) (c .before .before .before .l .given .1)) (sym (c .before .fits-short .ensures) ∙ c .if1 .left))
 
 returns-3 : tie.Need-returns-3
-returns-3 c = let s = c .before .before .before .before .before .args .s .now in sym (record-own s (c .before .before .before .before .before .pre) (told-by layoutSays (c .before .before .before .decode .ensures .0) (c .before .number .given .1)))
+returns-3 c = let s = c .before .before .before .before .before .args .s .now in sym (record-own s (c .before .before .before .before .before .pre) (told-by layoutSays (c .before .before .before .decode .ensures .1 .1) (c .before .number .given .1)))
 
 pub test-record-spec : {M : Type 1} → statement M
 test-record-spec =
