@@ -1,0 +1,3 @@
+-- Laws of casts over two widths, v ≤ w.
+pub mod Casting
+pub mod Exact
