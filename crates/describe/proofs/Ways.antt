@@ -13,7 +13,7 @@ use Rattle.scalar.specs.Scalar.{Target, scalarLayout, scalarFor}
 use Rattle.compose_defs.specs.Compose.{ported, memberStep}
 use Rattle.compose_defs.proofs.Compositions.{step-on, begin-own, begin-on}
 use Rattle.describe_defs.specs.Describe.{Part, Reader, addRead, closed, structBody, partFor, describedFor}
-use Rattle.describe_defs.specs.Heads.{Head, headAt, bodyAt}
+use Rattle.describe_defs.specs.Heads.{Head, headAt, made, bodyAt}
 use Rattle.describe_defs.specs.Faults.{ScalarsAccepted, PartMeans, ReadMeans}
 use Rattle.describe_defs.proofs.Heads.{part-by-head}
 use Rattle.describe_defs.proofs.Reading.{part-means, read-means}
@@ -24,7 +24,7 @@ unfolding scalarFor unless
 code-scalar target code h = rw (le-ltb 8 code h)
 
 -- a part by the head that was read
-pub by-head : (w : ℕ) (target : Target) (d : ℕ) (s : List ℕ) (t : ℕ) {h : Placed Head} → headAt d s t ≡ h → partFor w target d s t ≡ goOn h (bodyAt w target (partFor w target (d - 1) s) t)
+pub by-head : (w : ℕ) (target : Target) (d : ℕ) (s : List ℕ) (t : ℕ) {h : Placed Head} → headAt w d s t ≡ h → partFor w target d s t ≡ goOn h (bodyAt w target (partFor w target (d - 1) s) t)
 by-head w target d s t e = part-by-head w target d s t ∙ ap (λ (p : Placed Head). goOn p (bodyAt w target (partFor w target (d - 1) s) t)) e
 
 -- what was read, and what it means
@@ -38,6 +38,12 @@ module _ (w : ℕ) (part : Reader) (t i align packing n : ℕ) where
 
   pub body-off : {k : ℕ} → newZstFor w align ≡ refused k → structBody w part t i align packing n ≡ stopped k t
   body-off e = ap (λ (o : Outcome Layout). atPlace t o (λ l. goOn (addRead w part packing t n l i) (closed w t))) (begin-own w ported align packing e)
+
+-- what a part is made into, by two steps that agree on what was read
+pub made-alike : (p : Placed Part) (t : ℕ) (f g : Layout → Outcome Layout) → ((l : Layout) (j : ℕ) → p ≡ reached (l, j) → f l ≡ g l)
+    → goOn p (made t f) ≡ goOn p (made t g)
+made-alike (reached x) t f g h = ap (λ (o : Outcome Layout). atPlace t o (λ l. reached (l, x .1))) (h (x .0) (x .1) refl)
+made-alike (stopped k i) t f g h = refl
 
 -- a member step is that of a layout
 pub step-is : (w packing : ℕ) (l m : Layout) {o : Outcome Layout} → extendFor w l m packing ≡ o → memberStep w ported packing l (answered m) ≡ o

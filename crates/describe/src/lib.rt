@@ -1,12 +1,15 @@
-// Nested type descriptions, read into layouts. The stack of open parts is that of the calls.
+// Nested type descriptions, read into layouts, at either width by one body (narrow: words of 32 bits). The stack of open parts
+// is that of the calls.
 ghost use mathlib.Core.Path.{_≡_};
 ghost use Rattle.util_defs.specs.Placed.{reached, atPlace, goOn};
 ghost use Rattle.layout.specs.View.{layoutOf, layoutSays};
-ghost use Rattle.scalar.specs.Scalar.{target64};
-ghost use Rattle.describe_defs.specs.Elements.{arrayFor, sliceOfFor};
-ghost use Rattle.describe_defs.specs.Describe.{addRead, closed, partFor, describedFor};
-ghost use Rattle.describe_defs.specs.Heads.{made};
+ghost use Prim.Native.Nat.{_^_, _<_};
+ghost use Rattle.width.specs.Width.{bitsOf, targetOf, widthPad, widthArray, Held};
+ghost use Rattle.describe_defs.specs.Elements.{sliceOfFor};
+ghost use Rattle.describe_defs.specs.Describe.{addRead, partFor, describedFor};
+ghost use Rattle.describe_defs.specs.Heads.{headAt, HeadMeans, made};
 ghost use Rattle.describe_defs.specs.Faults.{PartMeans, ReadMeans};
+ghost use Rattle.heads.specs.View.{headSays};
 ghost use Rattle.describe.specs.View.{partSays, readSays};
 use heads::COUNT_BYTES;
 use heads::HeadAnswer;
@@ -40,12 +43,22 @@ fn at_tag(answer: LayoutAnswer, next: usize, tag: usize) -> PartAnswer
     }
 }
 
+// The head of a part.
+fn head_of(narrow: bool, s: &[u8], at: usize, depth: usize) -> HeadAnswer
+    ensures answer { λ r. ⌜ headSays r ≡ headAt (bitsOf narrow) depth (now (s .entry)) at ⌝ }
+    ensures meaning { λ r. ⌜ HeadMeans (bitsOf narrow) depth (now (s .entry)) at (headSays r) ⌝ }
+{
+    heads::head(width::bits(narrow), s, at, depth)
+}
+
 // An array of an element that was read.
-fn array_part(element: PartAnswer, count: u64, tag: usize) -> PartAnswer
-    ensures { λ r. ⌜ partSays r ≡ goOn (partSays element) (made tag (λ l. arrayFor 64 l count)) ⌝ }
+fn array_part(narrow: bool, element: PartAnswer, count: u64, tag: usize) -> PartAnswer
+    ensures { λ r. ⌜ partSays r ≡ goOn (partSays element) (made tag (λ l. widthArray narrow l count)) ⌝ }
 {
     match element {
-        PartAnswer::Part { layout, next } => at_tag(elements::for_array(layout, count), next, tag),
+        PartAnswer::Part { layout, next } => {
+            at_tag(width::for_array(narrow, layout, count), next, tag)
+        }
         PartAnswer::Refused { number, place } => PartAnswer::Refused { number, place },
     }
 }
@@ -61,24 +74,31 @@ fn slice_part(element: PartAnswer, tag: usize) -> PartAnswer
 }
 
 // A struct whose members were read: closing padding.
-fn struct_part(members: PartAnswer, tag: usize) -> PartAnswer
-    ensures { λ r. ⌜ partSays r ≡ goOn (partSays members) (closed 64 tag) ⌝ }
+fn struct_part(narrow: bool, members: PartAnswer, tag: usize) -> PartAnswer
+    ensures { λ r. ⌜ partSays r ≡ goOn (partSays members) (made tag (widthPad narrow)) ⌝ }
 {
     match members {
-        PartAnswer::Part { layout, next } => at_tag(padding::pad_to_align(layout), next, tag),
+        PartAnswer::Part { layout, next } => {
+            at_tag(width::pad_to_align(narrow, layout), next, tag)
+        }
         PartAnswer::Refused { number, place } => PartAnswer::Refused { number, place },
     }
 }
 
 // The part at at, with depth parts more that may be open. It may open a struct.
-pub fn part(s: &[u8], at: usize, depth: usize) -> PartAnswer
-    ensures answer { λ r. ⌜ partSays r ≡ partFor 64 target64 depth (now (s .entry)) at ⌝ }
-    ensures meaning { λ r. ⌜ PartMeans 64 target64 (now (s .entry)) depth at (partSays r) ⌝ }
+pub fn part(narrow: bool, s: &[u8], at: usize, depth: usize) -> PartAnswer
+    ensures answer { λ r. ⌜ partSays r ≡ partFor (bitsOf narrow) (targetOf narrow) depth (now (s .entry)) at ⌝ }
+    ensures meaning { λ r. ⌜ PartMeans (bitsOf narrow) (targetOf narrow) (now (s .entry)) depth at (partSays r) ⌝ }
 {
-    match heads::head(s, at, depth) {
-        HeadAnswer::Scalar(code) => at_tag(scalar::scalar(code), at + 1, at),
+    match head_of(narrow, s, at, depth) {
+        HeadAnswer::Scalar(code) => at_tag(width::scalar(narrow, code), at + 1, at),
         HeadAnswer::Array { count } => {
-            array_part(part(s, at + 1 + COUNT_BYTES, depth - 1), count, at)
+            array_part(
+                narrow,
+                part(narrow, s, at + 1 + COUNT_BYTES, depth - 1),
+                count,
+                at,
+            )
         }
         HeadAnswer::Struct {
             align,
@@ -88,13 +108,14 @@ pub fn part(s: &[u8], at: usize, depth: usize) -> PartAnswer
         } => match make::new_zst(align) {
             LayoutAnswer::Layout(empty) => {
                 struct_part(
-                    add_members(s, first, depth - 1, count, empty, packed, at),
+                    narrow,
+                    add_members(narrow, s, first, depth - 1, count, empty, packed, at),
                     at,
                 )
             }
             LayoutAnswer::Refused(number) => PartAnswer::Refused { number, place: at },
         },
-        HeadAnswer::Slice => slice_part(part(s, at + 1, depth - 1), at),
+        HeadAnswer::Slice => slice_part(part(narrow, s, at + 1, depth - 1), at),
         HeadAnswer::Refused { number, place } => PartAnswer::Refused { number, place },
     }
 }
@@ -102,6 +123,7 @@ pub fn part(s: &[u8], at: usize, depth: usize) -> PartAnswer
 // The members of a struct whose tag is at tag, the first one at first: each read whole, then added to the layout. A loop, so that
 // the calls are as deep as the parts that are open.
 fn add_members(
+    narrow: bool,
     s: &[u8],
     first: usize,
     depth: usize,
@@ -110,16 +132,18 @@ fn add_members(
     packed: u64,
     tag: usize,
 ) -> PartAnswer
+    requires { ⌜ Held narrow (layoutOf empty) × (packed < 2 ^ bitsOf narrow) ⌝ }
     ensures { λ r. ⌜
-        partSays r ≡ addRead 64 (partFor 64 target64 depth (now (s .entry))) packed tag count (layoutOf empty) first
+        partSays r ≡ addRead (bitsOf narrow) (partFor (bitsOf narrow) (targetOf narrow) depth (now (s .entry))) packed tag count
+        (layoutOf empty) first
         ⌝ }
 {
     let mut own = empty;
     let mut at = first;
     let mut left = count;
     while left > 0 {
-        match part(s, at, depth) {
-            PartAnswer::Part { layout, next } => match extend::extend(own, layout, packed) {
+        match part(narrow, s, at, depth) {
+            PartAnswer::Part { layout, next } => match width::extend(narrow, own, layout, packed) {
                 LayoutAnswer::Layout(grown) => {
                     own = grown;
                     at = next;
@@ -141,11 +165,11 @@ fn add_members(
 }
 
 // The layout that the bytes describe.
-pub fn read(description: &[u8]) -> ReadAnswer
-    ensures answer { λ r. ⌜ readSays r ≡ describedFor 64 target64 (now (description .entry)) ⌝ }
-    ensures meaning { λ r. ⌜ ReadMeans 64 target64 (now (description .entry)) (readSays r) ⌝ }
+pub fn read(narrow: bool, description: &[u8]) -> ReadAnswer
+    ensures answer { λ r. ⌜ readSays r ≡ describedFor (bitsOf narrow) (targetOf narrow) (now (description .entry)) ⌝ }
+    ensures meaning { λ r. ⌜ ReadMeans (bitsOf narrow) (targetOf narrow) (now (description .entry)) (readSays r) ⌝ }
 {
-    match part(description, 0, MAX_DEPTH) {
+    match part(narrow, description, 0, MAX_DEPTH) {
         PartAnswer::Part { layout, next } => {
             if next == description.len() {
                 ReadAnswer::Layout(layout)

@@ -26,5 +26,5 @@ fn as_composed(a: ReadAnswer) -> ComposeAnswer
 pub extern "C" fn lukaripe_read(description: &[u8]) -> ComposedOut
     ensures { λ r. ⌜ r ≡ composedOut (asComposed (describedFor 64 target64 (now (description .entry)))) ⌝ }
 {
-    exports_layouts::composed_out(as_composed(describe::read(description)))
+    exports_layouts::composed_out(as_composed(describe::read(false, description)))
 }

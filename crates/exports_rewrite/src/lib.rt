@@ -9,7 +9,7 @@ use exports_short::MovedOut;
 use rewrite::RewriteAnswer;
 
 // A rewriting as it crosses to C.
-fn rewritten_out(a: RewriteAnswer) -> MovedOut
+pub fn rewritten_out(a: RewriteAnswer) -> MovedOut
     ensures { λ r. ⌜ r ≡ movedOut (rewriteSays a) ⌝ }
 {
     match a {
@@ -37,7 +37,7 @@ pub extern "C" fn lukaripe_lengthen_counts(description: &[u8], out: &mut [u8]) -
         (now (out .entry))
         ⌝ }
 {
-    let answer = rewrite::lengthen_counts(description, out);
+    let answer = rewrite::lengthen_counts(false, description, out);
     rewritten_out(answer)
 }
 
@@ -52,6 +52,6 @@ pub extern "C" fn lukaripe_shorten_counts(description: &[u8], out: &mut [u8]) ->
         (now (out .entry))
         ⌝ }
 {
-    let answer = rewrite::shorten_counts(description, out);
+    let answer = rewrite::shorten_counts(false, description, out);
     rewritten_out(answer)
 }

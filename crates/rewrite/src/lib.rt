@@ -1,4 +1,5 @@
-// Descriptions rewritten into a lent output: each struct's member count in two bytes, or in one (document 02, request 8).
+// Descriptions rewritten into a lent output: each struct's member count in two bytes, or in one (document 02, request 8). What is
+// read at a width is rewritten alike.
 ghost use mathlib.Core.Path.{_≡_};
 ghost use mathlib.Core.Bool.{true};
 ghost use Prim.Native.Nat.{_+_, _≤_};
@@ -6,7 +7,7 @@ ghost use lib.Dec.{eqb, leb};
 ghost use lib.ListN.{length, take, drop, getD};
 ghost use lib.Seq.{sets};
 ghost use Rattle.util_defs.specs.Placed.{reached, goOn};
-ghost use Rattle.scalar.specs.Scalar.{target64};
+ghost use Rattle.width.specs.Width.{bitsOf, targetOf};
 ghost use Rattle.describe_defs.specs.Describe.{structTag, tagOf, describedFor};
 ghost use Rattle.rewrite_defs.specs.Heads.{behindTag, headsOf, tagsIn};
 ghost use Rattle.rewrite_defs.specs.Rewrite.{longer, shorter, from, turnedHead, countAbove, countsFit, rewritten};
@@ -187,15 +188,16 @@ fn has_room(len: usize, turned: usize, room: usize, long: bool) -> bool
     len - turned <= room
 }
 
-// The rewriting of a description that is read.
-fn rewrite_read(description: &[u8], out: &mut [u8], long: bool) -> RewriteAnswer
-    requires { ⌜ Read (describedFor 64 target64 (now description)) ⌝ }
+// The rewriting of a description that is read at a width, which the heads then do not hang on.
+fn rewrite_read(narrow: bool, description: &[u8], out: &mut [u8], long: bool) -> RewriteAnswer
+    requires { ⌜ Read (describedFor (bitsOf narrow) (targetOf narrow) (now description)) ⌝ }
     ensures { λ r. ⌜
-        rewriteSays r ≡ bytesFor 64 target64 (wayOf long) (now (description .entry)) (length (now (out .entry)))
+        rewriteSays r ≡ bytesFor (bitsOf narrow) (targetOf narrow) (wayOf long) (now (description .entry))
+        (length (now (out .entry)))
         ⌝ }
     ensures { λ _. ⌜
-        now (out .exit) ≡ filled (rewriteFor 64 target64 (wayOf long) (now (description .entry)) (length (now (out .entry))))
-        (now (out .entry))
+        now (out .exit) ≡ filled (rewriteFor (bitsOf narrow) (targetOf narrow) (wayOf long) (now (description .entry))
+        (length (now (out .entry)))) (now (out .entry))
         ⌝ }
 {
     match count_turned(description, long) {
@@ -220,49 +222,54 @@ fn rewrite_read(description: &[u8], out: &mut [u8], long: bool) -> RewriteAnswer
 }
 
 // The rewriting either way.
-fn rewrite(description: &[u8], out: &mut [u8], long: bool) -> RewriteAnswer
+fn rewrite(narrow: bool, description: &[u8], out: &mut [u8], long: bool) -> RewriteAnswer
     ensures { λ r. ⌜
-        rewriteSays r ≡ bytesFor 64 target64 (wayOf long) (now (description .entry)) (length (now (out .entry)))
+        rewriteSays r ≡ bytesFor (bitsOf narrow) (targetOf narrow) (wayOf long) (now (description .entry))
+        (length (now (out .entry)))
         ⌝ }
     ensures { λ _. ⌜
-        now (out .exit) ≡ filled (rewriteFor 64 target64 (wayOf long) (now (description .entry)) (length (now (out .entry))))
-        (now (out .entry))
+        now (out .exit) ≡ filled (rewriteFor (bitsOf narrow) (targetOf narrow) (wayOf long) (now (description .entry))
+        (length (now (out .entry)))) (now (out .entry))
         ⌝ }
 {
-    match describe::read(description) {
-        ReadAnswer::Layout(_) => rewrite_read(description, out, long),
+    match describe::read(narrow, description) {
+        ReadAnswer::Layout(_) => rewrite_read(narrow, description, out, long),
         ReadAnswer::Refused { number, place } => RewriteAnswer::Refused { number, place },
     }
 }
 
 // Turns every 17 into 19, whose member count has two bytes, into the front of out; behind the result it stays as it was.
-pub fn lengthen_counts(description: &[u8], out: &mut [u8]) -> RewriteAnswer
+pub fn lengthen_counts(narrow: bool, description: &[u8], out: &mut [u8]) -> RewriteAnswer
     ensures answer { λ r. ⌜
-        rewriteSays r ≡ bytesFor 64 target64 longer (now (description .entry)) (length (now (out .entry)))
+        rewriteSays r ≡ bytesFor (bitsOf narrow) (targetOf narrow) longer (now (description .entry))
+        (length (now (out .entry)))
         ⌝ }
     ensures bytes { λ _. ⌜
-        now (out .exit) ≡ filled (rewriteFor 64 target64 longer (now (description .entry)) (length (now (out .entry))))
-        (now (out .entry))
+        now (out .exit) ≡ filled (rewriteFor (bitsOf narrow) (targetOf narrow) longer (now (description .entry))
+        (length (now (out .entry)))) (now (out .entry))
         ⌝ }
     ensures meaning { λ r. ⌜
-        RewriteMeans 64 target64 longer (now (description .entry)) (now (out .entry)) (now (out .exit)) (rewriteSays r)
+        RewriteMeans (bitsOf narrow) (targetOf narrow) longer (now (description .entry)) (now (out .entry)) (now (out .exit))
+        (rewriteSays r)
         ⌝ }
 {
-    rewrite(description, out, true)
+    rewrite(narrow, description, out, true)
 }
 
 // Turns every 19 into 17, whose member count has one byte.
-pub fn shorten_counts(description: &[u8], out: &mut [u8]) -> RewriteAnswer
+pub fn shorten_counts(narrow: bool, description: &[u8], out: &mut [u8]) -> RewriteAnswer
     ensures answer { λ r. ⌜
-        rewriteSays r ≡ bytesFor 64 target64 shorter (now (description .entry)) (length (now (out .entry)))
+        rewriteSays r ≡ bytesFor (bitsOf narrow) (targetOf narrow) shorter (now (description .entry))
+        (length (now (out .entry)))
         ⌝ }
     ensures bytes { λ _. ⌜
-        now (out .exit) ≡ filled (rewriteFor 64 target64 shorter (now (description .entry)) (length (now (out .entry))))
-        (now (out .entry))
+        now (out .exit) ≡ filled (rewriteFor (bitsOf narrow) (targetOf narrow) shorter (now (description .entry))
+        (length (now (out .entry)))) (now (out .entry))
         ⌝ }
     ensures meaning { λ r. ⌜
-        RewriteMeans 64 target64 shorter (now (description .entry)) (now (out .entry)) (now (out .exit)) (rewriteSays r)
+        RewriteMeans (bitsOf narrow) (targetOf narrow) shorter (now (description .entry)) (now (out .entry)) (now (out .exit))
+        (rewriteSays r)
         ⌝ }
 {
-    rewrite(description, out, false)
+    rewrite(narrow, description, out, false)
 }

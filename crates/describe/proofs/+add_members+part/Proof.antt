@@ -9,7 +9,8 @@ use Rattle.util_defs.specs.Placed.{Placed, reached, atPlace, goOn}
 use Rattle.util_defs.proofs.Tables.{told-by}
 use Rattle.layout_defs.specs.Layout.{Layout}
 use Rattle.layout.specs.View.{layoutOf, layoutSays}
-use Rattle.scalar.specs.Scalar.{target64}
+use Rattle.width.specs.Width.{bitsOf, targetOf, widthPad, widthArray, Held}
+use Rattle.padding_defs.specs.Pad.{padFor}
 use Rattle.describe_defs.specs.Elements.{arrayFor, sliceOfFor}
 use Rattle.describe_defs.specs.Describe.{Part, addRead, closed, partFor}
 use Rattle.describe_defs.specs.Heads.{made}
@@ -17,8 +18,9 @@ use Rattle.describe_defs.proofs.Meaning.{moved}
 use Rattle.describe_defs.proofs.Heads.{head-room, add-none, add-stop, add-off, add-on}
 use Rattle.heads.specs.View.{headSays}
 use Rattle.describe.specs.View.{partSays}
-use Rattle.describe_defs.proofs.Accepted.{scalars64}
-use Rattle.describe.proofs.Ways.{part-told, code-scalar, by-head, body-on, body-off, step-is}
+use Rattle.width.proofs.Steps.{extend-at, extend-held, pad-at, array-at, slice-at, zst-at, zst-held, scalars-at}
+use Rattle.width.proofs.Reading.{part-held, added-held, head-held}
+use Rattle.describe.proofs.Ways.{part-told, code-scalar, by-head, made-alike, body-on, body-off, step-is}
 use Prim.Native.Nat.{ℕ, _+_, _-_, _*_, _≤_, _<_}
 use borrow.Fn.Kinds.{In}
 use borrow.Fn.PlainCycle.{Measures, is, falls, and}
@@ -32,18 +34,18 @@ use Rattle.describe.proofs.array_part.Reads as array-part-reads
 use Rattle.describe.proofs.at_tag.Reads as at-tag-reads
 use Rattle.describe.proofs.slice_part.Reads as slice-part-reads
 use Rattle.describe.proofs.struct_part.Reads as struct-part-reads
-use Rattle.extend.proofs.extend.Reads as extend-reads
-use Rattle.heads.proofs.head.Reads as head-reads
+use Rattle.width.proofs.extend.Reads as extend-reads
+use Rattle.describe.proofs.head_of.Reads as head-of-reads
 use Rattle.make.proofs.new_zst.Reads as new-zst-reads
-use Rattle.scalar.proofs.scalar.Reads as scalar-reads
+use Rattle.width.proofs.scalar.Reads as scalar-reads
 use Rattle.describe.proofs.+add_members+part.{statement}
 use Rattle.describe.proofs.+add_members+part.Tie.{close}
 
 abbrev μ-add-members : Measures 1 add-members-kinds.ps ℕ
-μ-add-members κs a = 2 * (length (a .0 .now) - a .1 .0) + 1
+μ-add-members κs a = 2 * (length (a .1 .0 .now) - a .1 .1 .0) + 1
 
 abbrev μ-part : Measures 1 part-kinds.ps ℕ
-μ-part κs a = 2 * (length (a .0 .now) - a .1 .0)
+μ-part κs a = 2 * (length (a .1 .0 .now) - a .1 .1 .0)
 
 abbrev add-members-at : ℕ → In 1 add-members-kinds.ps
 add-members-at t =
@@ -60,10 +62,13 @@ abbrev part-below : ℕ → In 1 part-kinds.ps
 part-below t = and 1 part-kinds.ps (falls 1 part-kinds.ps _<_ μ-part t) part.Pre
 
 abbrev add-members-Inv-loop : add-members-lts.InvT-loop
-add-members-Inv-loop s first depth count packed tag own₀ at₀ left₀ own at left = (first ≤ at) × (addRead 64 (partFor 64 target64 depth s) packed tag left (layoutOf own) at ≡ addRead 64 (partFor 64 target64 depth s) packed tag count (layoutOf own₀) first)
+add-members-Inv-loop narrow s first depth count packed tag own₀ at₀ left₀ own at left =
+    (first ≤ at) × (Held narrow (layoutOf own)
+    × (addRead (bitsOf narrow) (partFor (bitsOf narrow) (targetOf narrow) depth s) packed tag left (layoutOf own) at
+    ≡ addRead (bitsOf narrow) (partFor (bitsOf narrow) (targetOf narrow) depth s) packed tag count (layoutOf own₀) first))
 
 abbrev add-members-μ-loop : add-members-lts.MeasureT-loop
-add-members-μ-loop s first depth count packed tag own₀ at₀ left₀ own at left = left
+add-members-μ-loop narrow s first depth count packed tag own₀ at₀ left₀ own at left = left
 
 add-members-loop-holds : (t : ℕ) → add-members-lts.Need-loop-holds (
   part-below t,
@@ -71,7 +76,7 @@ add-members-loop-holds : (t : ℕ) → add-members-lts.Need-loop-holds (
   extend-reads.Asked,
   extend-reads.Learnt,
 ) (add-members-at t) add-members.Post add-members-Inv-loop add-members-μ-loop
-add-members-loop-holds t c = (omega arith, refl)
+add-members-loop-holds t c = (omega arith, (c .before .pre .1 .0, refl))
 
 add-members-part-requires : (t : ℕ) → add-members-lts.Need-part-requires (
   part-below t,
@@ -127,10 +132,23 @@ add-members-loop-again : (t : ℕ) → add-members-lts.Need-loop-again (
   extend-reads.Asked,
   extend-reads.Learnt,
 ) (add-members-at t) add-members.Post add-members-Inv-loop add-members-μ-loop
-add-members-loop-again t c = (
-  omega (arith, c .before .before .before .before .before .before .before .before .before .loop .inv .0, moved 64 target64 (c .before .before .before .before .before .before .before .before .before .before .before .args .s .now) (c .before .before .before .before .before .before .before .before .before .before .before .args .depth) (c .before .before .before .before .before .before .before .before .before .loop .at) (c .before .before .before .before .before .layout .given .0 .1 .0) (layoutOf (c .before .before .before .before .before .layout .given .0 .0)) (sym (c .before .before .before .before .before .before .before .part .ensures .0) ∙ ap partSays (c .before .before .before .before .before .layout .given .1))),
-  sym (add-on 64 (partFor 64 target64 (c .before .before .before .before .before .before .before .before .before .before .before .args .depth) (c .before .before .before .before .before .before .before .before .before .before .before .args .s .now)) (c .before .before .before .before .before .before .before .before .before .before .before .args .packed) (c .before .before .before .before .before .before .before .before .before .before .before .args .tag) (layoutOf (c .before .before .before .before .before .before .before .before .before .loop .own)) (c .before .before .before .before .before .before .before .before .before .loop .at) (c .before .before .before .before .before .before .before .before .before .loop .left) (λ z. omega (arith, c .before .before .before .before .before .before .before .before .loop-test .taken)) (sym (c .before .before .before .before .before .before .before .part .ensures .0) ∙ ap partSays (c .before .before .before .before .before .layout .given .1)) (step-is 64 (c .before .before .before .before .before .before .before .before .before .before .before .args .packed) (layoutOf (c .before .before .before .before .before .before .before .before .before .loop .own)) (layoutOf (c .before .before .before .before .before .layout .given .0 .0)) (told-by layoutSays (c .before .before .before .extend .ensures .0) (c .before .grown .given .1)))) ∙ c .before .before .before .before .before .before .before .before .before .loop .inv .1,
-)
+add-members-loop-again t c =
+    let x = c .before .before .before .before .before .before .before .before .before .before .before .args in
+    let k = x .narrow in
+    let loop = c .before .before .before .before .before .before .before .before .before .loop in
+    let l = layoutOf (loop .own) in
+    let m = layoutOf (c .before .before .before .before .before .layout .given .0 .0) in
+    let read = sym (c .before .before .before .before .before .before .before .part .ensures .0) ∙ ap partSays (c .before .before .before .before .before .layout .given .1) in
+    let hl = loop .inv .1 .0 in
+    let hm = part-held k (x .s .now) (x .depth) (loop .at) read in
+    let hp = c .before .before .before .before .before .before .before .before .before .before .before .pre .1 .1 in
+    let e = told-by layoutSays (c .before .before .before .extend .ensures) (c .before .grown .given .1) in (
+      omega (arith, loop .inv .0, moved (bitsOf k) (targetOf k) (x .s .now) (x .depth) (loop .at) (c .before .before .before .before .before .layout .given .0 .1 .0) m read),
+      (
+        extend-held k l m (x .packed) hl hm hp e,
+        sym (add-on (bitsOf k) (partFor (bitsOf k) (targetOf k) (x .depth) (x .s .now)) (x .packed) (x .tag) l (loop .at) (loop .left) (λ z. omega (arith, c .before .before .before .before .before .before .before .before .loop-test .taken)) read (step-is (bitsOf k) (x .packed) l m (extend-at k l m (x .packed) hl hm hp ∙ e))) ∙ loop .inv .1 .1,
+      ),
+    )
 
 add-members-enum-known-number : (t : ℕ) → add-members-lts.Need-enum-known-number (
   part-below t,
@@ -146,7 +164,18 @@ add-members-returns : (t : ℕ) → add-members-lts.Need-returns (
   extend-reads.Asked,
   extend-reads.Learnt,
 ) (add-members-at t) add-members.Post add-members-Inv-loop add-members-μ-loop
-add-members-returns t c = sym (add-off 64 (partFor 64 target64 (c .before .before .before .before .before .before .before .before .before .before .before .args .depth) (c .before .before .before .before .before .before .before .before .before .before .before .args .s .now)) (c .before .before .before .before .before .before .before .before .before .before .before .args .packed) (c .before .before .before .before .before .before .before .before .before .before .before .args .tag) (layoutOf (c .before .before .before .before .before .before .before .before .before .loop .own)) (c .before .before .before .before .before .before .before .before .before .loop .at) (c .before .before .before .before .before .before .before .before .before .loop .left) (λ z. omega (arith, c .before .before .before .before .before .before .before .before .loop-test .taken)) (sym (c .before .before .before .before .before .before .before .part .ensures .0) ∙ ap partSays (c .before .before .before .before .before .layout .given .1)) (step-is 64 (c .before .before .before .before .before .before .before .before .before .before .before .args .packed) (layoutOf (c .before .before .before .before .before .before .before .before .before .loop .own)) (layoutOf (c .before .before .before .before .before .layout .given .0 .0)) (told-by layoutSays (c .before .before .before .extend .ensures .0) (c .before .number .given .1)))) ∙ c .before .before .before .before .before .before .before .before .before .loop .inv .1
+add-members-returns t c =
+    let x = c .before .before .before .before .before .before .before .before .before .before .before .args in
+    let k = x .narrow in
+    let loop = c .before .before .before .before .before .before .before .before .before .loop in
+    let l = layoutOf (loop .own) in
+    let m = layoutOf (c .before .before .before .before .before .layout .given .0 .0) in
+    let read = sym (c .before .before .before .before .before .before .before .part .ensures .0) ∙ ap partSays (c .before .before .before .before .before .layout .given .1) in
+    let hl = loop .inv .1 .0 in
+    let hm = part-held k (x .s .now) (x .depth) (loop .at) read in
+    let hp = c .before .before .before .before .before .before .before .before .before .before .before .pre .1 .1 in
+    let e = told-by layoutSays (c .before .before .before .extend .ensures) (c .before .number .given .1) in
+    sym (add-off (bitsOf k) (partFor (bitsOf k) (targetOf k) (x .depth) (x .s .now)) (x .packed) (x .tag) l (loop .at) (loop .left) (λ z. omega (arith, c .before .before .before .before .before .before .before .before .loop-test .taken)) read (step-is (bitsOf k) (x .packed) l m (extend-at k l m (x .packed) hl hm hp ∙ e))) ∙ loop .inv .1 .1
 
 add-members-enum-known-number-2 : (t : ℕ) → add-members-lts.Need-enum-known-number-2 (
   part-below t,
@@ -162,7 +191,9 @@ add-members-returns-2 : (t : ℕ) → add-members-lts.Need-returns-2 (
   extend-reads.Asked,
   extend-reads.Learnt,
 ) (add-members-at t) add-members.Post add-members-Inv-loop add-members-μ-loop
-add-members-returns-2 t c = sym (add-stop 64 (partFor 64 target64 (c .before .before .before .before .before .before .before .args .depth) (c .before .before .before .before .before .before .before .args .s .now)) (c .before .before .before .before .before .before .before .args .packed) (c .before .before .before .before .before .before .before .args .tag) (layoutOf (c .before .before .before .before .before .loop .own)) (c .before .before .before .before .before .loop .at) (c .before .before .before .before .before .loop .left) (λ z. omega (arith, c .before .before .before .before .loop-test .taken)) (sym (c .before .before .before .part .ensures .0) ∙ ap partSays (c .before .number2 .given .1))) ∙ c .before .before .before .before .before .loop .inv .1
+add-members-returns-2 t c =
+    let x = c .before .before .before .before .before .before .before .args in
+    sym (add-stop (bitsOf (x .narrow)) (partFor (bitsOf (x .narrow)) (targetOf (x .narrow)) (x .depth) (x .s .now)) (x .packed) (x .tag) (layoutOf (c .before .before .before .before .before .loop .own)) (c .before .before .before .before .before .loop .at) (c .before .before .before .before .before .loop .left) (λ z. omega (arith, c .before .before .before .before .loop-test .taken)) (sym (c .before .before .before .part .ensures .0) ∙ ap partSays (c .before .number2 .given .1))) ∙ c .before .before .before .before .before .loop .inv .1 .1
 
 add-members-returns-3 : (t : ℕ) → add-members-lts.Need-returns-3 (
   part-below t,
@@ -170,11 +201,13 @@ add-members-returns-3 : (t : ℕ) → add-members-lts.Need-returns-3 (
   extend-reads.Asked,
   extend-reads.Learnt,
 ) (add-members-at t) add-members.Post add-members-Inv-loop add-members-μ-loop
-add-members-returns-3 t c = sym (add-none 64 (partFor 64 target64 (c .before .before .before .args .depth) (c .before .before .before .args .s .now)) (c .before .before .before .args .packed) (c .before .before .before .args .tag) (layoutOf (c .before .loop .own)) (c .before .loop .at) (c .before .loop .left) (omega (arith, c .loop-test .left))) ∙ c .before .loop .inv .1
+add-members-returns-3 t c =
+    let x = c .before .before .before .args in
+    sym (add-none (bitsOf (x .narrow)) (partFor (bitsOf (x .narrow)) (targetOf (x .narrow)) (x .depth) (x .s .now)) (x .packed) (x .tag) (layoutOf (c .before .loop .own)) (c .before .loop .at) (c .before .loop .left) (omega (arith, c .loop-test .left))) ∙ c .before .loop .inv .1 .1
 
-part-head-requires : (t : ℕ) → part-lts.Need-head-requires (
-  head-reads.Asked,
-  head-reads.Learnt,
+part-head-of-requires : (t : ℕ) → part-lts.Need-head-of-requires (
+  head-of-reads.Asked,
+  head-of-reads.Learnt,
   scalar-reads.Asked,
   scalar-reads.Learnt,
   at-tag-reads.Asked,
@@ -192,11 +225,11 @@ part-head-requires : (t : ℕ) → part-lts.Need-head-requires (
   slice-part-reads.Asked,
   slice-part-reads.Learnt,
 ) (part-at t) part.Post
-part-head-requires t c κs = search needs
+part-head-of-requires t c κs = search needs
 
 part-enum-known-code : (t : ℕ) → part-lts.Need-enum-known-code (
-  head-reads.Asked,
-  head-reads.Learnt,
+  head-of-reads.Asked,
+  head-of-reads.Learnt,
   scalar-reads.Asked,
   scalar-reads.Learnt,
   at-tag-reads.Asked,
@@ -217,8 +250,8 @@ part-enum-known-code : (t : ℕ) → part-lts.Need-enum-known-code (
 part-enum-known-code t c = search needs
 
 part-scalar-requires : (t : ℕ) → part-lts.Need-scalar-requires (
-  head-reads.Asked,
-  head-reads.Learnt,
+  head-of-reads.Asked,
+  head-of-reads.Learnt,
   scalar-reads.Asked,
   scalar-reads.Learnt,
   at-tag-reads.Asked,
@@ -239,8 +272,8 @@ part-scalar-requires : (t : ℕ) → part-lts.Need-scalar-requires (
 part-scalar-requires t c κs = search needs
 
 part-add-at-tag : (t : ℕ) → part-lts.Need-add-at-tag (
-  head-reads.Asked,
-  head-reads.Learnt,
+  head-of-reads.Asked,
+  head-of-reads.Learnt,
   scalar-reads.Asked,
   scalar-reads.Learnt,
   at-tag-reads.Asked,
@@ -258,11 +291,13 @@ part-add-at-tag : (t : ℕ) → part-lts.Need-add-at-tag (
   slice-part-reads.Asked,
   slice-part-reads.Learnt,
 ) (part-at t) part.Post
-part-add-at-tag t c = omega (arith, head-room (c .before .before .before .before .before .before .args .s .now) (c .before .before .before .before .before .before .args .at) (c .before .before .before .before .before .before .args .depth) (sym (c .before .before .before .before .head .ensures .0) ∙ ap headSays (c .before .before .code .given .1)))
+part-add-at-tag t c =
+    let x = c .before .before .before .before .before .before .args in
+    omega (arith, head-room (bitsOf (x .narrow)) (x .s .now) (x .at) (x .depth) (sym (c .before .before .before .before .head-of .ensures .0) ∙ ap headSays (c .before .before .code .given .1)))
 
 part-at-tag-requires : (t : ℕ) → part-lts.Need-at-tag-requires (
-  head-reads.Asked,
-  head-reads.Learnt,
+  head-of-reads.Asked,
+  head-of-reads.Learnt,
   scalar-reads.Asked,
   scalar-reads.Learnt,
   at-tag-reads.Asked,
@@ -283,8 +318,8 @@ part-at-tag-requires : (t : ℕ) → part-lts.Need-at-tag-requires (
 part-at-tag-requires t c κs = search needs
 
 part-enum-known-count : (t : ℕ) → part-lts.Need-enum-known-count (
-  head-reads.Asked,
-  head-reads.Learnt,
+  head-of-reads.Asked,
+  head-of-reads.Learnt,
   scalar-reads.Asked,
   scalar-reads.Learnt,
   at-tag-reads.Asked,
@@ -305,8 +340,8 @@ part-enum-known-count : (t : ℕ) → part-lts.Need-enum-known-count (
 part-enum-known-count t c = search needs
 
 part-add-part : (t : ℕ) → part-lts.Need-add-part (
-  head-reads.Asked,
-  head-reads.Learnt,
+  head-of-reads.Asked,
+  head-of-reads.Learnt,
   scalar-reads.Asked,
   scalar-reads.Learnt,
   at-tag-reads.Asked,
@@ -324,11 +359,13 @@ part-add-part : (t : ℕ) → part-lts.Need-add-part (
   slice-part-reads.Asked,
   slice-part-reads.Learnt,
 ) (part-at t) part.Post
-part-add-part t c = omega (arith, head-room (c .before .before .before .before .before .args .s .now) (c .before .before .before .before .before .args .at) (c .before .before .before .before .before .args .depth) (sym (c .before .before .before .head .ensures .0) ∙ ap headSays (c .before .count .given .1)))
+part-add-part t c =
+    let x = c .before .before .before .before .before .args in
+    omega (arith, head-room (bitsOf (x .narrow)) (x .s .now) (x .at) (x .depth) (sym (c .before .before .before .head-of .ensures .0) ∙ ap headSays (c .before .count .given .1)))
 
 part-add-part-2 : (t : ℕ) → part-lts.Need-add-part-2 (
-  head-reads.Asked,
-  head-reads.Learnt,
+  head-of-reads.Asked,
+  head-of-reads.Learnt,
   scalar-reads.Asked,
   scalar-reads.Learnt,
   at-tag-reads.Asked,
@@ -346,11 +383,13 @@ part-add-part-2 : (t : ℕ) → part-lts.Need-add-part-2 (
   slice-part-reads.Asked,
   slice-part-reads.Learnt,
 ) (part-at t) part.Post
-part-add-part-2 t c = omega (arith, head-room (c .before .before .before .before .before .args .s .now) (c .before .before .before .before .before .args .at) (c .before .before .before .before .before .args .depth) (sym (c .before .before .before .head .ensures .0) ∙ ap headSays (c .before .count .given .1)))
+part-add-part-2 t c =
+    let x = c .before .before .before .before .before .args in
+    omega (arith, head-room (bitsOf (x .narrow)) (x .s .now) (x .at) (x .depth) (sym (c .before .before .before .head-of .ensures .0) ∙ ap headSays (c .before .count .given .1)))
 
 part-sub-part : (t : ℕ) → part-lts.Need-sub-part (
-  head-reads.Asked,
-  head-reads.Learnt,
+  head-of-reads.Asked,
+  head-of-reads.Learnt,
   scalar-reads.Asked,
   scalar-reads.Learnt,
   at-tag-reads.Asked,
@@ -368,11 +407,13 @@ part-sub-part : (t : ℕ) → part-lts.Need-sub-part (
   slice-part-reads.Asked,
   slice-part-reads.Learnt,
 ) (part-at t) part.Post
-part-sub-part t c = head-room (c .before .before .before .before .before .args .s .now) (c .before .before .before .before .before .args .at) (c .before .before .before .before .before .args .depth) (sym (c .before .before .before .head .ensures .0) ∙ ap headSays (c .before .count .given .1)) .0
+part-sub-part t c =
+    let x = c .before .before .before .before .before .args in
+    head-room (bitsOf (x .narrow)) (x .s .now) (x .at) (x .depth) (sym (c .before .before .before .head-of .ensures .0) ∙ ap headSays (c .before .count .given .1)) .0
 
 part-part-requires : (t : ℕ) → part-lts.Need-part-requires (
-  head-reads.Asked,
-  head-reads.Learnt,
+  head-of-reads.Asked,
+  head-of-reads.Learnt,
   scalar-reads.Asked,
   scalar-reads.Learnt,
   at-tag-reads.Asked,
@@ -390,11 +431,13 @@ part-part-requires : (t : ℕ) → part-lts.Need-part-requires (
   slice-part-reads.Asked,
   slice-part-reads.Learnt,
 ) (part-at t) part.Post
-part-part-requires t c κs = (omega (arith, c .before .before .before .before .before .pre .0, head-room (c .before .before .before .before .before .args .s .now) (c .before .before .before .before .before .args .at) (c .before .before .before .before .before .args .depth) (sym (c .before .before .before .head .ensures .0) ∙ ap headSays (c .before .count .given .1))), tt)
+part-part-requires t c κs =
+    let x = c .before .before .before .before .before .args in
+    (omega (arith, c .before .before .before .before .before .pre .0, head-room (bitsOf (x .narrow)) (x .s .now) (x .at) (x .depth) (sym (c .before .before .before .head-of .ensures .0) ∙ ap headSays (c .before .count .given .1))), tt)
 
 part-array-part-requires : (t : ℕ) → part-lts.Need-array-part-requires (
-  head-reads.Asked,
-  head-reads.Learnt,
+  head-of-reads.Asked,
+  head-of-reads.Learnt,
   scalar-reads.Asked,
   scalar-reads.Learnt,
   at-tag-reads.Asked,
@@ -415,8 +458,8 @@ part-array-part-requires : (t : ℕ) → part-lts.Need-array-part-requires (
 part-array-part-requires t c κs = search needs
 
 part-enum-known-align : (t : ℕ) → part-lts.Need-enum-known-align (
-  head-reads.Asked,
-  head-reads.Learnt,
+  head-of-reads.Asked,
+  head-of-reads.Learnt,
   scalar-reads.Asked,
   scalar-reads.Learnt,
   at-tag-reads.Asked,
@@ -437,8 +480,8 @@ part-enum-known-align : (t : ℕ) → part-lts.Need-enum-known-align (
 part-enum-known-align t c = search needs
 
 part-new-zst-requires : (t : ℕ) → part-lts.Need-new-zst-requires (
-  head-reads.Asked,
-  head-reads.Learnt,
+  head-of-reads.Asked,
+  head-of-reads.Learnt,
   scalar-reads.Asked,
   scalar-reads.Learnt,
   at-tag-reads.Asked,
@@ -459,8 +502,8 @@ part-new-zst-requires : (t : ℕ) → part-lts.Need-new-zst-requires (
 part-new-zst-requires t c κs = search needs
 
 part-enum-known-empty : (t : ℕ) → part-lts.Need-enum-known-empty (
-  head-reads.Asked,
-  head-reads.Learnt,
+  head-of-reads.Asked,
+  head-of-reads.Learnt,
   scalar-reads.Asked,
   scalar-reads.Learnt,
   at-tag-reads.Asked,
@@ -481,8 +524,8 @@ part-enum-known-empty : (t : ℕ) → part-lts.Need-enum-known-empty (
 part-enum-known-empty t c = search needs
 
 part-sub-add-members : (t : ℕ) → part-lts.Need-sub-add-members (
-  head-reads.Asked,
-  head-reads.Learnt,
+  head-of-reads.Asked,
+  head-of-reads.Learnt,
   scalar-reads.Asked,
   scalar-reads.Learnt,
   at-tag-reads.Asked,
@@ -500,11 +543,13 @@ part-sub-add-members : (t : ℕ) → part-lts.Need-sub-add-members (
   slice-part-reads.Asked,
   slice-part-reads.Learnt,
 ) (part-at t) part.Post
-part-sub-add-members t c = head-room (c .before .before .before .before .before .before .before .before .before .args .s .now) (c .before .before .before .before .before .before .before .before .before .args .at) (c .before .before .before .before .before .before .before .before .before .args .depth) (sym (c .before .before .before .before .before .before .before .head .ensures .0) ∙ ap headSays (c .before .before .before .before .before .align .given .1)) .0
+part-sub-add-members t c =
+    let x = c .before .before .before .before .before .before .before .before .before .args in
+    head-room (bitsOf (x .narrow)) (x .s .now) (x .at) (x .depth) (sym (c .before .before .before .before .before .before .before .head-of .ensures .0) ∙ ap headSays (c .before .before .before .before .before .align .given .1)) .0
 
 part-add-members-requires : (t : ℕ) → part-lts.Need-add-members-requires (
-  head-reads.Asked,
-  head-reads.Learnt,
+  head-of-reads.Asked,
+  head-of-reads.Learnt,
   scalar-reads.Asked,
   scalar-reads.Learnt,
   at-tag-reads.Asked,
@@ -522,11 +567,17 @@ part-add-members-requires : (t : ℕ) → part-lts.Need-add-members-requires (
   slice-part-reads.Asked,
   slice-part-reads.Learnt,
 ) (part-at t) part.Post
-part-add-members-requires t c κs = (omega (arith, c .before .before .before .before .before .before .before .before .before .pre .0, head-room (c .before .before .before .before .before .before .before .before .before .args .s .now) (c .before .before .before .before .before .before .before .before .before .args .at) (c .before .before .before .before .before .before .before .before .before .args .depth) (sym (c .before .before .before .before .before .before .before .head .ensures .0) ∙ ap headSays (c .before .before .before .before .before .align .given .1))), tt)
+part-add-members-requires t c κs =
+    let x = c .before .before .before .before .before .before .before .before .before .args in
+    let e = sym (c .before .before .before .before .before .before .before .head-of .ensures .0) ∙ ap headSays (c .before .before .before .before .before .align .given .1) in
+    let h = head-held (x .narrow) (x .s .now) (x .depth) (x .at) e in (
+      omega (arith, c .before .before .before .before .before .before .before .before .before .pre .0, head-room (bitsOf (x .narrow)) (x .s .now) (x .at) (x .depth) e),
+      (zst-held (x .narrow) (c .before .before .before .before .before .align .given .0 .0) (h .0) (told-by layoutSays (c .before .before .before .new-zst .ensures .0) (c .before .empty .given .1)), h .1),
+    )
 
 part-struct-part-requires : (t : ℕ) → part-lts.Need-struct-part-requires (
-  head-reads.Asked,
-  head-reads.Learnt,
+  head-of-reads.Asked,
+  head-of-reads.Learnt,
   scalar-reads.Asked,
   scalar-reads.Learnt,
   at-tag-reads.Asked,
@@ -547,8 +598,8 @@ part-struct-part-requires : (t : ℕ) → part-lts.Need-struct-part-requires (
 part-struct-part-requires t c κs = search needs
 
 part-enum-known-number : (t : ℕ) → part-lts.Need-enum-known-number (
-  head-reads.Asked,
-  head-reads.Learnt,
+  head-of-reads.Asked,
+  head-of-reads.Learnt,
   scalar-reads.Asked,
   scalar-reads.Learnt,
   at-tag-reads.Asked,
@@ -569,8 +620,8 @@ part-enum-known-number : (t : ℕ) → part-lts.Need-enum-known-number (
 part-enum-known-number t c = search needs
 
 part-enum-told : (t : ℕ) → part-lts.Need-enum-told (
-  head-reads.Asked,
-  head-reads.Learnt,
+  head-of-reads.Asked,
+  head-of-reads.Learnt,
   scalar-reads.Asked,
   scalar-reads.Learnt,
   at-tag-reads.Asked,
@@ -591,8 +642,8 @@ part-enum-told : (t : ℕ) → part-lts.Need-enum-told (
 part-enum-told t c = search needs
 
 part-add-part-3 : (t : ℕ) → part-lts.Need-add-part-3 (
-  head-reads.Asked,
-  head-reads.Learnt,
+  head-of-reads.Asked,
+  head-of-reads.Learnt,
   scalar-reads.Asked,
   scalar-reads.Learnt,
   at-tag-reads.Asked,
@@ -610,11 +661,13 @@ part-add-part-3 : (t : ℕ) → part-lts.Need-add-part-3 (
   slice-part-reads.Asked,
   slice-part-reads.Learnt,
 ) (part-at t) part.Post
-part-add-part-3 t c = omega (arith, head-room (c .before .before .before .before .args .s .now) (c .before .before .before .before .args .at) (c .before .before .before .before .args .depth) (sym (c .before .before .head .ensures .0) ∙ ap headSays (c .enum-told .given .1)))
+part-add-part-3 t c =
+    let x = c .before .before .before .before .args in
+    omega (arith, head-room (bitsOf (x .narrow)) (x .s .now) (x .at) (x .depth) (sym (c .before .before .head-of .ensures .0) ∙ ap headSays (c .enum-told .given .1)))
 
 part-sub-part-2 : (t : ℕ) → part-lts.Need-sub-part-2 (
-  head-reads.Asked,
-  head-reads.Learnt,
+  head-of-reads.Asked,
+  head-of-reads.Learnt,
   scalar-reads.Asked,
   scalar-reads.Learnt,
   at-tag-reads.Asked,
@@ -632,11 +685,13 @@ part-sub-part-2 : (t : ℕ) → part-lts.Need-sub-part-2 (
   slice-part-reads.Asked,
   slice-part-reads.Learnt,
 ) (part-at t) part.Post
-part-sub-part-2 t c = head-room (c .before .before .before .before .args .s .now) (c .before .before .before .before .args .at) (c .before .before .before .before .args .depth) (sym (c .before .before .head .ensures .0) ∙ ap headSays (c .enum-told .given .1)) .0
+part-sub-part-2 t c =
+    let x = c .before .before .before .before .args in
+    head-room (bitsOf (x .narrow)) (x .s .now) (x .at) (x .depth) (sym (c .before .before .head-of .ensures .0) ∙ ap headSays (c .enum-told .given .1)) .0
 
 part-part-requires-2 : (t : ℕ) → part-lts.Need-part-requires-2 (
-  head-reads.Asked,
-  head-reads.Learnt,
+  head-of-reads.Asked,
+  head-of-reads.Learnt,
   scalar-reads.Asked,
   scalar-reads.Learnt,
   at-tag-reads.Asked,
@@ -654,11 +709,13 @@ part-part-requires-2 : (t : ℕ) → part-lts.Need-part-requires-2 (
   slice-part-reads.Asked,
   slice-part-reads.Learnt,
 ) (part-at t) part.Post
-part-part-requires-2 t c κs = (omega (arith, c .before .before .before .before .pre .0, head-room (c .before .before .before .before .args .s .now) (c .before .before .before .before .args .at) (c .before .before .before .before .args .depth) (sym (c .before .before .head .ensures .0) ∙ ap headSays (c .enum-told .given .1))), tt)
+part-part-requires-2 t c κs =
+    let x = c .before .before .before .before .args in
+    (omega (arith, c .before .before .before .before .pre .0, head-room (bitsOf (x .narrow)) (x .s .now) (x .at) (x .depth) (sym (c .before .before .head-of .ensures .0) ∙ ap headSays (c .enum-told .given .1))), tt)
 
 part-slice-part-requires : (t : ℕ) → part-lts.Need-slice-part-requires (
-  head-reads.Asked,
-  head-reads.Learnt,
+  head-of-reads.Asked,
+  head-of-reads.Learnt,
   scalar-reads.Asked,
   scalar-reads.Learnt,
   at-tag-reads.Asked,
@@ -679,8 +736,8 @@ part-slice-part-requires : (t : ℕ) → part-lts.Need-slice-part-requires (
 part-slice-part-requires t c κs = search needs
 
 part-enum-known-number-2 : (t : ℕ) → part-lts.Need-enum-known-number-2 (
-  head-reads.Asked,
-  head-reads.Learnt,
+  head-of-reads.Asked,
+  head-of-reads.Learnt,
   scalar-reads.Asked,
   scalar-reads.Learnt,
   at-tag-reads.Asked,
@@ -701,8 +758,8 @@ part-enum-known-number-2 : (t : ℕ) → part-lts.Need-enum-known-number-2 (
 part-enum-known-number-2 t c = search needs
 
 part-returns : (t : ℕ) → part-lts.Need-returns (
-  head-reads.Asked,
-  head-reads.Learnt,
+  head-of-reads.Asked,
+  head-of-reads.Learnt,
   scalar-reads.Asked,
   scalar-reads.Learnt,
   at-tag-reads.Asked,
@@ -721,13 +778,17 @@ part-returns : (t : ℕ) → part-lts.Need-returns (
   slice-part-reads.Learnt,
 ) (part-at t) part.Post
 part-returns t c =
-    part-told 64 target64 scalars64 (c .before .before .before .before .before .before .before .args .depth) (c .before .before .before .before .before .before .before .args .s .now) (c .before .before .before .before .before .before .before .args .at)
-    (c .at-tag .ensures ∙ ap (λ (o : Outcome Layout). atPlace (c .before .before .before .before .before .before .before .args .at) o (λ l. reached (l, c .before .before .before .before .before .before .before .args .at + 1))) (c .before .scalar .ensures .0 ∙ code-scalar target64 (c .before .before .before .code .given .0 .0) (head-room (c .before .before .before .before .before .before .before .args .s .now) (c .before .before .before .before .before .before .before .args .at) (c .before .before .before .before .before .before .before .args .depth) (sym (c .before .before .before .before .before .head .ensures .0) ∙ ap headSays (c .before .before .before .code .given .1)) .1))
-    ∙ sym (by-head 64 target64 (c .before .before .before .before .before .before .before .args .depth) (c .before .before .before .before .before .before .before .args .s .now) (c .before .before .before .before .before .before .before .args .at) (sym (c .before .before .before .before .before .head .ensures .0) ∙ ap headSays (c .before .before .before .code .given .1))))
+    let x = c .before .before .before .before .before .before .before .args in
+    let k = x .narrow in
+    let e = sym (c .before .before .before .before .before .head-of .ensures .0) ∙ ap headSays (c .before .before .before .code .given .1) in
+    part-told (bitsOf k) (targetOf k) (scalars-at k) (x .depth) (x .s .now) (x .at)
+    (c .at-tag .ensures
+    ∙ ap (λ (o : Outcome Layout). atPlace (x .at) o (λ l. reached (l, x .at + 1))) (c .before .scalar .ensures ∙ code-scalar (targetOf k) (c .before .before .before .code .given .0 .0) (head-room (bitsOf k) (x .s .now) (x .at) (x .depth) e .1))
+    ∙ sym (by-head (bitsOf k) (targetOf k) (x .depth) (x .s .now) (x .at) e))
 
 part-returns-2 : (t : ℕ) → part-lts.Need-returns-2 (
-  head-reads.Asked,
-  head-reads.Learnt,
+  head-of-reads.Asked,
+  head-of-reads.Learnt,
   scalar-reads.Asked,
   scalar-reads.Learnt,
   at-tag-reads.Asked,
@@ -746,13 +807,19 @@ part-returns-2 : (t : ℕ) → part-lts.Need-returns-2 (
   slice-part-reads.Learnt,
 ) (part-at t) part.Post
 part-returns-2 t c =
-    part-told 64 target64 scalars64 (c .before .before .before .before .before .before .before .args .depth) (c .before .before .before .before .before .before .before .args .s .now) (c .before .before .before .before .before .before .before .args .at)
-    (c .array-part .ensures ∙ ap (λ (p : Placed Part). goOn p (made (c .before .before .before .before .before .before .before .args .at) (λ l. arrayFor 64 l (c .before .before .before .count .given .0 .0)))) (c .before .part .ensures .0)
-    ∙ sym (by-head 64 target64 (c .before .before .before .before .before .before .before .args .depth) (c .before .before .before .before .before .before .before .args .s .now) (c .before .before .before .before .before .before .before .args .at) (sym (c .before .before .before .before .before .head .ensures .0) ∙ ap headSays (c .before .before .before .count .given .1))))
+    let x = c .before .before .before .before .before .before .before .args in
+    let k = x .narrow in
+    let e = sym (c .before .before .before .before .before .head-of .ensures .0) ∙ ap headSays (c .before .before .before .count .given .1) in
+    let n = c .before .before .before .count .given .0 .0 in
+    part-told (bitsOf k) (targetOf k) (scalars-at k) (x .depth) (x .s .now) (x .at)
+    (c .array-part .ensures
+    ∙ made-alike (partSays (c .before .part .result)) (x .at) (λ l. widthArray k l n) (λ l. arrayFor (bitsOf k) l n) (λ l j f. sym (array-at k l n (part-held k (x .s .now) (x .depth - 1) (x .at + 1 + 4) (sym (c .before .part .ensures .0) ∙ f))))
+    ∙ ap (λ (p : Placed Part). goOn p (made (x .at) (λ l. arrayFor (bitsOf k) l n))) (c .before .part .ensures .0)
+    ∙ sym (by-head (bitsOf k) (targetOf k) (x .depth) (x .s .now) (x .at) e))
 
 part-returns-3 : (t : ℕ) → part-lts.Need-returns-3 (
-  head-reads.Asked,
-  head-reads.Learnt,
+  head-of-reads.Asked,
+  head-of-reads.Learnt,
   scalar-reads.Asked,
   scalar-reads.Learnt,
   at-tag-reads.Asked,
@@ -771,13 +838,23 @@ part-returns-3 : (t : ℕ) → part-lts.Need-returns-3 (
   slice-part-reads.Learnt,
 ) (part-at t) part.Post
 part-returns-3 t c =
-    part-told 64 target64 scalars64 (c .before .before .before .before .before .before .before .before .before .before .before .args .depth) (c .before .before .before .before .before .before .before .before .before .before .before .args .s .now) (c .before .before .before .before .before .before .before .before .before .before .before .args .at)
-    (c .struct-part .ensures ∙ ap (λ (p : Placed Part). goOn p (closed 64 (c .before .before .before .before .before .before .before .before .before .before .before .args .at))) (c .before .add-members .ensures)
-    ∙ sym (by-head 64 target64 (c .before .before .before .before .before .before .before .before .before .before .before .args .depth) (c .before .before .before .before .before .before .before .before .before .before .before .args .s .now) (c .before .before .before .before .before .before .before .before .before .before .before .args .at) (sym (c .before .before .before .before .before .before .before .before .before .head .ensures .0) ∙ ap headSays (c .before .before .before .before .before .before .before .align .given .1)) ∙ body-on 64 (partFor 64 target64 (c .before .before .before .before .before .before .before .before .before .before .before .args .depth - 1) (c .before .before .before .before .before .before .before .before .before .before .before .args .s .now)) (c .before .before .before .before .before .before .before .before .before .before .before .args .at) (c .before .before .before .before .before .before .before .align .given .0 .1 .1 .1 .0) (c .before .before .before .before .before .before .before .align .given .0 .0) (c .before .before .before .before .before .before .before .align .given .0 .1 .0) (c .before .before .before .before .before .before .before .align .given .0 .1 .1 .0) (told-by layoutSays (c .before .before .before .before .before .new-zst .ensures .0) (c .before .before .before .empty .given .1))))
+    let x = c .before .before .before .before .before .before .before .before .before .before .before .args in
+    let k = x .narrow in
+    let e = sym (c .before .before .before .before .before .before .before .before .before .head-of .ensures .0) ∙ ap headSays (c .before .before .before .before .before .before .before .align .given .1) in
+    let g = c .before .before .before .before .before .before .before .align .given .0 in
+    let h = head-held k (x .s .now) (x .depth) (x .at) e in
+    let z = told-by layoutSays (c .before .before .before .before .before .new-zst .ensures .0) (c .before .before .before .empty .given .1) in
+    let l = layoutOf (c .before .before .before .empty .given .0 .0) in
+    part-told (bitsOf k) (targetOf k) (scalars-at k) (x .depth) (x .s .now) (x .at)
+    (c .struct-part .ensures
+    ∙ made-alike (partSays (c .before .add-members .result)) (x .at) (widthPad k) (padFor (bitsOf k)) (λ r j f. sym (pad-at k r (added-held k (x .s .now) (x .depth - 1) (g .1 .0) (x .at) (g .1 .1 .0) l (g .1 .1 .1 .0) (zst-held k (g .0) (h .0) z) (h .1) (sym (c .before .add-members .ensures) ∙ f))))
+    ∙ ap (λ (p : Placed Part). goOn p (made (x .at) (padFor (bitsOf k)))) (c .before .add-members .ensures)
+    ∙ sym (by-head (bitsOf k) (targetOf k) (x .depth) (x .s .now) (x .at) e
+    ∙ body-on (bitsOf k) (partFor (bitsOf k) (targetOf k) (x .depth - 1) (x .s .now)) (x .at) (g .1 .1 .1 .0) (g .0) (g .1 .0) (g .1 .1 .0) (zst-at k (g .0) (h .0) ∙ z)))
 
 part-returns-4 : (t : ℕ) → part-lts.Need-returns-4 (
-  head-reads.Asked,
-  head-reads.Learnt,
+  head-of-reads.Asked,
+  head-of-reads.Learnt,
   scalar-reads.Asked,
   scalar-reads.Learnt,
   at-tag-reads.Asked,
@@ -796,12 +873,18 @@ part-returns-4 : (t : ℕ) → part-lts.Need-returns-4 (
   slice-part-reads.Learnt,
 ) (part-at t) part.Post
 part-returns-4 t c =
-    part-told 64 target64 scalars64 (c .before .before .before .before .before .before .before .before .before .args .depth) (c .before .before .before .before .before .before .before .before .before .args .s .now) (c .before .before .before .before .before .before .before .before .before .args .at)
-    (sym (by-head 64 target64 (c .before .before .before .before .before .before .before .before .before .args .depth) (c .before .before .before .before .before .before .before .before .before .args .s .now) (c .before .before .before .before .before .before .before .before .before .args .at) (sym (c .before .before .before .before .before .before .before .head .ensures .0) ∙ ap headSays (c .before .before .before .before .before .align .given .1)) ∙ body-off 64 (partFor 64 target64 (c .before .before .before .before .before .before .before .before .before .args .depth - 1) (c .before .before .before .before .before .before .before .before .before .args .s .now)) (c .before .before .before .before .before .before .before .before .before .args .at) (c .before .before .before .before .before .align .given .0 .1 .1 .1 .0) (c .before .before .before .before .before .align .given .0 .0) (c .before .before .before .before .before .align .given .0 .1 .0) (c .before .before .before .before .before .align .given .0 .1 .1 .0) (told-by layoutSays (c .before .before .before .new-zst .ensures .0) (c .before .number .given .1))))
+    let x = c .before .before .before .before .before .before .before .before .before .args in
+    let k = x .narrow in
+    let e = sym (c .before .before .before .before .before .before .before .head-of .ensures .0) ∙ ap headSays (c .before .before .before .before .before .align .given .1) in
+    let g = c .before .before .before .before .before .align .given .0 in
+    let z = told-by layoutSays (c .before .before .before .new-zst .ensures .0) (c .before .number .given .1) in
+    part-told (bitsOf k) (targetOf k) (scalars-at k) (x .depth) (x .s .now) (x .at)
+    (sym (by-head (bitsOf k) (targetOf k) (x .depth) (x .s .now) (x .at) e
+    ∙ body-off (bitsOf k) (partFor (bitsOf k) (targetOf k) (x .depth - 1) (x .s .now)) (x .at) (g .1 .1 .1 .0) (g .0) (g .1 .0) (g .1 .1 .0) (zst-at k (g .0) (head-held k (x .s .now) (x .depth) (x .at) e .0) ∙ z)))
 
 part-returns-5 : (t : ℕ) → part-lts.Need-returns-5 (
-  head-reads.Asked,
-  head-reads.Learnt,
+  head-of-reads.Asked,
+  head-of-reads.Learnt,
   scalar-reads.Asked,
   scalar-reads.Learnt,
   at-tag-reads.Asked,
@@ -820,13 +903,18 @@ part-returns-5 : (t : ℕ) → part-lts.Need-returns-5 (
   slice-part-reads.Learnt,
 ) (part-at t) part.Post
 part-returns-5 t c =
-    part-told 64 target64 scalars64 (c .before .before .before .before .before .before .args .depth) (c .before .before .before .before .before .before .args .s .now) (c .before .before .before .before .before .before .args .at)
-    (c .slice-part .ensures ∙ ap (λ (p : Placed Part). goOn p (made (c .before .before .before .before .before .before .args .at) (sliceOfFor 64))) (c .before .part2 .ensures .0)
-    ∙ sym (by-head 64 target64 (c .before .before .before .before .before .before .args .depth) (c .before .before .before .before .before .before .args .s .now) (c .before .before .before .before .before .before .args .at) (sym (c .before .before .before .before .head .ensures .0) ∙ ap headSays (c .before .before .enum-told .given .1))))
+    let x = c .before .before .before .before .before .before .args in
+    let k = x .narrow in
+    let e = sym (c .before .before .before .before .head-of .ensures .0) ∙ ap headSays (c .before .before .enum-told .given .1) in
+    part-told (bitsOf k) (targetOf k) (scalars-at k) (x .depth) (x .s .now) (x .at)
+    (c .slice-part .ensures
+    ∙ made-alike (partSays (c .before .part2 .result)) (x .at) (sliceOfFor 64) (sliceOfFor (bitsOf k)) (λ l j f. sym (slice-at k l (part-held k (x .s .now) (x .depth - 1) (x .at + 1) (sym (c .before .part2 .ensures .0) ∙ f))))
+    ∙ ap (λ (p : Placed Part). goOn p (made (x .at) (sliceOfFor (bitsOf k)))) (c .before .part2 .ensures .0)
+    ∙ sym (by-head (bitsOf k) (targetOf k) (x .depth) (x .s .now) (x .at) e))
 
 part-returns-6 : (t : ℕ) → part-lts.Need-returns-6 (
-  head-reads.Asked,
-  head-reads.Learnt,
+  head-of-reads.Asked,
+  head-of-reads.Learnt,
   scalar-reads.Asked,
   scalar-reads.Learnt,
   at-tag-reads.Asked,
@@ -845,8 +933,11 @@ part-returns-6 : (t : ℕ) → part-lts.Need-returns-6 (
   slice-part-reads.Learnt,
 ) (part-at t) part.Post
 part-returns-6 t c =
-    part-told 64 target64 scalars64 (c .before .before .before .before .before .args .depth) (c .before .before .before .before .before .args .s .now) (c .before .before .before .before .before .args .at)
-    (sym (by-head 64 target64 (c .before .before .before .before .before .args .depth) (c .before .before .before .before .before .args .s .now) (c .before .before .before .before .before .args .at) (sym (c .before .before .before .head .ensures .0) ∙ ap headSays (c .before .number2 .given .1))))
+    let x = c .before .before .before .before .before .args in
+    let k = x .narrow in
+    let e = sym (c .before .before .before .head-of .ensures .0) ∙ ap headSays (c .before .number2 .given .1) in
+    part-told (bitsOf k) (targetOf k) (scalars-at k) (x .depth) (x .s .now) (x .at)
+    (sym (by-head (bitsOf k) (targetOf k) (x .depth) (x .s .now) (x .at) e))
 
 pub +add-members+part-spec : {M : Type 1} → statement M
 +add-members+part-spec = close μ-add-members μ-part (λ t. add-members-lts.spec (
@@ -873,8 +964,8 @@ pub +add-members+part-spec : {M : Type 1} → statement M
     (add-members-returns-2 t)
     (add-members-returns-3 t))
     λ t. part-lts.spec (
-      head-reads.Asked,
-      head-reads.Learnt,
+      head-of-reads.Asked,
+      head-of-reads.Learnt,
       scalar-reads.Asked,
       scalar-reads.Learnt,
       at-tag-reads.Asked,
@@ -894,7 +985,7 @@ pub +add-members+part-spec : {M : Type 1} → statement M
     )
     (part-at t)
     part.Post
-    (part-head-requires t)
+    (part-head-of-requires t)
     (part-enum-known-code t)
     (part-scalar-requires t)
     (part-add-at-tag t)

@@ -1,5 +1,5 @@
--- `describe_reader::new` meets its contract: a walk of its MIR, by hand. A `Reader` is made of the slice passed and 0, in the result's local.
--- A `&[u8]` is Copy, so what it owns is had twice: once for src at exit, and once inside the result, beside the facts of at.
+-- `describe_reader::new` meets its contract: a walk of its MIR, by hand. A `Reader` is made of the width and the slice passed and 0, in the result's local.
+-- A `&[u8]` is Copy, so what it owns is had twice: once for the description at exit, and once inside the result, beside the facts of the width and of the place.
 -- Assumes nothing.
 use mathlib.Core.Path.{refl}
 use Prim.Native.Nat.{ℕ}
@@ -29,12 +29,17 @@ use denote.Ref.{RefT, NamedLft}
 use denote.Signature.{plain, namedLft}
 use denote.Slice.{sliceVal, ShrSlice, slice-vals, shr-slice-tells, shr-slice-lawful, shr-slice-copy}
 use denote.Steps.{nothing, owned}
+use denote.Enum.Laws as EL
+use denote.Struct.Laws as LL
 use denote.Struct.Rest.{own-shut}
 use denote.Triple.Entry.{onEntry}
 use denote.Triple.Spec.{Meets, tripleOf}
 use denote.Triple.Table.{entered}
-use denote.Triple.Walked.{says, Stays, stay-none-slice, walkOf, goes-none-slice, Walks, ends-at, walked, walk-meets}
+use denote.Triple.Walked.{says, Stays, stay-none, stay-none-slice, walkOf, goes-none, goes-none-slice, Walks, ends-at, walked, walk-meets}
 use denote.Exit.{yes}
+use Rattle.width.specs.declared.Width.{Width}
+use Rattle.width.proofs.Width as E
+use Rattle.width.proofs.Width.Laws as E′
 use Rattle.describe_reader.specs.declared.Reader.{Reader}
 use Rattle.describe_reader.proofs.Reader as T
 use Rattle.describe_reader.proofs.Reader.Laws as T′
@@ -44,52 +49,62 @@ use Rattle.describe_reader.proofs.new.Statement as stated
 use Rattle.describe_reader.proofs.new.Code as code
 
 abbrev stayed : Stays (new.ended .signature .params) (new.ended .kept)
-stayed = (stay-none-slice (0 ∷ []) tt (plain (λ _. u8)) yes, tt)
+stayed = (stay-none (λ _. E.the-row) yes, (stay-none-slice (0 ∷ []) tt (plain (λ _. u8)) yes, tt))
 
-module _ {M : Type 1} (𝓤 : URA M) (H : Heap 𝓤) (A : Atoms 𝓤) (W : Given 𝓤 H A) (mem : Memory → SProp 𝓤) (run : Routine → Fun 𝓤) (κ : Lft) (q : Share) (s : RefT (List ℕ)) where
+module _ {M : Type 1} (𝓤 : URA M) (H : Heap 𝓤) (A : Atoms 𝓤) (W : Given 𝓤 H A) (mem : Memory → SProp 𝓤) (run : Routine → Fun 𝓤) (κ : Lft) (q : Share) (w : Width) (s : RefT (List ℕ)) where
   abbrev α : NamedLft
   α = namedLft 1 0 tt (κ, tt)
 
-  -- the machine value that s has
+  -- the machine values that w and s have, and that of the struct
+  abbrev wv : Val
+  wv = EL.val E.the-type E′.the-laws w
+
   abbrev v : Val
   v = sliceVal (s .ptr) (length (s .now))
 
   abbrev made : Reader
-  made = record { description = s; place = 0 }
+  made = record { width = w; description = s; place = 0 }
 
-  abbrev at : List Val × Unit {0}
-  at = (v ∷ [], tt)
+  abbrev mach : Val
+  mach = LL.val (T.the-type α) (T′.the-laws α) made
+
+  abbrev at : List Val × (List Val × Unit {0})
+  at = (wv ∷ [], (v ∷ [], tt))
 
   abbrev Post : Val → SProp 𝓤
-  Post = walkOf 𝓤 H A new.ended stayed (new.clauses 𝓤 H A mem run) .post (((κ, tt), (q, tt), tt, (s, tt), at), tt)
+  Post = walkOf 𝓤 H A new.ended stayed (new.clauses 𝓤 H A mem run) .post (((κ, tt), (q, tt), tt, (w, (s, tt)), at), tt)
 
   abbrev Own : Fml
   Own = ShrSlice (named 0) κ u8 .own s (v ∷ [])
 
-  exits : ent 𝓤 (onEntry 𝓤 H A new.signature (κ, tt) (q, tt) (s, tt) at) (Post (T′.lowered made))
-  exits =
-      qed W ((‵ (flft κ q) ⊛ ‵ ftrue) ∷ ‵ (owns (ShrSlice (named 0) κ u8 ∷ []) (s, tt) at) ∷ []) ∵
-      suffices ! _ (ends-at 𝓤 H A new.ended stayed (new.clauses 𝓤 H A mem run) W (((κ, tt), (q, tt), tt, (s, tt), at), tt) (T′.lowered made) made (tt, tt) (tt, tt)) $ says ! (refl, refl) $
-      frame ! $ fsplit ! $ use1 W (‵ Own ⊛ ‵ Own) (shr-slice-copy 𝓤 H A W (named 0) κ u8 .twice s (v ∷ [])) $ split ! $ move ! (0 ∷ 2 ∷ []) $ fjoin ! $ frame ! $
-      -- [what src owns]: what the fields own together, of it and of at's facts, is what the struct owns
-      nothing ! $ owned ! usize (Is usize) (uint-makes 𝓤 H A W w64) 0 _ (refl, lit< tt) $ fjoin ! $ move ! (1 ∷ 0 ∷ []) $ fjoin ! $ by ! (own-shut 𝓤 H A W (T.the-type α) (T′.the-laws α) (s, (0, tt)))
+  exits : Is E.the-row w (wv ∷ []) → ent 𝓤 (onEntry 𝓤 H A new.signature (κ, tt) (q, tt) (w, (s, tt)) at) (Post mach)
+  exits is =
+      qed W ((‵ (flft κ q) ⊛ ‵ ftrue) ∷ ‵ (owns (E.the-row ∷ ShrSlice (named 0) κ u8 ∷ []) (w, (s, tt)) at) ∷ []) ∵
+      suffices ! _ (ends-at 𝓤 H A new.ended stayed (new.clauses 𝓤 H A mem run) W (((κ, tt), (q, tt), tt, (w, (s, tt)), at), tt) mach made (tt, (tt, tt)) (tt, (tt, tt))) $ says ! (refl, (refl, refl)) $
+      frame ! $ fsplit ! $ move ! (1 ∷ []) $ fsplit ! $ use1 W (‵ Own ⊛ ‵ Own) (shr-slice-copy 𝓤 H A W (named 0) κ u8 .twice s (v ∷ [])) $ split ! $
+      move ! (0 ∷ 2 ∷ []) $ fjoin ! $ move ! (2 ∷ 0 ∷ []) $ fjoin ! $ frame ! $
+      -- [what the description owns]: what the fields own together, of it and of the facts of the other two, is what the struct owns
+      nothing ! $ owned ! usize (Is usize) (uint-makes 𝓤 H A W w64) 0 _ (refl, lit< tt) $ fjoin ! $ move ! (1 ∷ 0 ∷ []) $ fjoin ! $
+      owned ! E.the-row (Is E.the-row) (EL.makes E.the-type E′.the-plain 𝓤 H A) w _ is $ fjoin ! $ by ! (own-shut 𝓤 H A W (T.the-type α) (T′.the-laws α) (w, (s, (0, tt))))
 
   module _ (C : Calls 𝓤 H) (Λ : Loops 𝓤 H) where
-    walk : Is (ShrSlice (named 0) κ u8) s (v ∷ []) → ent 𝓤 (onEntry 𝓤 H A new.signature (κ, tt) (q, tt) (s, tt) at) (WpFn 𝓤 H C Λ code.function (v ∷ []) Post)
-    walk p =
-        qed W (raw (onEntry 𝓤 H A new.signature (κ, tt) (q, tt) (s, tt) at) ∷ []) ∵ enter ! C Λ code.function (v ∷ []) _ $
-        alloc1 ! (λ l₀. alloc1 ! (λ l₁. alloc0 ! $ params1 ! $ pass1 ! (init ! 0 refl (shr-slice-lawful 𝓤 H A W (named 0) κ u8 .typed s (v ∷ []) p .0)) $ pass0 ! $
-        assigns ! (agg ! (and-then ! (load ! (from ! (stop !)) (look ! 0 refl)) (and-then ! (lit ! tt) (no-more !)))) (from ! (stop !)) (init ! 2 refl (tt, (shr-slice-lawful 𝓤 H A W (named 0) κ u8 .typed s (v ∷ []) p .0 .1, (record { fits = lit< tt }, tt)))) $
-        returns ! (look ! 2 refl) $ forget ! 0 refl $ forget ! 2 refl $ move ! (2 ∷ 3 ∷ []) $ free1 ! $ free1 ! $ free0 ! $ by ! exits))
+    walk : Is E.the-row w (wv ∷ []) → Is (ShrSlice (named 0) κ u8) s (v ∷ []) → ent 𝓤 (onEntry 𝓤 H A new.signature (κ, tt) (q, tt) (w, (s, tt)) at) (WpFn 𝓤 H C Λ code.function (wv ∷ v ∷ []) Post)
+    walk is p =
+        qed W (raw (onEntry 𝓤 H A new.signature (κ, tt) (q, tt) (w, (s, tt)) at) ∷ []) ∵ enter ! C Λ code.function (wv ∷ v ∷ []) _ $
+        alloc1 ! (λ l₀. alloc1 ! (λ l₁. alloc1 ! (λ l₂. alloc0 ! $ params1 ! $
+        pass1 ! (init ! 2 refl (EL.lawful E.the-type E′.the-laws 𝓤 H A W tt .typed w _ is .0)) $ pass1 ! (init ! 0 refl (shr-slice-lawful 𝓤 H A W (named 0) κ u8 .typed s (v ∷ []) p .0)) $ pass0 ! $
+        assigns ! (agg ! (and-then ! (load ! (from ! (stop !)) (look ! 2 refl)) (and-then ! (load ! (from ! (stop !)) (look ! 0 refl)) (and-then ! (lit ! tt) (no-more !))))) (from ! (stop !))
+        (init ! 4 refl (LL.lawful (T.the-type α) (T′.the-laws α) 𝓤 H A W .typed made _ (LL.owes (T.the-type α) (T′.the-laws α) made (is, (p, ((refl, lit< tt), tt)))) .0)) $
+        returns ! (look ! 4 refl) $ forget ! 0 refl $ forget ! 2 refl $ forget ! 4 refl $ move ! (4 ∷ 5 ∷ []) $ free1 ! $ move ! (2 ∷ 3 ∷ []) $ free1 ! $ free1 ! $ free0 ! $ by ! (exits is))))
 
 module _ {M : Type 1} (𝓤 : URA M) (H : Heap 𝓤) (A : Atoms 𝓤) (W : Given 𝓤 H A) (mem : Memory → SProp 𝓤) (run : Routine → Fun 𝓤) where
   new-walks : (C : Calls 𝓤 H) (Λ : Loops 𝓤 H) → Walks 𝓤 H A new.ended stayed (WpFn 𝓤 H C Λ code.function) (new.clauses 𝓤 H A mem run)
-  new-walks C Λ = walked 𝓤 H A new.ended stayed (new.clauses 𝓤 H A mem run) (WpFn 𝓤 H C Λ code.function) (λ κs. (slice-vals, tt)) (λ κs. (shr-slice-tells (named 0) (κs .0) u8, tt))
-      (λ κs qs bounds a g are. via 𝓤 _ (fst∗ 𝓤 _ (emp 𝓤)) (walk 𝓤 H A W mem run (κs .0) (qs .0) (a .0) C Λ (are .0)))
+  new-walks C Λ = walked 𝓤 H A new.ended stayed (new.clauses 𝓤 H A mem run) (WpFn 𝓤 H C Λ code.function) (λ κs. (EL.vals E.the-type E′.the-laws, (slice-vals, tt))) (λ κs. (EL.tells E.the-type E′.the-laws, (shr-slice-tells (named 0) (κs .0) u8, tt)))
+      (λ κs qs bounds a g are. via 𝓤 _ (fst∗ 𝓤 _ (emp 𝓤)) (walk 𝓤 H A W mem run (κs .0) (qs .0) (a .0) (a .1 .0) C Λ (are .0) (are .1 .0)))
 
 new-meets : {M : Type 1} (𝓤 : URA M) (H : Heap 𝓤) (A : Atoms 𝓤) → Given 𝓤 H A → (mem : Memory → SProp 𝓤) (run : Routine → Fun 𝓤) (𝓣 : Tables 𝓤 H)
     → Meets 𝓤 H A new.signature (WpFn 𝓤 H (𝓣 .C) (𝓣 .Λ) code.function) (new.spec 𝓤 H A mem run)
-new-meets 𝓤 H A W mem run 𝓣 = walk-meets 𝓤 H A new.ended stayed W (goes-none-slice 𝓤 H A W 1 (0 ∷ []) tt (plain (λ _. u8)) yes, tt) (new.clauses 𝓤 H A mem run) (WpFn 𝓤 H (𝓣 .C) (𝓣 .Λ) code.function) (WpFn-mono 𝓤 H (W .laws) 𝓣 code.function) (new-walks 𝓤 H A W mem run (𝓣 .C) (𝓣 .Λ))
+new-meets 𝓤 H A W mem run 𝓣 = walk-meets 𝓤 H A new.ended stayed W (goes-none 𝓤 H A W 1 (λ _. E.the-row) yes (λ κs x f. refl), (goes-none-slice 𝓤 H A W 1 (0 ∷ []) tt (plain (λ _. u8)) yes, tt)) (new.clauses 𝓤 H A mem run) (WpFn 𝓤 H (𝓣 .C) (𝓣 .Λ) code.function) (WpFn-mono 𝓤 H (W .laws) 𝓣 code.function) (new-walks 𝓤 H A W mem run (𝓣 .C) (𝓣 .Λ))
 
 pub new-spec : {M : Type 1} → stated.statement M
 unfolding code.routine tablesOf

@@ -1,0 +1,2 @@
+-- What is read at 32 bits, narrowed.
+pub mod Narrowed
