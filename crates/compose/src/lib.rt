@@ -27,7 +27,7 @@ pub enum ComposeAnswer {
 }
 
 // Whether one modifier is refused beside the other.
-fn at_odds(heed: bool, aligned: bool, packed: bool) -> bool
+pub fn at_odds(heed: bool, aligned: bool, packed: bool) -> bool
     ensures { λ r. ⌜ r ≡ (heed && (aligned && packed)) ⌝ }
 {
     if heed {

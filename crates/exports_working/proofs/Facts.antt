@@ -12,6 +12,7 @@ use denote.Struct.Laws as LL
 use Rattle.exports_layouts.specs.declared.Layout.{Layout}
 use Rattle.exports_layouts.proofs.Layout as T
 use Rattle.exports_layouts.proofs.Layout.Laws as T′
+use Rattle.exports_layouts.specs.Layouts.{wordsGiven}
 use Rattle.compose_defs.specs.Compose.{Member}
 use Rattle.exports_working.specs.Working.{workingFor, workedOut}
 use Rattle.exports_working.specs.declared.Worked.{Worked}
@@ -35,7 +36,7 @@ layout-is r v is = LL.owed P.the-type P′.the-laws r (v ∷ []) is .1 .0
 
 -- what an addition to the words h of the member m, under the packing n, gives
 abbrev pub Gives : Layout → Member → ℕ → Worked
-Gives h m n = workedOut (workingFor 64 n h m) h
+Gives h m n = workedOut (workingFor 64 n (wordsGiven h) m) h
 
 module _ {M : Type 1} (𝓤 : URA M) (φ ψ : Type 0) where
   abbrev pub Two : SProp 𝓤

@@ -38,7 +38,7 @@ pub fn worked_out(lent: Layout, addition: Addition) -> Worked
 
 // The addition of a member by value, to words by value.
 pub fn add_words(lent: Layout, field: Layout, repr_packed: u64) -> Worked
-    ensures { λ r. ⌜ r ≡ workedOut (workingFor 64 «repr_packed» lent (wordsFor 64 (wordsGiven field))) lent ⌝ }
+    ensures { λ r. ⌜ r ≡ workedOut (workingFor 64 «repr_packed» (wordsGiven lent) (wordsFor 64 (wordsGiven field))) lent ⌝ }
 {
     match exports_layouts::layout_in(lent) {
         LayoutAnswer::Layout(own) => match exports_layouts::layout_in(field) {
@@ -69,11 +69,12 @@ pub extern "C" fn lukaripe_working_begin(repr_align: u64) -> LayoutOut
 #[no_mangle]
 pub extern "C" fn lukaripe_working_add(working: &mut Layout, field: Layout, repr_packed: u64) -> u64
     ensures { λ r. ⌜
-        r ≡ workedOut (workingFor 64 «repr_packed» (now (working .entry)) (wordsFor 64 (wordsGiven field)))
+        r ≡ workedOut (workingFor 64 «repr_packed» (wordsGiven (now (working .entry))) (wordsFor 64 (wordsGiven field)))
         (now (working .entry)) .refusal
         ⌝ }
     ensures { λ _. ⌜
-        now (working .exit) ≡ workedOut (workingFor 64 «repr_packed» (now (working .entry)) (wordsFor 64 (wordsGiven field)))
+        now (working .exit)
+        ≡ workedOut (workingFor 64 «repr_packed» (wordsGiven (now (working .entry))) (wordsFor 64 (wordsGiven field)))
         (now (working .entry)) .layout
         ⌝ }
 {

@@ -122,7 +122,7 @@ fn write_places(
 }
 
 // Whether two lengths are that of the list.
-fn both_are(places: usize, gaps: usize, count: usize) -> bool
+pub fn both_are(places: usize, gaps: usize, count: usize) -> bool
     ensures { λ r. ⌜ r ≡ (eqb places count && eqb gaps count) ⌝ }
 {
     if places == count {

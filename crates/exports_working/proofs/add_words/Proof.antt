@@ -38,13 +38,13 @@ enum-known-refusal-2 : tie.Need-enum-known-refusal-2
 enum-known-refusal-2 c = search needs
 
 returns : tie.Need-returns
-returns c = let x = c .before .before .before .before .before .before .before .before .before .before .args in let m = wordsFor 64 (wordsGiven (x .field)) in c .worked-out .ensures ∙ ap (λ (o : Outcome Layout). workedOut o (x .lent)) (c .before .with-member .ensures .0 ∙ ap (additionFor 64 (x .repr-packed) (layoutOf (c .before .before .before .before .before .before .before .own .given .0 .0))) (sym (told-by layoutSays (c .before .before .before .before .before .layout-in2 .ensures) (c .before .before .before .member .given .1))) ∙ words-on 64 (x .repr-packed) (x .lent) m (told-by layoutSays (c .before .before .before .before .before .before .before .before .before .layout-in .ensures) (c .before .before .before .before .before .before .before .own .given .1)))
+returns c = let x = c .before .before .before .before .before .before .before .before .before .before .args in let m = wordsFor 64 (wordsGiven (x .field)) in c .worked-out .ensures ∙ ap (λ (o : Outcome Layout). workedOut o (x .lent)) (c .before .with-member .ensures .0 ∙ ap (additionFor 64 (x .repr-packed) (layoutOf (c .before .before .before .before .before .before .before .own .given .0 .0))) (sym (told-by layoutSays (c .before .before .before .before .before .layout-in2 .ensures) (c .before .before .before .member .given .1))) ∙ words-on 64 (x .repr-packed) (wordsGiven (x .lent)) m (told-by layoutSays (c .before .before .before .before .before .before .before .before .before .layout-in .ensures) (c .before .before .before .before .before .before .before .own .given .1)))
 
 returns-2 : tie.Need-returns-2
-returns-2 c = let x = c .before .before .before .before .before .before .before .before .args in let m = wordsFor 64 (wordsGiven (x .field)) in ap (λ (o : Outcome Layout). workedOut o (x .lent)) (member-off 64 (x .repr-packed) (x .lent) m (told-by layoutSays (c .before .before .before .before .before .before .before .layout-in .ensures) (c .before .before .before .before .before .own .given .1)) (told-by layoutSays (c .before .before .before .layout-in2 .ensures) (c .before .refusal .given .1)))
+returns-2 c = let x = c .before .before .before .before .before .before .before .before .args in let m = wordsFor 64 (wordsGiven (x .field)) in ap (λ (o : Outcome Layout). workedOut o (x .lent)) (member-off 64 (x .repr-packed) (wordsGiven (x .lent)) m (told-by layoutSays (c .before .before .before .before .before .before .before .layout-in .ensures) (c .before .before .before .before .before .own .given .1)) (told-by layoutSays (c .before .before .before .layout-in2 .ensures) (c .before .refusal .given .1)))
 
 returns-3 : tie.Need-returns-3
-returns-3 c = let x = c .before .before .before .before .args in let m = wordsFor 64 (wordsGiven (x .field)) in ap (λ (o : Outcome Layout). workedOut o (x .lent)) (words-off 64 (x .repr-packed) (x .lent) m (told-by layoutSays (c .before .before .before .layout-in .ensures) (c .before .refusal2 .given .1)))
+returns-3 c = let x = c .before .before .before .before .args in let m = wordsFor 64 (wordsGiven (x .field)) in ap (λ (o : Outcome Layout). workedOut o (x .lent)) (words-off 64 (x .repr-packed) (wordsGiven (x .lent)) m (told-by layoutSays (c .before .before .before .layout-in .ensures) (c .before .refusal2 .given .1)))
 
 pub add-words-spec : {M : Type 1} → statement M
 add-words-spec =

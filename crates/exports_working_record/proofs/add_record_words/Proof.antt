@@ -5,6 +5,7 @@ use Rattle.util_defs.proofs.Tables.{told-by}
 use Rattle.layout_defs.specs.Layout.{Layout}
 use Rattle.layout.specs.View.{layoutSays}
 use Rattle.record_defs.specs.Record.{decodeFor}
+use Rattle.exports_layouts.specs.Layouts.{wordsGiven}
 use Rattle.exports_working.specs.Working.{workedOut}
 use Rattle.exports_working.proofs.Given.{words-on, words-off}
 use borrow.Author.Needs.{needs}
@@ -27,10 +28,10 @@ enum-known-refusal : tie.Need-enum-known-refusal
 enum-known-refusal c = search needs
 
 returns : tie.Need-returns
-returns c = let x = c .before .before .before .before .before .before .before .args in let m = decodeFor 64 (x .member .now) in c .worked-out .ensures ∙ ap (λ (o : Outcome Layout). workedOut o (x .lent)) (c .before .with-record .ensures .0 ∙ words-on 64 (x .repr-packed) (x .lent) m (told-by layoutSays (c .before .before .before .before .before .layout-in .ensures) (c .before .before .before .own .given .1)))
+returns c = let x = c .before .before .before .before .before .before .before .args in let m = decodeFor 64 (x .member .now) in c .worked-out .ensures ∙ ap (λ (o : Outcome Layout). workedOut o (x .lent)) (c .before .with-record .ensures .0 ∙ words-on 64 (x .repr-packed) (wordsGiven (x .lent)) m (told-by layoutSays (c .before .before .before .before .before .layout-in .ensures) (c .before .before .before .own .given .1)))
 
 returns-2 : tie.Need-returns-2
-returns-2 c = let x = c .before .before .before .before .before .args in let m = decodeFor 64 (x .member .now) in ap (λ (o : Outcome Layout). workedOut o (x .lent)) (words-off 64 (x .repr-packed) (x .lent) m (told-by layoutSays (c .before .before .before .layout-in .ensures) (c .before .refusal .given .1)))
+returns-2 c = let x = c .before .before .before .before .before .args in let m = decodeFor 64 (x .member .now) in ap (λ (o : Outcome Layout). workedOut o (x .lent)) (words-off 64 (x .repr-packed) (wordsGiven (x .lent)) m (told-by layoutSays (c .before .before .before .layout-in .ensures) (c .before .refusal .given .1)))
 
 pub add-record-words-spec : {M : Type 1} → statement M
 add-record-words-spec =

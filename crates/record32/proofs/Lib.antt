@@ -1,0 +1,2 @@
+-- Records at 32 bits, by those at 64.
+pub mod Narrowed

@@ -1,0 +1,2 @@
+-- What the walks by hand share. Assumes nothing.
+pub mod Facts
