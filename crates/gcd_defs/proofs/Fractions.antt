@@ -1,7 +1,7 @@
 -- Laws of fractions in lowest terms. Assumes nothing.
 use mathlib.Core.Path.{_≡_, refl, sym, subst, ap, _∙_}
-use Prim.Native.Nat.{ℕ, zero, suc, _+_, _*_, _/_, _%_, _<_, _∣_}
-use native.Mathlib.Nat.{dvd-add-iff-right, dvd-antisymm, dvd-mul-left, dvd-mul-left-of-dvd, dvd-one, dvd-of-mul-dvd-mul-right, mul-dvd-mul-right, div-mul-cancel, div-add-mod', pos-of-dvd-of-pos, mod-lt, eq-of-mul-eq-mul-right, one-mul, mul-one}
+use Prim.Native.Nat.{ℕ, zero, suc, _+_, _*_, _/_, _%_, _≤_, _<_, _∣_}
+use native.Mathlib.Nat.{dvd-add-iff-right, dvd-antisymm, dvd-mul-left, dvd-mul-left-of-dvd, dvd-one, dvd-of-mul-dvd-mul-right, mul-dvd-mul-right, div-le-self, div-mul-cancel, div-add-mod', pos-of-dvd-of-pos, mod-lt, eq-of-mul-eq-mul-right, one-mul, mul-one}
 use native.Mathlib.Omega.{arith}
 use Rattle.gcd_defs.specs.Gcd.{byRemainders, gcd}
 use Rattle.gcd_defs.specs.Fraction.{Fraction, LowestTerms, reduced}
@@ -88,3 +88,9 @@ one-fraction {a} {b} {f} {h} pos x y = λ i. record { numerator = numerator i; d
 
     numerator : f .numerator ≡ h .numerator
     numerator = eq-of-mul-eq-mul-right (f .denominator) (x .positive) (f .numerator) (h .numerator) (ap (λ (z : ℕ). f .numerator * z) denominator ∙ cross)
+
+-- and its numbers are at most those that it is the quotient of
+pub terms-within : {a b : ℕ} {f : Fraction} → 0 < b → LowestTerms a b f → (f .numerator ≤ a) × (f .denominator ≤ b)
+terms-within {a} {b} {f} pos x =
+    let e : reduced a b ≡ f = one-fraction pos (lowest-terms a b pos) x in
+    subst (λ (h : Fraction). (h .numerator ≤ a) × (h .denominator ≤ b)) e (div-le-self a (gcd a b), div-le-self b (gcd a b))

@@ -1,24 +1,16 @@
--- What the types of this crate are, over numbers. Assumes nothing.
+-- What the types of this crate are, over numbers, and what 32 bits keep of a share. Assumes nothing.
 use Prim.Native.Nat.{ℕ}
-use Rattle.util_defs.specs.Width.{M}
-use Rattle.util_defs.specs.Refusal.{Outcome, answered, refused}
 use Rattle.util_defs.specs.Placed.{Placed, reached, stopped}
-use Rattle.rounding.specs.Word.{IsWord}
-use Rattle.trailing_defs.specs.Calls.{GreatestIn}
-use Rattle.trailing.specs.View.{trailingOf}
 use Rattle.gcd_defs.specs.Fraction.{Fraction}
-use Rattle.share_defs.specs.Totals.{Totals}
 use Rattle.share_defs.specs.Share.{Share}
+use Rattle.widths_defs.specs.Low.{low}
 use Rattle.share.specs.declared.Fraction as given-fraction
 use Rattle.share.specs.declared.Share as given
-use Rattle.share.specs.declared.Sums.{Sums}
-use Rattle.share.specs.declared.Tested.{Tested}
-use Rattle.share.specs.declared.AddAnswer.{AddAnswer}
-use Rattle.share.specs.declared.AddAnswer.the-variants as Add
-use Rattle.share.specs.declared.SumsAnswer.{SumsAnswer}
-use Rattle.share.specs.declared.SumsAnswer.the-variants as Sum
+use Rattle.share.specs.declared.Share32 as given32
 use Rattle.share.specs.declared.ShareAnswer.{ShareAnswer}
 use Rattle.share.specs.declared.ShareAnswer.the-variants as Answer
+use Rattle.share.specs.declared.ShareAnswer32.{ShareAnswer32}
+use Rattle.share.specs.declared.ShareAnswer32.the-variants as Answer32
 
 abbrev pub fractionOf : given-fraction.Fraction → Fraction
 fractionOf r = record { numerator = r .numerator; denominator = r .denominator }
@@ -31,22 +23,28 @@ shareIs r = record {
   index = r .index;
 }
 
-abbrev pub sumsOf : Sums → Totals
-sumsOf x = record { sizes = x .sizes; paddings = x .paddings; greatest = x .greatest; index = x .index }
-
--- a layout that was tested has the parts of its word beside it, and the greatest number of trailing bytes that has a size
-abbrev pub IsTested : ℕ → Tested → Type 0
-IsTested w l =
-    IsWord (trailingOf (l .layout) .word) (l .align) (l .phase) × GreatestIn w (trailingOf (l .layout)) (M w) (l .most)
-
-abbrev pub addSays : AddAnswer → Outcome Totals
-addSays (Add.Sums x) = answered (sumsOf x)
-addSays (Add.Refused k) = refused k
-
-abbrev pub sumsSays : SumsAnswer → Placed Totals
-sumsSays (Sum.Sums x) = reached (sumsOf x)
-sumsSays (Sum.Refused k i) = stopped k i
-
 abbrev pub shareSays : ShareAnswer → Placed Share
 shareSays (Answer.Share r) = reached (shareIs r)
 shareSays (Answer.Refused k i) = stopped k i
+
+-- at 32 bits
+abbrev pub shareIs32 : given32.Share32 → Share
+shareIs32 r = record {
+  padding = record { numerator = r .padding .numerator; denominator = r .padding .denominator };
+  mean = record { numerator = r .mean .numerator; denominator = r .mean .denominator };
+  greatest = r .greatest;
+  index = r .index;
+}
+
+abbrev pub shareSays32 : ShareAnswer32 → Placed Share
+shareSays32 (Answer32.Share r) = reached (shareIs32 r)
+shareSays32 (Answer32.Refused k i) = stopped k i
+
+-- what v bits keep of a share: all of it where they hold its numbers; the number of counts and an index stay
+abbrev pub lowShare : ℕ → Share → Share
+lowShare v r = record {
+  padding = record { numerator = low v (r .padding .numerator); denominator = low v (r .padding .denominator) };
+  mean = record { numerator = low v (r .mean .numerator); denominator = r .mean .denominator };
+  greatest = low v (r .greatest);
+  index = r .index;
+}

@@ -9,7 +9,7 @@ use Rattle.rounding.specs.Word.{highestBit}
 use Rattle.trailing_defs.specs.Size.{Trailing, sizeWith}
 use Rattle.gcd_defs.specs.Gcd.{byRemainders, gcd}
 use Rattle.share_defs.specs.Totals.{addCount, totalsFrom}
-use Rattle.share_defs.specs.Share.{Share, shareFor}
+use Rattle.share_defs.specs.Share.{Share, sumsFor, shareFor}
 
 -- the greatest number
 abbrev M : ℕ
@@ -59,6 +59,6 @@ rows =
     ∷ []
 
 cases-hold : Claim rows
-unfolding shareFor totalsFrom addCount unless sizeWith up highestBit gcd byRemainders
+unfolding shareFor sumsFor totalsFrom addCount unless sizeWith up highestBit gcd byRemainders
 cases-hold =
     (refl, (refl, (refl, (refl, (refl, (refl, (refl, (refl, (refl, (refl, (refl, (refl, tt))))))))))))

@@ -15,7 +15,7 @@ use Rattle.trailing_defs.specs.Size.{Trailing}
 use Rattle.gcd_defs.specs.Fraction.{Fraction, LowestTerms, reduced}
 use Rattle.gcd_defs.proofs.Fractions.{lowest-terms, one-fraction}
 use Rattle.share_defs.specs.Totals.{wholePadding, sum, totalSize, totalPadding, causesAt, Totals, noTotals, totalsFrom}
-use Rattle.share_defs.specs.Share.{Share, nothing, shareOf, listCauses, shareFor}
+use Rattle.share_defs.specs.Share.{Share, nothing, shareOf, listCauses, sumsFor, shareFor}
 use Rattle.share_defs.specs.Meaning.{FirstGreatest, Portion, Shares, Accepted, StopsAt, Stops, ShareMeans}
 use Rattle.share_defs.proofs.Fold.{none-at, first-at, final, final-sizes, final-paddings, FoldMeans, fold-means}
 use Rattle.share_defs.proofs.Greatest.{ends, first-greatest, one-greatest}
@@ -70,13 +70,22 @@ module _ (w : ℕ) (t : Trailing) (ns : List ℕ) where
       }))
 
   pub share-means : ShareMeans w t ns (shareFor w t ns)
-  unfolding shareFor
+  unfolding shareFor sumsFor
   share-means = go (meets (listCauses t ns) {P = λ _. Unit {0}} tt (list-decided t ns) (λ _. tt))
     where
       go : {o : Outcome (Unit {0})} → Meets (listCauses t ns) (λ _. Unit {0}) o
-          → ShareMeans w t ns (atPlace 0 o (λ _. goOn (totalsFrom w t 0 ns noTotals) (λ x. reached (shareOf (length ns) x))))
+          → ShareMeans w t ns (goOn (atPlace 0 o (λ _. totalsFrom w t 0 ns noTotals)) (λ x. reached (shareOf (length ns) x)))
       go (answers h _) = folded h (totalsFrom w t 0 ns noTotals) (fold-means w t 0 ns noTotals)
       go (refuses f) = inl (f, refl)
+
+  -- totals are of some counts
+  pub sums-some : {x : Totals} → sumsFor w t ns ≡ reached x → 0 < length ns
+  unfolding sumsFor
+  sums-some {x} e = go (meets (listCauses t ns) {P = λ _. Unit {0}} tt (list-decided t ns) (λ _. tt)) e
+    where
+      go : {o : Outcome (Unit {0})} → Meets (listCauses t ns) (λ _. Unit {0}) o → atPlace 0 o (λ _. totalsFrom w t 0 ns noTotals) ≡ reached x → 0 < length ns
+      go (answers h _) f = omega (arith, h .1 .0)
+      go (refuses h) f = let z : _≡_ {A = ℕ} 0 1 = cc in absurd (omega arith)
 
   -- nothing else means it: what is given, and the place and number of a refusal
   one-given : {r s : Share} → None (listCauses t ns) → Shares w t ns r → Shares w t ns s → r ≡ s

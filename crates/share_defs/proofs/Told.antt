@@ -6,6 +6,7 @@ use Prim.Native.Nat.{ℕ, _+_, _-_, _*_, _^_, _≤_, _<_}
 use native.Mathlib.Omega.{arith}
 use borrow.Author.Tests.{lt-ltb, le-ltb, eq-eqb, ne-eqb}
 use lib.Bits.{bitAnd}
+use lib.Pow.{pow-mono}
 use lib.ListN.{length}
 use Rattle.util_defs.specs.Width.{M}
 use Rattle.util_defs.specs.Round.{up, down}
@@ -22,7 +23,7 @@ use Rattle.trailing_defs.specs.Size.{Trailing, A, p, sizeWith, sizeAt, HasSize}
 use Rattle.trailing_defs.specs.Calls.{GreatestIn}
 use Rattle.trailing_defs.proofs.Sizes.{size-ge, size-mono}
 use Rattle.share_defs.specs.Totals.{endAt, wholePadding, sumPasses, countCauses, Totals, noTotals, withCount, addCount, totalsFrom}
-use Rattle.share_defs.specs.Share.{Share, shareOf, shareFor}
+use Rattle.share_defs.specs.Share.{Share, shareOf, sumsFor, shareFor}
 use Rattle.share_defs.specs.Meaning.{ShareMeans}
 use Rattle.share_defs.proofs.Meaning.{share-means}
 
@@ -65,9 +66,12 @@ module _ {a q m : ℕ} (w : ℕ) (t : Trailing) (h : IsWord (t .word) a q) (l : 
       go (holds r) = r
       go (fails f) = absurd (omega (arith, f, g .greatest (n * t .elem) (omega (arith, f))))
 
-  pub size-by-mask : (x : ℕ) → x ≤ m → t .base + bitAnd (q + x + (a - 1)) ((2 ^ w - 1) - (a - 1)) ≡ sizeWith (t .base) (A w t) (p w t) x
-  size-by-mask x k =
-      ap (λ (z : ℕ). t .base + z) (up-by-mask w (q + x) h l (sum-fits w (t .base) (q + x) h l (bytes-size x k))) ∙ sym (size-by-parts w t x h l)
+  -- the mask may have more bits than the width
+  pub size-by-mask : (u : ℕ) → w ≤ u → (x : ℕ) → x ≤ m → t .base + bitAnd (q + x + (a - 1)) ((2 ^ u - 1) - (a - 1)) ≡ sizeWith (t .base) (A w t) (p w t) x
+  size-by-mask u j x k =
+      let g : 2 ^ w ≤ 2 ^ u = pow-mono j in
+      let f = sum-fits w (t .base) (q + x) h l (bytes-size x k) in
+      ap (λ (z : ℕ). t .base + z) (up-by-mask u (q + x) h (omega (arith, l, g)) (omega (arith, f, g))) ∙ sym (size-by-parts w t x h l)
 
 module _ (w : ℕ) (t : Trailing) (i n : ℕ) (x : Totals) where
   -- 39, 15, 52, and what is left where none of them comes
@@ -115,24 +119,29 @@ module _ (w i s q : ℕ) (x : Totals) where
 
 -- the whole list: 2, 51, and what the fold gives
 module _ (w : ℕ) (t : Trailing) (ns : List ℕ) where
-  pub share-bad-word : t .word ≡ 0 → shareFor w t ns ≡ stopped 2 0
-  unfolding shareFor unless
-  share-bad-word e = simp (eq-eqb (t .word) 0 e)
+  pub sums-bad-word : t .word ≡ 0 → sumsFor w t ns ≡ stopped 2 0
+  unfolding sumsFor unless
+  sums-bad-word e = simp (eq-eqb (t .word) 0 e)
 
-  pub share-empty : 0 < t .word → length ns ≡ 0 → shareFor w t ns ≡ stopped 51 0
-  unfolding shareFor unless
-  share-empty h e = simp (ne-eqb (t .word) 0 (λ z. omega arith), eq-eqb (length ns) 0 e)
+  pub sums-empty : 0 < t .word → length ns ≡ 0 → sumsFor w t ns ≡ stopped 51 0
+  unfolding sumsFor unless
+  sums-empty h e = simp (ne-eqb (t .word) 0 (λ z. omega arith), eq-eqb (length ns) 0 e)
 
-  pub share-folded : 0 < t .word → 0 < length ns → shareFor w t ns ≡ goOn (totalsFrom w t 0 ns noTotals) (λ x. reached (shareOf (length ns) x))
-  unfolding shareFor unless
-  share-folded h l = simp (ne-eqb (t .word) 0 (λ z. omega arith), ne-eqb (length ns) 0 (λ z. omega arith))
+  pub sums-folded : 0 < t .word → 0 < length ns → sumsFor w t ns ≡ totalsFrom w t 0 ns noTotals
+  unfolding sumsFor unless
+  sums-folded h l = simp (ne-eqb (t .word) 0 (λ z. omega arith), ne-eqb (length ns) 0 (λ z. omega arith))
 
 -- no size at 0 is told of the first count
-pub share-none : (w : ℕ) (t : Trailing) (ns : List ℕ) → 0 < t .word → 0 < length ns → M w < sizeAt w t 0 → shareFor w t ns ≡ stopped 39 0
+pub sums-none : (w : ℕ) (t : Trailing) (ns : List ℕ) → 0 < t .word → 0 < length ns → M w < sizeAt w t 0 → sumsFor w t ns ≡ stopped 39 0
 unfolding totalsFrom
-share-none w t [] h pos l = absurd (omega arith)
-share-none w t (n ∷ ns) h pos l =
-    share-folded w t (n ∷ ns) h pos ∙ simp (add-none w t 0 n noTotals l)
+sums-none w t [] h pos l = absurd (omega arith)
+sums-none w t (n ∷ ns) h pos l =
+    sums-folded w t (n ∷ ns) h pos ∙ simp (add-none w t 0 n noTotals l)
+
+-- what is given of the totals
+pub share-of-sums : {o : Placed Totals} (w : ℕ) (t : Trailing) (ns : List ℕ) → o ≡ sumsFor w t ns → goOn o (λ x. reached (shareOf (length ns) x)) ≡ shareFor w t ns
+unfolding shareFor
+share-of-sums w t ns e = ap (λ (p : Placed Totals). goOn p (λ x. reached (shareOf (length ns) x))) e
 
 -- an outcome that is the one given means what that means
 pub share-told : {o : Placed Share} (w : ℕ) (t : Trailing) (ns : List ℕ) → o ≡ shareFor w t ns → (o ≡ shareFor w t ns) × ShareMeans w t ns o

@@ -40,7 +40,10 @@ noCounts ns = record { number = 51; test = eqb (length ns) 0; means = length ns 
 abbrev pub listCauses : Trailing → List ℕ → List Cause
 listCauses t ns = wordZero (t .word) ∷ noCounts ns ∷ []
 
+-- the totals over the whole list, where nothing refuses it
+unfoldable pub sumsFor : ℕ → Trailing → List ℕ → Placed Totals
+sumsFor w t ns = atPlace 0 (judged (listCauses t ns)) (λ _. totalsFrom w t 0 ns noTotals)
+
 -- `padding_of_counts`
 unfoldable pub shareFor : ℕ → Trailing → List ℕ → Placed Share
-shareFor w t ns =
-    atPlace 0 (judged (listCauses t ns)) (λ _. goOn (totalsFrom w t 0 ns noTotals) (λ x. reached (shareOf (length ns) x)))
+shareFor w t ns = goOn (sumsFor w t ns) (λ x. reached (shareOf (length ns) x))
