@@ -1,21 +1,2 @@
--- The public laws of each crate at 32 bits.
-mod OfUtil
-mod OfRounding
-mod OfTrailing
-mod OfFull
-mod OfLayout
-mod OfPadding
-mod OfMake
-mod OfRecord
-mod OfCompose
-mod OfCast
-mod OfFront
-mod OfShift
-mod OfConvert
-mod OfGuarantee
-mod OfPlaces
-mod OfTyped
-mod OfShort
-mod OfShare
-mod OfDescribe
-mod OfRewrite
+-- Laws of the papers that no contract of a function carries, at 32 bits.
+pub mod Named

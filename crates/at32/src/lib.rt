@@ -1,1 +1,1 @@
-// No code: every law of the library holds at any width, and the files of proofs/ have each public one at 32 bits.
+// No code: laws of the papers that speak of more than one call, at 32 bits. Each is an instance of the law at any width.

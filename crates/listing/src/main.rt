@@ -22,7 +22,7 @@ fn main() {
         return;
     }
     let mut text = io::buffer();
-    let len = listing_line::line(&list[..n], &mut text);
+    let len = listing_line::line(false, &list[..n], &mut text);
     if !io::write_all(STDOUT_FILENO, &text[..len]) {
         os::fail(b"listing: standard output");
     }

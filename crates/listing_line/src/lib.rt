@@ -1,14 +1,19 @@
-// The listing: what a member list composes to, as one line of text.
+// The listing: what a member list composes to at either width, as one line of text.
 ghost use mathlib.Core.Path.{_≡_};
 ghost use Prim.Native.Nat.{_+_, _≤_, _<_, _^_};
 ghost use lib.ListN.{length};
 ghost use lib.Seq.{sets};
 ghost use Rattle.io.specs.Counts.{Counts};
 ghost use Rattle.record.specs.View.{wordsIn};
+ghost use Rattle.compose_defs.specs.Compose.{ported, structFor};
 ghost use Rattle.compose.specs.View.{composeSays};
+ghost use Rattle.compose32.specs.View.{composeSays32};
+ghost use Rattle.width.specs.Width.{bitsOf};
 ghost use Rattle.listing_line.specs.Line.{digitsOf, token, wordsLine, refusedText, atText, refusedLine, listFor};
 ghost use Rattle.listing_line.specs.Line.{lineLength, lineInto};
 use compose::ComposeAnswer;
+use compose32::ComposeAnswer32;
+use layouts32::DstLayout32;
 use record::Words;
 use util::refusal;
 
@@ -101,9 +106,30 @@ fn put_refusal(out: &mut [u8], number: u64, place: u64) -> usize
     put_token(out, at + 3, place, b'\n')
 }
 
-// What the members compose to, without alignment or packing.
-fn compose_list(list: &[u8]) -> ComposeAnswer
-    ensures { λ r. ⌜ composeSays r ≡ listFor 64 (now (list .entry)) ⌝ }
+// A composition of 32 bits as one of 64.
+fn wide_composed(answer: ComposeAnswer32) -> ComposeAnswer
+    ensures { λ r. ⌜ composeSays r ≡ composeSays32 answer ⌝ }
+{
+    match answer {
+        ComposeAnswer32::Layout(l) => ComposeAnswer::Layout(layouts32::wide_layout(l)),
+        ComposeAnswer32::Refused { number, place } => ComposeAnswer::Refused { number, place },
+    }
+}
+
+// The composition at a width, without alignment or packing.
+fn compose_at(narrow: bool, list: &[u8]) -> ComposeAnswer
+    ensures { λ r. ⌜ composeSays r ≡ structFor (bitsOf narrow) ported 0 0 (now (list .entry)) ⌝ }
+{
+    if narrow {
+        wide_composed(compose32::for_repr_c_struct(0, 0, list))
+    } else {
+        compose::for_repr_c_struct(0, 0, list)
+    }
+}
+
+// What the members compose to; a list that is too long is refused.
+fn compose_list(narrow: bool, list: &[u8]) -> ComposeAnswer
+    ensures { λ r. ⌜ composeSays r ≡ listFor (bitsOf narrow) (now (list .entry)) ⌝ }
 {
     if list.len() > MAX_LIST_BYTES {
         ComposeAnswer::Refused {
@@ -111,20 +137,20 @@ fn compose_list(list: &[u8]) -> ComposeAnswer
             place: 0,
         }
     } else {
-        compose::for_repr_c_struct(0, 0, list)
+        compose_at(narrow, list)
     }
 }
 
 // Writes the line of a member list and gives its length; into fewer than LINE_ROOM bytes it writes nothing and gives 0.
-pub fn line(list: &[u8], out: &mut [u8]) -> usize
-    ensures answer { λ r. ⌜ r ≡ lineLength 64 (now (list .entry)) (now (out .entry)) ⌝ }
-    ensures bytes { λ _. ⌜ now (out .exit) ≡ lineInto 64 (now (list .entry)) (now (out .entry)) ⌝ }
+pub fn line(narrow: bool, list: &[u8], out: &mut [u8]) -> usize
+    ensures answer { λ r. ⌜ r ≡ lineLength (bitsOf narrow) (now (list .entry)) (now (out .entry)) ⌝ }
+    ensures bytes { λ _. ⌜ now (out .exit) ≡ lineInto (bitsOf narrow) (now (list .entry)) (now (out .entry)) ⌝ }
     ensures within { λ r. ⌜ Counts r (now (out .exit)) ⌝ }
 {
     if out.len() < LINE_ROOM {
         return 0;
     }
-    match compose_list(list) {
+    match compose_list(narrow, list) {
         ComposeAnswer::Layout(l) => put_words(out, record::words_from_layout(l)),
         ComposeAnswer::Refused { number, place } => put_refusal(out, number, place),
     }

@@ -1,9 +1,11 @@
--- The starred cases of document 01, "Pages from the proof table", with the numbers that document 02 gives them: one table of
--- calls with their inputs and the numbers they give, and one claim of each row. Assumes nothing.
+-- The starred cases of document 01, "Pages from the proof table", with the numbers that document 02 gives them, at any width: one
+-- table of calls with their inputs and the numbers they give, and one claim of each row. "Worked cases past M" are left out.
+-- Assumes nothing.
 use mathlib.Core.Path.{_≡_}
 use mathlib.Core.Bool.{Bool, true, false, cond}
 use mathlib.Core.List.{List, [], _∷_}
-use Prim.Native.Nat.{ℕ, _-_, _^_}
+use Prim.Native.Nat.{ℕ, _-_, _^_, max}
+use lib.Dec.{leb}
 use Rattle.util_defs.specs.Width.{M}
 use Rattle.util_defs.specs.Refusal.{Outcome, answered, refused}
 use Rattle.util_defs.specs.Helpers.{paddingFor}
@@ -12,7 +14,7 @@ use Rattle.trailing_defs.specs.Size.{Trailing, sizeAt}
 use Rattle.trailing_defs.specs.Sequence.{sameSequence}
 use Rattle.trailing_defs.specs.Calls.{paddingForElems, sameFor}
 use Rattle.trailing_defs.specs.Sized.{sizeNumbers, sizeGiven}
-use Rattle.layout_defs.specs.Layout.{Layout, fixed, trailing}
+use Rattle.layout_defs.specs.Layout.{Info, Layout, fixed, trailing}
 use Rattle.cast_defs.specs.Cast.{Side, prefix, suffix, Grant, castFor}
 use Rattle.shift_defs.specs.Shift.{Shift, by, missing, byOffset, matchedShift}
 use Rattle.convert_defs.specs.Convert.{Params, sizedToSized, sizedToUnsized, unsizedToUnsized, computeFor, metadataFor}
@@ -70,6 +72,34 @@ pub record Row : Type 0 where
 abbrev pub gives : Call → List ℕ → Row
 gives c xs = record { call = λ _. c; expected = λ _. xs }
 
+-- the greatest number that a call is handed over, but for its count
+abbrev pub mostOf : Trailing → ℕ
+mostOf t = max (t .offset) (max (t .elem) (max (t .base) (t .word)))
+
+abbrev pub mostIn : Layout → ℕ
+mostIn l = max (l .align) (of (l .info))
+  where
+    of : Info → ℕ
+    of (fixed s) = s
+    of (trailing t) = mostOf t
+
+abbrev pub most : Call → ℕ
+most (paddingNeededFor v a) = max v a
+most (components n) = n
+most (sizeForElems t n) = mostOf t
+most (wholeSize t n) = mostOf t
+most (paddingForElemsOf t n) = mostOf t
+most (cast l side addr len) = max (mostIn l) (max addr len)
+most (hasSameSizeSequence s t) = max (mostOf s) (mostOf t)
+most (firstWay s t) = max (mostOf s) (mostOf t)
+most (tryCompute s t) = max (mostIn s) (mostIn t)
+most (castMetadata q n) = n
+
+-- the rows of a table that are not past M
+abbrev pub within : ℕ → List Row → List Row
+within w [] = []
+within w (r ∷ rs) = cond (leb (most (r .call 0)) (M w)) (r ∷ within w rs) (within w rs)
+
 -- what the calls of a table give at n, and what it says of them
 abbrev pub given : ℕ → ℕ → List Row → List (List ℕ)
 given w n [] = []
@@ -81,7 +111,7 @@ said n (r ∷ rs) = r .expected n ∷ said n rs
 
 -- the one claim
 abbrev pub Claim : ℕ → List Row → Type 0
-Claim w rs = (n : ℕ) → given w n rs ≡ said n rs
+Claim w rs = (n : ℕ) → given w n (within w rs) ≡ said n (within w rs)
 
 -- layouts by their numbers
 abbrev pub tail : (base word elem offset : ℕ) → Trailing
@@ -105,18 +135,18 @@ abbrev pub target2 : Trailing
 target2 = tail 8 4 8 0
 
 -- phases 1 and 2 of the alignment 8 with elements of 4 bytes: equal sizes at every count
-abbrev pub alike : Row
-alike = record { call = λ n. wholeSize (tail 0 9 4 0) n; expected = λ n. eval 64 (wholeSize (tail 0 10 4 0) n) }
+abbrev pub alike : ℕ → Row
+alike w = record { call = λ n. wholeSize (tail 0 9 4 0) n; expected = λ n. eval w (wholeSize (tail 0 10 4 0) n) }
 
--- the other rows, at 64 bits
-abbrev pub computed : List Row
-computed =
+-- the other rows, in which M is that of the width
+abbrev pub computed : ℕ → List Row
+computed w =
     gives (paddingNeededFor 0 8) (0 ∷ 0 ∷ [])
     ∷ gives (paddingNeededFor 1 8) (0 ∷ 7 ∷ [])
-    ∷ gives (paddingNeededFor (M 64) 8) (0 ∷ 1 ∷ [])
+    ∷ gives (paddingNeededFor (M w) 8) (0 ∷ 1 ∷ [])
     ∷ gives (components 1) (0 ∷ 1 ∷ 0 ∷ [])
     ∷ gives (components 12) (0 ∷ 8 ∷ 4 ∷ [])
-    ∷ gives (components (M 64)) (0 ∷ (2 ^ 63) ∷ (2 ^ 63 - 1) ∷ [])
+    ∷ gives (components (M w)) (0 ∷ (2 ^ (w - 1)) ∷ (2 ^ (w - 1) - 1) ∷ [])
     ∷ gives (sizeForElems R 0) (0 ∷ 12 ∷ [])
     ∷ gives (sizeForElems R 3) (0 ∷ 12 ∷ [])
     ∷ gives (sizeForElems R 4) (0 ∷ 16 ∷ [])
@@ -147,5 +177,5 @@ computed =
     ∷ []
 
 -- the table
-abbrev pub stars : List Row
-stars = alike ∷ computed
+abbrev pub stars : ℕ → List Row
+stars w = alike w ∷ computed w

@@ -5,12 +5,13 @@ use lib.Seq.{sets}
 use Rattle.compose.specs.View.{composeSays}
 use Rattle.listing_line.specs.Line.{wordsLine}
 use Rattle.listing_line.proofs.Lines.{no-room, written}
+use Rattle.width.specs.Width.{bitsOf}
 use borrow.Author.Needs.{needs}
 use Rattle.listing_line.proofs.line.Statement.{statement}
 use Rattle.listing_line.proofs.line.Tie as tie
 
 returns : tie.Need-returns
-returns c = let x = c .before .before .before .args in no-room 64 (x .list .now) (x .out .now) (c .if1 .taken)
+returns c = let x = c .before .before .before .args in no-room (bitsOf (x .narrow)) (x .list .now) (x .out .now) (c .if1 .taken)
 
 compose-list-requires : tie.Need-compose-list-requires
 compose-list-requires c κs = search needs
@@ -39,7 +40,7 @@ returns-2 c =
     let p = c .before .before .put-words in
     let e = ap wordsLine (c .before .before .before .words-from-layout .ensures) in
     let g = p .ensures .0 in
-    written 64 (x .list .now) (x .out .now) _ _ _ (c .before .before .before .before .before .before .before .before .before .if1 .left) (sym (ap composeSays (c .before .before .before .before .before .before .l .given .1)) ∙ c .before .before .before .before .before .before .before .before .compose-list .ensures)
+    written (bitsOf (x .narrow)) (x .list .now) (x .out .now) _ _ _ (c .before .before .before .before .before .before .before .before .before .if1 .left) (sym (ap composeSays (c .before .before .before .before .before .before .l .given .1)) ∙ c .before .before .before .before .before .before .before .before .compose-list .ensures)
     (g .0 ∙ ap length e, g .1 ∙ ap (sets (x .out .now) 0) e) (p .ensures .1)
 
 same-length-2 : tie.Need-same-length-2
@@ -49,7 +50,7 @@ returns-3 : tie.Need-returns-3
 returns-3 c =
     let x = c .before .before .before .before .before .before .before .before .before .before .before .args in
     let p = c .before .before .put-refusal in
-    written 64 (x .list .now) (x .out .now) _ _ _ (c .before .before .before .before .before .before .before .before .if1 .left) (sym (ap composeSays (c .before .before .before .before .before .number .given .1)) ∙ c .before .before .before .before .before .before .before .compose-list .ensures) (p .ensures .0) (p .ensures .1)
+    written (bitsOf (x .narrow)) (x .list .now) (x .out .now) _ _ _ (c .before .before .before .before .before .before .before .before .if1 .left) (sym (ap composeSays (c .before .before .before .before .before .number .given .1)) ∙ c .before .before .before .before .before .before .before .compose-list .ensures) (p .ensures .0) (p .ensures .1)
 
 pub line-spec : {M : Type 1} → statement M
 line-spec =
