@@ -37,9 +37,9 @@
 #include <stdint.h>
 
 #define LUKARIPE_VERSION_MAJOR 0
-#define LUKARIPE_VERSION_MINOR 11
+#define LUKARIPE_VERSION_MINOR 12
 #define LUKARIPE_VERSION_PATCH 0
-#define LUKARIPE_VERSION "0.11.0"
+#define LUKARIPE_VERSION "0.12.0"
 
 /* An answer that is not looked at is a mistake: a refusal would go unseen. */
 #if defined(__GNUC__) || defined(__clang__)
@@ -96,6 +96,7 @@ enum {
     LUKARIPE_REFUSED_WORD_ABOVE_SHORT = 40,
     LUKARIPE_REFUSED_OUTPUT_SHORT = 41,
     LUKARIPE_REFUSED_SPARE_OR_POWER = 42,
+    LUKARIPE_REFUSED_NUMBER_PASSES_WIDTH = 43,
     LUKARIPE_REFUSED_COUNT_ABOVE_BYTE = 44,
     LUKARIPE_REFUSED_REWRITE_SHORT = 45,
     LUKARIPE_REFUSED_FORM_BASE_PASSES_MAX = 46,
@@ -195,6 +196,8 @@ static inline const char *lukaripe_refusal_text(uint64_t refusal) {
         return "the output is too short";
     case LUKARIPE_REFUSED_SPARE_OR_POWER:
         return "the spare bytes of a short record are not 0, or its power is above 63";
+    case LUKARIPE_REFUSED_NUMBER_PASSES_WIDTH:
+        return "a number does not fit the chosen width";
     case LUKARIPE_REFUSED_COUNT_ABOVE_BYTE:
         return "a member count of a description is above 255, and is to be one byte";
     case LUKARIPE_REFUSED_REWRITE_SHORT:
