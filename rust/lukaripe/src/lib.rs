@@ -2,7 +2,8 @@
 //!
 //! The work is done by proved functions, which have the same names in C. They take any numbers and any bytes, and
 //! refuse what they cannot use: an error is a [`Refusal`], and of a list of members, records or counts or of a
-//! description a [`Refused`], which also says where. All numbers are unsigned and 64 bits wide.
+//! description a [`Refused`], which also says where. All numbers are unsigned and 64 bits wide; [`bits32`] has the same
+//! for machines with 32-bit words.
 //!
 //! ```
 //! use lukaripe::{for_repr_c_struct, Cast, CastType, Layout};
@@ -46,53 +47,46 @@
 
 #![no_std]
 #![deny(missing_docs)]
+// The sources of words/ are compiled at both widths, and what is a conversion at one is none at the other.
+#![allow(clippy::duplicate_mod, clippy::useless_conversion)]
 
 extern crate alloc;
 
-mod exports;
+pub mod bits32;
+
+// ---- what has no width ----
 
 mod cases;
-mod cast;
-mod compose;
-mod convert;
-mod describe;
-mod front;
-mod full;
-mod helpers;
-mod layout;
-mod record;
+mod choices;
+mod fraction;
+mod moves;
 mod refusal;
-mod rewrite;
-mod rounding;
-mod scalar;
-mod share;
-mod short;
-mod trailing;
-mod types;
-mod working;
+mod tags;
 
-pub use cases::{cases, write_cases, Case, CASES_LENGTH, CASE_LENGTH, LONGEST_LIST};
-pub use cast::{Cast, CastType};
-pub use compose::{compose, compose_records, for_repr_c_struct, for_repr_c_struct_records};
-pub use compose::{for_repr_c_struct_places, for_repr_c_struct_places_into, for_repr_c_struct_places_records, Placed};
-pub use compose::{for_repr_c_struct_strict, for_repr_c_struct_strict_records};
-pub use convert::{convert_and_cast, size_sequences_match, Carried, CastParams};
-pub use describe::{DESCRIPTION_DEPTH, TAG_ARRAY, TAG_LONG_STRUCT, TAG_SLICE, TAG_STRUCT};
-pub use front::Serving;
-pub use full::{convert_and_cast_in, size_sequences_match_in, Mode, NormalForm};
-pub use helpers::{is_power_of_two, max, min, padding_needed_for, round_down_to_next_multiple_of_alignment};
-pub use layout::{Layout, SizeInfo};
-pub use record::RECORD_LENGTH;
-pub use refusal::{NoSize, Refusal, Refused, Result, UnknownRefusal};
-pub use rewrite::{lengthen_counts, lengthen_counts_vec, shorten_counts, shorten_counts_vec};
-pub use rounding::RoundingAlignAndPhase;
-pub use scalar::Scalar;
-pub use share::{Fraction, PaddingShare};
-pub use short::SHORT_RECORD_LENGTH;
-pub use short::{records_from_short, records_from_short_vec, records_to_short, records_to_short_vec};
-pub use trailing::Trailing;
+pub use cases::{write_cases, CASES_LENGTH, CASE_LENGTH, LONGEST_LIST};
+pub use choices::{CastType, Mode};
+pub use fraction::Fraction;
+pub use moves::{records_from_short, records_from_short_vec, records_to_short, records_to_short_vec};
+pub use moves::{RECORD_LENGTH, SHORT_RECORD_LENGTH};
+pub use refusal::{Refusal, Refused, Result, UnknownRefusal};
+pub use tags::{DESCRIPTION_DEPTH, TAG_ARRAY, TAG_LONG_STRUCT, TAG_SLICE, TAG_STRUCT};
+
+// ---- what is of this machine, and so has 64 bits ----
+
+mod types;
+
 pub use types::NoAllocLayout;
-pub use working::Working;
+
+// ---- what has the width, here and in bits32.rs ----
+
+mod exports;
+mod shapes;
+mod words;
+
+pub(crate) type Word = u64;
+pub(crate) type NonZeroWord = core::num::NonZeroU64;
+
+pub use words::*;
 
 /// The examples of README.md are tested too.
 #[cfg(doctest)]

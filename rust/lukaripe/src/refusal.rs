@@ -1,6 +1,5 @@
 //! Why a call is refused.
 
-use crate::exports::Told;
 use core::error::Error;
 use core::fmt;
 
@@ -86,6 +85,7 @@ refusals! {
     WordAboveShort = 40, "the rounding word needs more than the 32 bits of a short record";
     OutputShort = 41, "the output is too short";
     SpareOrPower = 42, "the spare bytes of a short record are not 0, or its power is above 63";
+    NumberPassesWidth = 43, "a number does not fit the chosen width";
     CountAboveByte = 44, "a member count of a description is above 255, and is to be one byte";
     RewriteShort = 45, "the output is too short for the rewritten description";
     FormBasePassesMax = 46, "the base of the normal form overflows";
@@ -204,85 +204,5 @@ impl Error for Refused {}
 impl From<Refusal> for Refused {
     fn from(refusal: Refusal) -> Refused {
         Refused { refusal, place: 0 }
-    }
-}
-
-/// Why there is no size at a count, and the greatest count that has one.
-///
-/// It becomes a [`Refusal`] or a [`Refused`], so that `?` takes it in a function that gives one of these.
-///
-/// ```
-/// use lukaripe::{NoSize, Refusal, RoundingAlignAndPhase, Trailing};
-///
-/// let word = RoundingAlignAndPhase::new(4, 1)?;
-/// let text = Trailing { size_base: 8, offset: 9, elem_size: 1, size_rounding_align_and_phase: word };
-/// let none = text.size_for_elems(u64::MAX).unwrap_err();
-/// assert_eq!(none, NoSize { refusal: Refusal::NoSize, greatest: Some(u64::MAX - 12) });
-/// assert_eq!(
-///     none.to_string(),
-///     "the size at this count of elements overflows (the greatest count that has one is 18446744073709551603)",
-/// );
-/// assert!(text.size_for_elems(u64::MAX - 12).is_ok());
-/// # Ok::<(), Refusal>(())
-/// ```
-#[derive(Clone, Copy, Debug, PartialEq, Eq, Hash)]
-pub struct NoSize {
-    /// Why.
-    pub refusal: Refusal,
-    /// With [`Refusal::NoSize`] the greatest count that has a size; else there is none.
-    pub greatest: Option<u64>,
-}
-
-impl fmt::Display for NoSize {
-    fn fmt(&self, out: &mut fmt::Formatter) -> fmt::Result {
-        match self.greatest {
-            Some(count) => write!(out, "{} (the greatest count that has one is {count})", self.refusal),
-            None => write!(out, "{}", self.refusal),
-        }
-    }
-}
-
-impl Error for NoSize {}
-
-impl From<NoSize> for Refusal {
-    fn from(none: NoSize) -> Refusal {
-        none.refusal
-    }
-}
-
-impl From<NoSize> for Refused {
-    fn from(none: NoSize) -> Refused {
-        none.refusal.into()
-    }
-}
-
-impl<const N: usize> Told<N> {
-    pub(crate) fn answer(self) -> Result<[u64; N]> {
-        match self.refusal {
-            0 => Ok(self.values),
-            number => Err(Refusal::told(number)),
-        }
-    }
-}
-
-impl Told<1> {
-    pub(crate) fn number(self) -> Result<u64> {
-        self.answer().map(|[value]| value)
-    }
-
-    /// A size; beside 15 the value is the greatest count that has one.
-    pub(crate) fn size(self) -> Result<u64, NoSize> {
-        let [value] = self.values;
-        match self.refusal {
-            0 => Ok(value),
-            number => {
-                let refusal = Refusal::told(number);
-                Err(NoSize { refusal, greatest: (refusal == Refusal::NoSize).then_some(value) })
-            }
-        }
-    }
-
-    pub(crate) fn decision(self) -> Result<bool> {
-        self.number().map(|value| value != 0)
     }
 }

@@ -1,4 +1,5 @@
-//! Layouts of Rust's own types, and those of `core::alloc`.
+//! What is of the machine that this runs on: layouts of Rust's own types, those of `core::alloc`, and the addresses of
+//! slices.
 
 use crate::{Layout, Result, SizeInfo};
 use core::error::Error;
@@ -43,6 +44,29 @@ impl Layout {
     /// ```
     pub fn of_slice<T>() -> Layout {
         Layout::for_slice(size_of::<T>() as u64, align_of::<T>() as u64).expect(WHOLE)
+    }
+
+    /// [`Layout::front`] by the addresses at which the two slices stand.
+    ///
+    /// ```
+    /// use lukaripe::Layout;
+    ///
+    /// #[repr(align(4))]
+    /// struct Aligned([u8; 12]);
+    ///
+    /// // A record of two u32 that starts off its boundary, and an aligned copy of it.
+    /// let map = Aligned([0, 1, 0, 0, 0, 2, 0, 0, 0, 0, 0, 0]);
+    /// let record = &map.0[1..9];
+    /// let mut spare = Aligned([0; 12]);
+    /// spare.0[..8].copy_from_slice(record);
+    ///
+    /// let layout = Layout::of_slice::<u32>();
+    /// let front = layout.front_of(record, &spare.0[..8]);
+    /// assert_eq!(front, [1, 0, 0, 0, 2, 0, 0, 0]);
+    /// assert_eq!(front.as_ptr(), spare.0.as_ptr());
+    /// ```
+    pub fn front_of<'a>(self, map: &'a [u8], spare: &'a [u8]) -> &'a [u8] {
+        self.front(map.as_ptr() as u64, map, spare.as_ptr() as u64, spare)
     }
 }
 

@@ -2,9 +2,9 @@
 """Compares the C header with the crates that it declares, and makes a C program of it.
 
     header.py functions HEADER        prints the functions that it declares
-    header.py names HEADER REFUSALS EXPORTS...
-                                      structs, functions and refusals must be those of these sources of the crates: the
-                                      same names in the same order, and the same types
+    header.py names HEADER SOURCES... structs, functions and refusals must be those of these sources of the crates, of
+                                      which refusal.rt has the refusals: the same names in the same order, and the same
+                                      types
     header.py program HEADER ROWS...  prints a C program that calls each function; ROWS are the files of
                                       rust/differential/rows, which give each function its number
 
@@ -35,7 +35,10 @@ STRUCTS = {
     "CarriedOut": "lukaripe_carried",
     "ServingOut": "lukaripe_serving",
 }
-TYPES = {"u64": "uint64_t", "bool": "bool"} | STRUCTS
+# Those of 32 bits, by theirs.
+STRUCTS32 = {name + "32": c_name.replace("lukaripe_", "lukaripe32_") for name, c_name in STRUCTS.items()}
+NUMBERS = {"u8": "uint8_t", "u32": "uint32_t", "u64": "uint64_t"}
+TYPES = NUMBERS | {"bool": "bool"} | STRUCTS | STRUCTS32
 
 
 def fail(message):
@@ -108,7 +111,7 @@ def c_fields(body):
 def declared_in_c(header):
     declared = Declared()
     for head, body in items(preprocessed(header)):
-        function = re.fullmatch(r"(.*?)(lukaripe_\w+) ?\((.*)\)", head)
+        function = re.fullmatch(r"(.*?)(lukaripe(?:32)?_\w+) ?\((.*)\)", head)
         if function and "static" not in head.split():
             result, name, parameters = function.groups()
             declared.functions[name] = typed(result + "result")[0], [typed(p) for p in parameters.split(",")]
@@ -137,11 +140,11 @@ def crate_parameters(text):
     slice of bytes; a struct that is lent is a pointer alone."""
     first_bytes = True
     for name, kind in re.findall(r"(\w+): ([^,]+)", text):
-        slice_of = re.fullmatch(r"&(mut )?\[(u8|u64)\]\s*", kind)
+        slice_of = re.fullmatch(r"&(mut )?\[(u8|u32|u64)\]\s*", kind)
         lent = re.fullmatch(r"&(mut )?(\w+)\s*", kind)
         if slice_of:
             mutable, element = slice_of.groups()
-            yield ("" if mutable else "const ") + {"u8": "uint8_t *", "u64": "uint64_t *"}[element], name
+            yield ("" if mutable else "const ") + NUMBERS[element] + " *", name
             yield "size_t", "len" if element == "u8" and first_bytes else f"{name}_len"
             first_bytes &= element != "u8"
         elif lent:
@@ -151,16 +154,17 @@ def crate_parameters(text):
             yield in_c(kind.strip()), name
 
 
-def declared_in_crates(sources, refusals):
+def declared_in_crates(sources):
     declared = Declared()
     for source in sources:
         text = re.sub(r"//.*", "", open(source).read())
+        if source.endswith("/refusal.rt"):
+            for name, number in re.findall(r"pub const (\w+): u64 = (\d+);", text):
+                declared.constants["LUKARIPE_REFUSED_" + name] = number
         for name, body in re.findall(r"#\[repr\(C\)\]\s*pub struct (\w+) \{(.*?)\}", text, re.S):
             declared.structs[in_c(name)] = crate_fields(body)
         for name, parameters, result in re.findall(r'pub extern "C" fn (\w+)\((.*?)\) -> (\w+)', text, re.S):
             declared.functions[name] = in_c(result), list(crate_parameters(parameters))
-    for name, number in re.findall(r"pub const (\w+): u64 = (\d+);", open(refusals).read()):
-        declared.constants["LUKARIPE_REFUSED_" + name] = number
     return declared
 
 
@@ -183,8 +187,8 @@ def differences(what, crates, header):
             yield f"{what} {name}\n  in the crates: {shown(crates[name])}\n  in the header: {shown(header[name])}"
 
 
-def names(header, refusals, exports):
-    crates, c = declared_in_crates(exports, refusals), declared_in_c(header)
+def names(header, sources):
+    crates, c = declared_in_crates(sources), declared_in_c(header)
     found = [
         *differences("struct", crates.structs, c.structs),
         *differences("function", crates.functions, c.functions),
@@ -511,8 +515,8 @@ def main(words):
     match words:
         case ["functions", header]:
             print("\n".join(declared_in_c(header).functions))
-        case ["names", header, refusals, *exports] if exports:
-            names(header, refusals, exports)
+        case ["names", header, *sources] if sources:
+            names(header, sources)
         case ["program", header, *rows] if rows:
             program(header, rows)
         case _:

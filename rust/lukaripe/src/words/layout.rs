@@ -1,10 +1,9 @@
 //! Whole layouts.
 
-use crate::exports::{self, Words};
+use super::exports::{self, Words};
 #[cfg(doc)]
-use crate::Refusal;
-use crate::{Result, Trailing};
-use core::num::NonZeroU64;
+use super::Refusal;
+use super::{NonZeroWord, Result, Trailing, Word};
 
 /// A fixed size, or a run of elements at the end.
 #[derive(Clone, Copy, Debug, PartialEq, Eq, Hash)]
@@ -12,7 +11,7 @@ pub enum SizeInfo {
     /// The layout of a type whose size is known.
     Sized {
         /// The size.
-        size: u64,
+        size: Word,
     },
     /// The layout of a type whose size hangs on the count of its last elements.
     SliceDst(Trailing),
@@ -23,11 +22,12 @@ pub enum SizeInfo {
 /// Any numbers may be put into it. What the functions refuse as a layout is an alignment that is no power of two
 /// ([`Refusal::AlignNotPowerOfTwo`]) and a rounding word of 0 ([`Refusal::RoundingWordZero`]).
 ///
-/// An alignment or a packing that is asked for is an `Option<NonZeroU64>`, as [`NonZeroU64::new`] gives it.
+/// An alignment or a packing that is asked for is an `Option<NonZeroU64>`, at 32 bits an `Option<NonZeroU32>`, as their
+/// `new` gives it.
 #[derive(Clone, Copy, Debug, PartialEq, Eq, Hash)]
 pub struct Layout {
     /// The alignment.
-    pub align: u64,
+    pub align: Word,
     /// The size, or how sizes are worked out.
     pub size_info: SizeInfo,
     /// The mark: no padding is known between the members.
@@ -48,9 +48,9 @@ pub struct Layout {
 }
 
 // The kind of a record is the sum of these.
-const MARKED: u64 = 1;
-const TRAILING: u64 = 2;
-const ALIGN_MODIFIER: u64 = 4;
+const MARKED: Word = 1;
+const TRAILING: Word = 2;
+const ALIGN_MODIFIER: Word = 4;
 
 impl Layout {
     /// The six words of the record, whether or not the layout is refused.
@@ -64,7 +64,7 @@ impl Layout {
         Words([self.align, sort + mark + modifier, size, offset, elem_size, word])
     }
 
-    pub(crate) fn from_words([align, kind, size, rest @ ..]: [u64; 6]) -> Layout {
+    pub(crate) fn from_words([align, kind, size, rest @ ..]: [Word; 6]) -> Layout {
         let [offset, elem_size, word] = rest;
         let size_info = if kind & TRAILING == 0 {
             SizeInfo::Sized { size }
@@ -87,7 +87,7 @@ impl Layout {
     /// assert_eq!(Layout::of::<[u32; 2]>().size(), Some(8));
     /// assert_eq!(Layout::of_slice::<u32>().size(), None);
     /// ```
-    pub const fn size(self) -> Option<u64> {
+    pub const fn size(self) -> Option<Word> {
         match self.size_info {
             SizeInfo::Sized { size } => Some(size),
             SizeInfo::SliceDst(_) => None,
@@ -152,7 +152,7 @@ impl Layout {
     /// # Errors
     ///
     /// [`Refusal::AlignNotPowerOfTwo`].
-    pub fn new_zst(repr_align: Option<NonZeroU64>) -> Result<Layout> {
+    pub fn new_zst(repr_align: Option<NonZeroWord>) -> Result<Layout> {
         exports::lukaripe_new_zst(or_zero(repr_align)).answer().map(Layout::from_words)
     }
 
@@ -171,7 +171,7 @@ impl Layout {
     /// # Errors
     ///
     /// [`Refusal::AlignNotPowerOfTwo`], then [`Refusal::SizeNotMultipleOfAlign`].
-    pub fn for_type(size: u64, align: u64) -> Result<Layout> {
+    pub fn for_type(size: Word, align: Word) -> Result<Layout> {
         exports::lukaripe_for_type(size, align).answer().map(Layout::from_words)
     }
 
@@ -187,7 +187,7 @@ impl Layout {
     /// # Errors
     ///
     /// [`Refusal::AlignNotPowerOfTwo`], then [`Refusal::SizeNotMultipleOfAlign`].
-    pub fn for_unpadded_type(size: u64, align: u64) -> Result<Layout> {
+    pub fn for_unpadded_type(size: Word, align: Word) -> Result<Layout> {
         exports::lukaripe_for_unpadded_type(size, align).answer().map(Layout::from_words)
     }
 
@@ -204,7 +204,7 @@ impl Layout {
     /// # Errors
     ///
     /// [`Refusal::AlignNotPowerOfTwo`], then [`Refusal::SizeNotMultipleOfAlign`].
-    pub fn for_slice(size: u64, align: u64) -> Result<Layout> {
+    pub fn for_slice(size: Word, align: Word) -> Result<Layout> {
         exports::lukaripe_for_slice(size, align).answer().map(Layout::from_words)
     }
 
@@ -229,7 +229,7 @@ impl Layout {
     /// [`Refusal::AlignNotPowerOfTwo`] or [`Refusal::RoundingWordZero`] for this layout, then for the member; then
     /// [`Refusal::PackingNotPowerOfTwo`], [`Refusal::AlignAboveMax`], [`Refusal::MemberAfterTrailing`],
     /// [`Refusal::RoundingPassesMax`], [`Refusal::MemberPassesMax`].
-    pub fn extend(self, field: Layout, repr_packed: Option<NonZeroU64>) -> Result<Layout> {
+    pub fn extend(self, field: Layout, repr_packed: Option<NonZeroWord>) -> Result<Layout> {
         exports::lukaripe_extend(self.words(), field.words(), or_zero(repr_packed)).answer().map(Layout::from_words)
     }
 
@@ -289,6 +289,6 @@ impl Layout {
 }
 
 /// In C an alignment or a packing of 0 means that none was asked for.
-pub(crate) fn or_zero(asked: Option<NonZeroU64>) -> u64 {
-    asked.map_or(0, NonZeroU64::get)
+pub(crate) fn or_zero(asked: Option<NonZeroWord>) -> Word {
+    asked.map_or(0, NonZeroWord::get)
 }

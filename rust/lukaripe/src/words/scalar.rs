@@ -1,7 +1,7 @@
 //! Scalars.
 
-use crate::exports;
-use crate::{Layout, Refusal, Result};
+use super::exports;
+use super::{Layout, Refusal, Result, Word};
 
 /// A scalar type. Signed integers have the layouts of the unsigned ones.
 ///
@@ -55,22 +55,23 @@ impl Scalar {
     }
 
     /// The code.
-    pub const fn code(self) -> u64 {
-        self as u64
+    pub const fn code(self) -> Word {
+        self as Word
     }
 }
 
 /// The scalar with this code; else [`Refusal::ScalarCode`].
-impl TryFrom<u64> for Scalar {
+impl TryFrom<Word> for Scalar {
     type Error = Refusal;
 
-    fn try_from(code: u64) -> Result<Scalar> {
+    fn try_from(code: Word) -> Result<Scalar> {
         Scalar::all().find(|scalar| scalar.code() == code).ok_or(Refusal::ScalarCode)
     }
 }
 
 impl Layout {
-    /// The layout of a scalar, with the mark.
+    /// The layout of a scalar, with the mark. It is aligned to its size, but for u64 and f64 at 32 bits: they are
+    /// aligned to 4 there, as on x86, and usize has 4 bytes.
     ///
     /// ```
     /// use lukaripe::{Layout, Scalar};
@@ -97,7 +98,7 @@ impl Layout {
     /// # Errors
     ///
     /// [`Refusal::ScalarCode`].
-    pub fn scalar_by_code(code: u64) -> Result<Layout> {
+    pub fn scalar_by_code(code: Word) -> Result<Layout> {
         exports::lukaripe_scalar(code).answer().map(Layout::from_words)
     }
 }

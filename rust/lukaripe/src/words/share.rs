@@ -1,44 +1,8 @@
 //! How much of the sizes at a list of counts is padding.
 
-use crate::exports;
-use crate::{Refusal, Refused, Result, Trailing};
-use core::fmt;
-
-/// One number over another, in lowest terms.
-///
-/// ```
-/// use lukaripe::Fraction;
-///
-/// let share = Fraction { numerator: 3, denominator: 20 };
-/// assert_eq!(share.to_string(), "3/20");
-/// assert_eq!(share.as_f64(), 0.15);
-/// ```
-#[derive(Clone, Copy, Debug, PartialEq, Eq, Hash)]
-pub struct Fraction {
-    /// The number above.
-    pub numerator: u64,
-    /// The number below, which is not 0.
-    pub denominator: u64,
-}
-
-impl Fraction {
-    /// About as much, as floating-point numbers have it. The fraction is exact, and this is not.
-    ///
-    /// ```
-    /// use lukaripe::Fraction;
-    ///
-    /// assert_eq!(Fraction { numerator: 40, denominator: 3 }.as_f64().round(), 13.0);
-    /// ```
-    pub fn as_f64(self) -> f64 {
-        self.numerator as f64 / self.denominator as f64
-    }
-}
-
-impl fmt::Display for Fraction {
-    fn fmt(&self, out: &mut fmt::Formatter) -> fmt::Result {
-        write!(out, "{}/{}", self.numerator, self.denominator)
-    }
-}
+use super::exports;
+use super::shapes::Share;
+use super::{Fraction, Refusal, Refused, Result, Trailing, Word};
 
 /// How much of the sizes at a list of counts is padding: what [`Trailing::padding_of_counts`] gives.
 #[derive(Clone, Copy, Debug, PartialEq, Eq, Hash)]
@@ -48,7 +12,7 @@ pub struct PaddingShare {
     /// The mean size.
     pub mean: Fraction,
     /// The greatest padding at one of the counts.
-    pub greatest: u64,
+    pub greatest: Word,
     /// The index of the first count that has it.
     pub index: usize,
 }
@@ -85,20 +49,19 @@ impl Trailing {
     /// - Then for each count in turn, at its index: [`Refusal::NoSizeAtZero`] or [`Refusal::NoSize`];
     ///   [`Refusal::EndAboveSize`] where the elements end above the size; [`Refusal::SumPassesMax`] where a sum over
     ///   the counts so far overflows.
-    pub fn padding_of_counts(self, counts: &[u64]) -> Result<PaddingShare, Refused> {
+    pub fn padding_of_counts(self, counts: &[Word]) -> Result<PaddingShare, Refused> {
         // SAFETY: the numbers are lent for the call.
         let told = unsafe { exports::lukaripe_padding_of_counts(self.words(), counts.as_ptr(), counts.len()) };
-        let [place, padding_numerator, padding_denominator, mean_numerator, mean_denominator, greatest, index] =
-            told.values;
+        let told = Share::from(told);
         match told.refusal {
             0 => Ok(PaddingShare {
-                padding: Fraction { numerator: padding_numerator, denominator: padding_denominator },
-                mean: Fraction { numerator: mean_numerator, denominator: mean_denominator },
-                greatest,
+                padding: Fraction::new(told.padding_numerator, told.padding_denominator),
+                mean: Fraction::new(told.mean_numerator, told.mean_denominator),
+                greatest: told.greatest,
                 // Below the number of counts.
-                index: index as usize,
+                index: told.index as usize,
             }),
-            number => Err(Refused { refusal: Refusal::told(number), place }),
+            number => Err(Refused { refusal: Refusal::told(number), place: told.place }),
         }
     }
 }

@@ -1,7 +1,8 @@
 //! Records read in place, from a map or from a spare copy of it.
 
-use crate::exports;
-use crate::{Cast, Layout, Refusal};
+use super::exports;
+use super::shapes;
+use super::{Cast, Layout, Refusal, Word};
 
 /// Which of two buffers serves, with what its prefix cast granted, and why the others do not.
 #[derive(Clone, Copy, Debug, PartialEq, Eq, Hash)]
@@ -26,7 +27,8 @@ pub enum Serving {
 
 impl Layout {
     /// Where to read a record of this layout: in a map of `map_len` bytes at `map_addr` where its prefix cast is
-    /// granted, else in a spare copy of `spare_len` bytes at `spare_addr` where that one's is.
+    /// granted, else in a spare copy of `spare_len` bytes at `spare_addr` where that one's is. The lengths have 64 bits
+    /// at either width; at 32 bits one above the greatest number is [`Refusal::AddressPassesMax`].
     ///
     /// ```
     /// use lukaripe::{Cast, Layout, Refusal, Serving};
@@ -38,13 +40,13 @@ impl Layout {
     /// assert_eq!(layout.which_serves(9, 10, 16, 10), Serving::Spare { map, cast });
     /// assert_eq!(layout.which_serves(9, 10, 17, 10), Serving::Neither { map, spare: Refusal::CastNotAligned });
     /// ```
-    pub fn which_serves(self, map_addr: u64, map_len: u64, spare_addr: u64, spare_len: u64) -> Serving {
+    pub fn which_serves(self, map_addr: Word, map_len: u64, spare_addr: Word, spare_len: u64) -> Serving {
         let told = exports::lukaripe_which_serves(self.words(), map_addr, map_len, spare_addr, spare_len);
-        let [spare, serves, count, split] = told.values;
+        let shapes::Serving { map_refusal, spare_refusal, serves, count, split } = told.into();
         match serves {
             1 => Serving::Map(Cast { count, split }),
-            2 => Serving::Spare { map: Refusal::told(told.refusal), cast: Cast { count, split } },
-            _ => Serving::Neither { map: Refusal::told(told.refusal), spare: Refusal::told(spare) },
+            2 => Serving::Spare { map: Refusal::told(map_refusal), cast: Cast { count, split } },
+            _ => Serving::Neither { map: Refusal::told(map_refusal), spare: Refusal::told(spare_refusal) },
         }
     }
 
@@ -53,7 +55,7 @@ impl Layout {
     /// granted cast of no bytes, and why.
     ///
     /// `map_addr` and `spare_addr` are the addresses against which alignment is judged, as those that the bytes have in
-    /// a mapped file. [`Layout::front_of`] takes the addresses of the slices themselves.
+    /// a mapped file. [`crate::Layout::front_of`], at 64 bits, takes the addresses of the slices themselves.
     ///
     /// ```
     /// use lukaripe::Layout;
@@ -67,35 +69,12 @@ impl Layout {
     /// // Neither serves.
     /// assert_eq!(layout.front(0x1001, &map, 0x2002, &spare), []);
     /// ```
-    pub fn front<'a>(self, map_addr: u64, map: &'a [u8], spare_addr: u64, spare: &'a [u8]) -> &'a [u8] {
+    pub fn front<'a>(self, map_addr: Word, map: &'a [u8], spare_addr: Word, spare: &'a [u8]) -> &'a [u8] {
         // A granted split is at most the length of its buffer.
         match self.which_serves(map_addr, map.len() as u64, spare_addr, spare.len() as u64) {
             Serving::Map(cast) => &map[..cast.split as usize],
             Serving::Spare { cast, .. } => &spare[..cast.split as usize],
             Serving::Neither { .. } => &map[..0],
         }
-    }
-
-    /// The same by the addresses at which the two slices stand.
-    ///
-    /// ```
-    /// use lukaripe::Layout;
-    ///
-    /// #[repr(align(4))]
-    /// struct Aligned([u8; 12]);
-    ///
-    /// // A record of two u32 that starts off its boundary, and an aligned copy of it.
-    /// let map = Aligned([0, 1, 0, 0, 0, 2, 0, 0, 0, 0, 0, 0]);
-    /// let record = &map.0[1..9];
-    /// let mut spare = Aligned([0; 12]);
-    /// spare.0[..8].copy_from_slice(record);
-    ///
-    /// let layout = Layout::of_slice::<u32>();
-    /// let front = layout.front_of(record, &spare.0[..8]);
-    /// assert_eq!(front, [1, 0, 0, 0, 2, 0, 0, 0]);
-    /// assert_eq!(front.as_ptr(), spare.0.as_ptr());
-    /// ```
-    pub fn front_of<'a>(self, map: &'a [u8], spare: &'a [u8]) -> &'a [u8] {
-        self.front(map.as_ptr() as u64, map, spare.as_ptr() as u64, spare)
     }
 }

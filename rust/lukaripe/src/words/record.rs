@@ -1,10 +1,7 @@
 //! Layouts as records.
 
-use crate::exports;
-use crate::{Layout, Refusal, Result};
-
-/// The bytes of a record: six little-endian words.
-pub const RECORD_LENGTH: usize = 48;
+use super::exports;
+use super::{Layout, Refusal, Result, RECORD_LENGTH};
 
 impl Layout {
     /// The record of the layout.
@@ -44,7 +41,7 @@ impl Layout {
     /// # Errors
     ///
     /// [`Refusal::Kind`], [`Refusal::AlignNotPowerOfTwo`], then for a fixed size [`Refusal::FixedRecord`], else
-    /// [`Refusal::RoundingWordZero`].
+    /// [`Refusal::RoundingWordZero`]; at 32 bits then [`Refusal::NumberPassesWidth`].
     pub fn from_bytes(record: &[u8; RECORD_LENGTH]) -> Result<Layout> {
         Layout::decode(record)
     }
@@ -63,8 +60,7 @@ impl Layout {
     ///
     /// # Errors
     ///
-    /// [`Refusal::RecordLength`], [`Refusal::Kind`], [`Refusal::AlignNotPowerOfTwo`], then for a fixed size
-    /// [`Refusal::FixedRecord`], else [`Refusal::RoundingWordZero`].
+    /// [`Refusal::RecordLength`], then those of [`Layout::from_bytes`].
     pub fn decode(record: &[u8]) -> Result<Layout> {
         // SAFETY: the bytes are lent for the call.
         unsafe { exports::lukaripe_decode(record.as_ptr(), record.len()) }.answer().map(Layout::from_words)

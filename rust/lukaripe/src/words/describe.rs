@@ -1,25 +1,12 @@
 //! Types described by bytes, and the layouts of arrays and slices that they are made of.
 
-use crate::compose::composed;
-use crate::exports;
+use super::exports;
+use super::shapes::Placed;
 #[cfg(doc)]
-use crate::{for_repr_c_struct, Refusal, Scalar};
-use crate::{Layout, Refused, Result};
-
-/// The tag of an array in a description ([`Layout::read`]).
-pub const TAG_ARRAY: u8 = 16;
-
-/// The tag of a struct.
-pub const TAG_STRUCT: u8 = 17;
-
-/// The tag of a slice.
-pub const TAG_SLICE: u8 = 18;
-
-/// The tag of a struct whose member count has two bytes.
-pub const TAG_LONG_STRUCT: u8 = 19;
-
-/// As many structs, arrays and slices may be open at once in a description.
-pub const DESCRIPTION_DEPTH: usize = 16;
+use super::{for_repr_c_struct, Refusal, Scalar};
+use super::{Layout, Refused, Result, Word};
+#[cfg(doc)]
+use super::{DESCRIPTION_DEPTH, TAG_ARRAY, TAG_LONG_STRUCT, TAG_SLICE, TAG_STRUCT};
 
 impl Layout {
     /// The layout of the type that the bytes describe, types inside types.
@@ -69,6 +56,7 @@ impl Layout {
     ///
     /// - [`Refusal::DescriptionCut`], at the first byte that is missing.
     /// - [`Refusal::TagOrPower`], at a tag that is unknown or a power above 63.
+    /// - At 32 bits [`Refusal::NumberPassesWidth`], at a power of 32 to 63.
     /// - [`Refusal::NestingTooDeep`], at the tag that opens one part more than [`DESCRIPTION_DEPTH`].
     /// - [`Refusal::ElemTrailing`] and [`Refusal::ArrayPassesMax`], at the tag of the array or slice.
     /// - [`Refusal::AlignAboveMax`], [`Refusal::MemberAfterTrailing`], [`Refusal::RoundingPassesMax`] and
@@ -76,7 +64,7 @@ impl Layout {
     /// - [`Refusal::BytesLeftOver`], at the first byte that is left over.
     pub fn read(description: &[u8]) -> Result<Layout, Refused> {
         // SAFETY: the bytes are lent for the call.
-        composed(unsafe { exports::lukaripe_read(description.as_ptr(), description.len()) })
+        Placed::from(unsafe { exports::lukaripe_read(description.as_ptr(), description.len()) }).layout()
     }
 
     /// An array of so many elements: alignment, mark and alignment modifier are the element's, also where there are
@@ -98,7 +86,7 @@ impl Layout {
     ///
     /// [`Refusal::AlignNotPowerOfTwo`] or [`Refusal::RoundingWordZero`] for the element; [`Refusal::ElemTrailing`],
     /// [`Refusal::ArrayPassesMax`].
-    pub fn for_array(elem: Layout, count: u64) -> Result<Layout> {
+    pub fn for_array(elem: Layout, count: Word) -> Result<Layout> {
         exports::lukaripe_for_array(elem.words(), count).answer().map(Layout::from_words)
     }
 

@@ -1,9 +1,9 @@
 //! Rounding helpers.
 
-use crate::exports;
+use super::exports;
 #[cfg(doc)]
-use crate::Refusal;
-use crate::Result;
+use super::Refusal;
+use super::{Result, Word};
 
 /// Whether `align` is a power of two.
 ///
@@ -13,11 +13,11 @@ use crate::Result;
 /// assert!(is_power_of_two(8));
 /// assert!(!is_power_of_two(0));
 /// ```
-pub fn is_power_of_two(align: u64) -> bool {
+pub fn is_power_of_two(align: Word) -> bool {
     exports::lukaripe_is_power_of_two(align) != 0
 }
 
-/// The smallest number of bytes that takes `len` to a multiple of `align`, modulo 2^64.
+/// The smallest number of bytes that takes `len` to a multiple of `align`, modulo 2^64, at 32 bits 2^32.
 ///
 /// ```
 /// use lukaripe::padding_needed_for;
@@ -31,7 +31,7 @@ pub fn is_power_of_two(align: u64) -> bool {
 /// # Errors
 ///
 /// [`Refusal::AlignNotPowerOfTwo`].
-pub fn padding_needed_for(len: u64, align: u64) -> Result<u64> {
+pub fn padding_needed_for(len: Word, align: Word) -> Result<Word> {
     exports::lukaripe_padding_needed_for(len, align).number()
 }
 
@@ -47,7 +47,7 @@ pub fn padding_needed_for(len: u64, align: u64) -> Result<u64> {
 /// # Errors
 ///
 /// [`Refusal::AlignNotPowerOfTwo`].
-pub fn round_down_to_next_multiple_of_alignment(n: u64, align: u64) -> Result<u64> {
+pub fn round_down_to_next_multiple_of_alignment(n: Word, align: Word) -> Result<Word> {
     exports::lukaripe_round_down_to_next_multiple_of_alignment(n, align).number()
 }
 
@@ -61,7 +61,7 @@ pub fn round_down_to_next_multiple_of_alignment(n: u64, align: u64) -> Result<u6
 /// # Errors
 ///
 /// [`Refusal::AlignNotPowerOfTwo`] for either.
-pub fn max(a: u64, b: u64) -> Result<u64> {
+pub fn max(a: Word, b: Word) -> Result<Word> {
     exports::lukaripe_max(a, b).number()
 }
 
@@ -78,6 +78,6 @@ pub fn max(a: u64, b: u64) -> Result<u64> {
 /// # Errors
 ///
 /// [`Refusal::AlignNotPowerOfTwo`] for either.
-pub fn min(a: u64, b: u64) -> Result<u64> {
+pub fn min(a: Word, b: Word) -> Result<Word> {
     exports::lukaripe_min(a, b).number()
 }

@@ -1,11 +1,13 @@
 //! Lists of members.
 
-use crate::exports::{self, Told};
-use crate::layout::or_zero;
-use crate::{Layout, Refusal, Refused, Result, RECORD_LENGTH};
+use super::exports;
+use super::layout::or_zero;
+use super::shapes::Placed as Composed;
+#[cfg(doc)]
+use super::Refusal;
+use super::{Layout, NonZeroWord, Refused, Result, Word, RECORD_LENGTH};
 use alloc::vec;
 use alloc::vec::Vec;
-use core::num::NonZeroU64;
 
 /// The layout of a `repr(C)` struct: its members one after the other, and the final padding.
 ///
@@ -40,8 +42,8 @@ use core::num::NonZeroU64;
 ///   [`Refusal::MemberAfterTrailing`], [`Refusal::RoundingPassesMax`], [`Refusal::MemberPassesMax`].
 /// - Then at the number of members: [`Refusal::RoundingPassesMax`] for the final padding.
 pub fn for_repr_c_struct(
-    repr_align: Option<NonZeroU64>,
-    repr_packed: Option<NonZeroU64>,
+    repr_align: Option<NonZeroWord>,
+    repr_packed: Option<NonZeroWord>,
     members: &[Layout],
 ) -> Result<Layout, Refused> {
     for_repr_c_struct_records(repr_align, repr_packed, records(members).as_flattened().as_flattened())
@@ -64,15 +66,17 @@ pub fn for_repr_c_struct(
 /// # Errors
 ///
 /// [`Refusal::RecordLength`] at 0, then those of [`for_repr_c_struct`], where a member is tested as a record:
-/// [`Refusal::Kind`], [`Refusal::AlignNotPowerOfTwo`], then [`Refusal::FixedRecord`] or [`Refusal::RoundingWordZero`].
+/// [`Refusal::Kind`], [`Refusal::AlignNotPowerOfTwo`], then [`Refusal::FixedRecord`] or [`Refusal::RoundingWordZero`],
+/// at 32 bits then [`Refusal::NumberPassesWidth`].
 pub fn for_repr_c_struct_records(
-    repr_align: Option<NonZeroU64>,
-    repr_packed: Option<NonZeroU64>,
+    repr_align: Option<NonZeroWord>,
+    repr_packed: Option<NonZeroWord>,
     members: &[u8],
 ) -> Result<Layout, Refused> {
     let (align, packed) = (or_zero(repr_align), or_zero(repr_packed));
     // SAFETY: the bytes are lent for the call.
-    composed(unsafe { exports::lukaripe_for_repr_c_struct(align, packed, members.as_ptr(), members.len()) })
+    let told = unsafe { exports::lukaripe_for_repr_c_struct(align, packed, members.as_ptr(), members.len()) };
+    Composed::from(told).layout()
 }
 
 /// [`for_repr_c_struct`] of what the Rust Reference allows: it forbids an alignment and a packing on one type, and a
@@ -116,8 +120,8 @@ pub fn for_repr_c_struct_records(
 ///   [`Refusal::RoundingPassesMax`], [`Refusal::MemberPassesMax`].
 /// - Then at the number of members: [`Refusal::RoundingPassesMax`] for the final padding.
 pub fn for_repr_c_struct_strict(
-    repr_align: Option<NonZeroU64>,
-    repr_packed: Option<NonZeroU64>,
+    repr_align: Option<NonZeroWord>,
+    repr_packed: Option<NonZeroWord>,
     members: &[Layout],
 ) -> Result<Layout, Refused> {
     for_repr_c_struct_strict_records(repr_align, repr_packed, records(members).as_flattened().as_flattened())
@@ -143,15 +147,17 @@ pub fn for_repr_c_struct_strict(
 /// # Errors
 ///
 /// [`Refusal::RecordLength`] at 0, then those of [`for_repr_c_struct_strict`], where a member is tested as a record:
-/// [`Refusal::Kind`], [`Refusal::AlignNotPowerOfTwo`], then [`Refusal::FixedRecord`] or [`Refusal::RoundingWordZero`].
+/// [`Refusal::Kind`], [`Refusal::AlignNotPowerOfTwo`], then [`Refusal::FixedRecord`] or [`Refusal::RoundingWordZero`],
+/// at 32 bits then [`Refusal::NumberPassesWidth`].
 pub fn for_repr_c_struct_strict_records(
-    repr_align: Option<NonZeroU64>,
-    repr_packed: Option<NonZeroU64>,
+    repr_align: Option<NonZeroWord>,
+    repr_packed: Option<NonZeroWord>,
     members: &[u8],
 ) -> Result<Layout, Refused> {
     let (align, packed) = (or_zero(repr_align), or_zero(repr_packed));
     // SAFETY: the bytes are lent for the call.
-    composed(unsafe { exports::lukaripe_for_repr_c_struct_strict(align, packed, members.as_ptr(), members.len()) })
+    let told = unsafe { exports::lukaripe_for_repr_c_struct_strict(align, packed, members.as_ptr(), members.len()) };
+    Composed::from(told).layout()
 }
 
 /// A `repr(C)` struct, and where its members stand.
@@ -161,9 +167,9 @@ pub struct Placed {
     pub layout: Layout,
     /// Where each member starts. Of one that ends in a run of elements too: the run itself starts at the offset of
     /// [`Layout::trailing`].
-    pub places: Vec<u64>,
+    pub places: Vec<Word>,
     /// The bytes between each member and the end of the one before it. The final padding stands in none.
-    pub gaps: Vec<u64>,
+    pub gaps: Vec<Word>,
 }
 
 /// [`for_repr_c_struct`], with the place of each member and the gap before it.
@@ -204,8 +210,8 @@ pub struct Placed {
 ///
 /// Those of [`for_repr_c_struct`].
 pub fn for_repr_c_struct_places(
-    repr_align: Option<NonZeroU64>,
-    repr_packed: Option<NonZeroU64>,
+    repr_align: Option<NonZeroWord>,
+    repr_packed: Option<NonZeroWord>,
     members: &[Layout],
 ) -> Result<Placed, Refused> {
     for_repr_c_struct_places_records(repr_align, repr_packed, records(members).as_flattened().as_flattened())
@@ -228,8 +234,8 @@ pub fn for_repr_c_struct_places(
 ///
 /// Those of [`for_repr_c_struct_records`].
 pub fn for_repr_c_struct_places_records(
-    repr_align: Option<NonZeroU64>,
-    repr_packed: Option<NonZeroU64>,
+    repr_align: Option<NonZeroWord>,
+    repr_packed: Option<NonZeroWord>,
     members: &[u8],
 ) -> Result<Placed, Refused> {
     let count = members.len() / RECORD_LENGTH;
@@ -271,15 +277,15 @@ pub fn for_repr_c_struct_places_records(
 /// [`Refusal::RecordLength`] at 0; [`Refusal::SliceLength`] at 0 where `places` or `gaps` has another length than there
 /// are members; then those of [`for_repr_c_struct_records`]. With any of them nothing is written.
 pub fn for_repr_c_struct_places_into(
-    repr_align: Option<NonZeroU64>,
-    repr_packed: Option<NonZeroU64>,
+    repr_align: Option<NonZeroWord>,
+    repr_packed: Option<NonZeroWord>,
     members: &[u8],
-    places: &mut [u64],
-    gaps: &mut [u64],
+    places: &mut [Word],
+    gaps: &mut [Word],
 ) -> Result<Layout, Refused> {
     let (align, packed) = (or_zero(repr_align), or_zero(repr_packed));
     // SAFETY: bytes and numbers are lent for the call, and the two slices are this call's alone.
-    composed(unsafe {
+    let told = unsafe {
         exports::lukaripe_for_repr_c_struct_places(
             align,
             packed,
@@ -290,7 +296,8 @@ pub fn for_repr_c_struct_places_into(
             gaps.as_mut_ptr(),
             gaps.len(),
         )
-    })
+    };
+    Composed::from(told).layout()
 }
 
 /// [`for_repr_c_struct`] without the final padding.
@@ -314,8 +321,8 @@ pub fn for_repr_c_struct_places_into(
 ///
 /// Those of [`for_repr_c_struct`] but for the final padding.
 pub fn compose(
-    repr_align: Option<NonZeroU64>,
-    repr_packed: Option<NonZeroU64>,
+    repr_align: Option<NonZeroWord>,
+    repr_packed: Option<NonZeroWord>,
     members: &[Layout],
 ) -> Result<Layout, Refused> {
     compose_records(repr_align, repr_packed, records(members).as_flattened().as_flattened())
@@ -336,25 +343,18 @@ pub fn compose(
 ///
 /// Those of [`for_repr_c_struct_records`] but for the final padding.
 pub fn compose_records(
-    repr_align: Option<NonZeroU64>,
-    repr_packed: Option<NonZeroU64>,
+    repr_align: Option<NonZeroWord>,
+    repr_packed: Option<NonZeroWord>,
     members: &[u8],
 ) -> Result<Layout, Refused> {
     let (align, packed) = (or_zero(repr_align), or_zero(repr_packed));
     // SAFETY: the bytes are lent for the call.
-    composed(unsafe { exports::lukaripe_compose(align, packed, members.as_ptr(), members.len()) })
+    let told = unsafe { exports::lukaripe_compose(align, packed, members.as_ptr(), members.len()) };
+    Composed::from(told).layout()
 }
 
 /// The records of members, also of those that are refused, so that they are refused in their turn.
 fn records(members: &[Layout]) -> Vec<[[u8; 8]; 6]> {
-    members.iter().map(|member| member.words().0.map(u64::to_le_bytes)).collect()
-}
-
-/// The first value of a composition, and of a description, is the place.
-pub(crate) fn composed(told: Told<7>) -> Result<Layout, Refused> {
-    let [place, words @ ..] = told.values;
-    match told.refusal {
-        0 => Ok(Layout::from_words(words)),
-        number => Err(Refused { refusal: Refusal::told(number), place }),
-    }
+    let record = |member: &Layout| member.words().0.map(|word| u64::from(word).to_le_bytes());
+    members.iter().map(record).collect()
 }

@@ -1,9 +1,10 @@
 //! Descriptions with the member counts of all structs in two bytes, or in one.
 
-use crate::exports;
+use super::exports;
+use super::shapes::Moved;
 #[cfg(doc)]
-use crate::{Layout, Refusal, TAG_LONG_STRUCT, TAG_STRUCT};
-use crate::{Refused, Result};
+use super::{Layout, Refusal, TAG_LONG_STRUCT, TAG_STRUCT};
+use super::{Refused, Result};
 use alloc::vec;
 use alloc::vec::Vec;
 
@@ -38,7 +39,7 @@ const SHORTEST_STRUCT: usize = 4;
 pub fn lengthen_counts(description: &[u8], out: &mut [u8]) -> Result<usize, Refused> {
     let (from, len, to, out_len) = (description.as_ptr(), description.len(), out.as_mut_ptr(), out.len());
     // SAFETY: the bytes are lent for the call, and those of `out` are its alone.
-    unsafe { exports::lukaripe_lengthen_counts(from, len, to, out_len) }.written()
+    Moved::from(unsafe { exports::lukaripe_lengthen_counts(from, len, to, out_len) }).written()
 }
 
 /// [`lengthen_counts`] into a vector of the length that it takes.
@@ -88,7 +89,7 @@ pub fn lengthen_counts_vec(description: &[u8]) -> Result<Vec<u8>, Refused> {
 pub fn shorten_counts(description: &[u8], out: &mut [u8]) -> Result<usize, Refused> {
     let (from, len, to, out_len) = (description.as_ptr(), description.len(), out.as_mut_ptr(), out.len());
     // SAFETY: the bytes are lent for the call, and those of `out` are its alone.
-    unsafe { exports::lukaripe_shorten_counts(from, len, to, out_len) }.written()
+    Moved::from(unsafe { exports::lukaripe_shorten_counts(from, len, to, out_len) }).written()
 }
 
 /// [`shorten_counts`] into a vector of the length that it takes.

@@ -1,9 +1,9 @@
 //! The rounding word.
 
-use crate::exports;
+use super::exports;
 #[cfg(doc)]
-use crate::Refusal;
-use crate::Result;
+use super::Refusal;
+use super::{Result, Word};
 
 /// The rounding word: an alignment, a power of two, plus a phase below it. Each word but 0 is exactly one such pair.
 ///
@@ -11,7 +11,7 @@ use crate::Result;
 #[derive(Clone, Copy, Debug, PartialEq, Eq, Hash)]
 pub struct RoundingAlignAndPhase(
     /// The sum of the two.
-    pub u64,
+    pub Word,
 );
 
 impl RoundingAlignAndPhase {
@@ -28,7 +28,7 @@ impl RoundingAlignAndPhase {
     /// # Errors
     ///
     /// [`Refusal::AlignNotPowerOfTwo`], then [`Refusal::PhaseNotBelowAlign`].
-    pub fn new(align: u64, phase: u64) -> Result<RoundingAlignAndPhase> {
+    pub fn new(align: Word, phase: Word) -> Result<RoundingAlignAndPhase> {
         exports::lukaripe_rounding_new(align, phase).number().map(RoundingAlignAndPhase)
     }
 
@@ -50,7 +50,7 @@ impl RoundingAlignAndPhase {
     /// # Errors
     ///
     /// [`Refusal::RoundingWordZero`].
-    pub fn components(self) -> Result<(u64, u64)> {
+    pub fn components(self) -> Result<(Word, Word)> {
         exports::lukaripe_rounding_components(self.0).answer().map(|[align, phase]| (align, phase))
     }
 
@@ -66,7 +66,7 @@ impl RoundingAlignAndPhase {
     /// # Errors
     ///
     /// [`Refusal::RoundingWordZero`].
-    pub fn align(self) -> Result<u64> {
+    pub fn align(self) -> Result<Word> {
         exports::lukaripe_rounding_align(self.0).number()
     }
 }

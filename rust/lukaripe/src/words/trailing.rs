@@ -1,9 +1,9 @@
 //! Layouts that end in a run of elements.
 
-use crate::exports::{self, Words};
+use super::exports::{self, Words};
 #[cfg(doc)]
-use crate::Refusal;
-use crate::{NoSize, Result, RoundingAlignAndPhase};
+use super::Refusal;
+use super::{NoSize, Result, RoundingAlignAndPhase, Word};
 
 /// The run of elements at the end of a layout.
 ///
@@ -28,11 +28,11 @@ use crate::{NoSize, Result, RoundingAlignAndPhase};
 #[derive(Clone, Copy, Debug, PartialEq, Eq, Hash)]
 pub struct Trailing {
     /// What comes before the part that is rounded.
-    pub size_base: u64,
+    pub size_base: Word,
     /// Where the elements start.
-    pub offset: u64,
+    pub offset: Word,
     /// The size of one element.
-    pub elem_size: u64,
+    pub elem_size: Word,
     /// How the rest of the size is rounded.
     pub size_rounding_align_and_phase: RoundingAlignAndPhase,
 }
@@ -42,7 +42,7 @@ impl Trailing {
         Words([self.size_base, self.offset, self.elem_size, self.size_rounding_align_and_phase.0])
     }
 
-    pub(crate) fn from_words([size_base, offset, elem_size, word]: [u64; 4]) -> Trailing {
+    pub(crate) fn from_words([size_base, offset, elem_size, word]: [Word; 4]) -> Trailing {
         Trailing { size_base, offset, elem_size, size_rounding_align_and_phase: RoundingAlignAndPhase(word) }
     }
 
@@ -60,7 +60,7 @@ impl Trailing {
     /// # Errors
     ///
     /// [`Refusal::RoundingWordZero`].
-    pub fn size_offset(self) -> Result<u64> {
+    pub fn size_offset(self) -> Result<Word> {
         exports::lukaripe_size_offset(self.words()).number()
     }
 
@@ -79,11 +79,11 @@ impl Trailing {
     /// # Errors
     ///
     /// [`Refusal::RoundingWordZero`], then [`Refusal::NoRoom`].
-    pub fn max_trailing_bytes(self, available_bytes: u64) -> Result<u64> {
+    pub fn max_trailing_bytes(self, available_bytes: Word) -> Result<Word> {
         exports::lukaripe_max_trailing_bytes(self.words(), available_bytes).number()
     }
 
-    /// The padding after `elems` elements: the size less the end of the elements, modulo 2^64.
+    /// The padding after `elems` elements: the size less the end of the elements, modulo 2^64, at 32 bits 2^32.
     ///
     /// ```
     /// use lukaripe::{RoundingAlignAndPhase, Trailing};
@@ -99,7 +99,7 @@ impl Trailing {
     /// # Errors
     ///
     /// [`Refusal::RoundingWordZero`].
-    pub fn padding_for_elems(self, elems: u64) -> Result<u64> {
+    pub fn padding_for_elems(self, elems: Word) -> Result<Word> {
         exports::lukaripe_padding_for_elems(self.words(), elems).number()
     }
 
@@ -122,7 +122,7 @@ impl Trailing {
     ///
     /// [`Refusal::RoundingWordZero`]; [`Refusal::NoSizeAtZero`] where not even count 0 has a size; then
     /// [`Refusal::NoSize`], with the greatest count that has one.
-    pub fn size_for_elems(self, elems: u64) -> Result<u64, NoSize> {
+    pub fn size_for_elems(self, elems: Word) -> Result<Word, NoSize> {
         exports::lukaripe_size_for_elems(self.words(), elems).size()
     }
 
@@ -143,7 +143,7 @@ impl Trailing {
     /// # Errors
     ///
     /// [`Refusal::RoundingWordZero`], then [`Refusal::AdvancePassesMax`].
-    pub fn advance(self, bytes: u64, elem_size: u64) -> Result<Trailing> {
+    pub fn advance(self, bytes: Word, elem_size: Word) -> Result<Trailing> {
         exports::lukaripe_advance(self.words(), bytes, elem_size).answer().map(Trailing::from_words)
     }
 

@@ -1,107 +1,19 @@
-//! Layouts as short records, and lists of records that are moved from one form to the other.
+//! The two forms of records, and lists of records that are moved from one to the other.
 
-use crate::exports::{self, Told};
-use crate::{Layout, Refusal, Refused, Result, RECORD_LENGTH};
+use crate::exports;
+use crate::shapes::Moved;
+#[cfg(doc)]
+use crate::Refusal;
+use crate::{Refused, Result};
 use alloc::vec;
 use alloc::vec::Vec;
+
+/// The bytes of a record: six little-endian words, of 64 bits at either width.
+pub const RECORD_LENGTH: usize = 48;
 
 /// The bytes of a short record: three words, then the rounding word in 4 bytes, the power of two that the alignment is,
 /// the kind, and two bytes that are 0, all little-endian.
 pub const SHORT_RECORD_LENGTH: usize = 32;
-
-impl Layout {
-    /// The short record of the layout.
-    ///
-    /// ```
-    /// use lukaripe::{Layout, Refusal, RoundingAlignAndPhase, SizeInfo};
-    ///
-    /// let mut layout = Layout::of_slice::<u32>();
-    /// let record = layout.to_short_bytes()?;
-    /// assert_eq!(Layout::from_short_bytes(&record)?, layout);
-    ///
-    /// // A rounding word of more than 32 bits has no room.
-    /// let mut text = layout.trailing().unwrap();
-    /// text.size_rounding_align_and_phase = RoundingAlignAndPhase::new(1 << 32, 0)?;
-    /// layout.size_info = SizeInfo::SliceDst(text);
-    /// assert_eq!(layout.to_short_bytes(), Err(Refusal::WordAboveShort));
-    /// # Ok::<(), Refusal>(())
-    /// ```
-    ///
-    /// # Errors
-    ///
-    /// [`Refusal::AlignNotPowerOfTwo`], [`Refusal::RoundingWordZero`], [`Refusal::WordAboveShort`].
-    pub fn to_short_bytes(self) -> Result<[u8; SHORT_RECORD_LENGTH]> {
-        let mut record = [0; SHORT_RECORD_LENGTH];
-        self.encode_short(&mut record)?;
-        Ok(record)
-    }
-
-    /// The layout of a short record.
-    ///
-    /// ```
-    /// use lukaripe::{Layout, Refusal, Scalar};
-    ///
-    /// let mut record = Layout::scalar(Scalar::U32).to_short_bytes()?;
-    /// assert_eq!(Layout::from_short_bytes(&record)?, Layout::scalar(Scalar::U32));
-    ///
-    /// // The alignment is 1 << 64 now, which is none.
-    /// record[28] = 64;
-    /// assert_eq!(Layout::from_short_bytes(&record), Err(Refusal::SpareOrPower));
-    /// # Ok::<(), Refusal>(())
-    /// ```
-    ///
-    /// # Errors
-    ///
-    /// [`Refusal::Kind`], [`Refusal::SpareOrPower`], then for a fixed size [`Refusal::FixedRecord`], else
-    /// [`Refusal::RoundingWordZero`].
-    pub fn from_short_bytes(record: &[u8; SHORT_RECORD_LENGTH]) -> Result<Layout> {
-        Layout::decode_short(record)
-    }
-
-    /// Reads a short record from a slice of its length.
-    ///
-    /// ```
-    /// use lukaripe::{Layout, Refusal, Scalar, SHORT_RECORD_LENGTH};
-    ///
-    /// let record = Layout::scalar(Scalar::U32).to_short_bytes()?;
-    /// let file = [record, record].concat();
-    /// assert_eq!(Layout::decode_short(&file[SHORT_RECORD_LENGTH..])?, Layout::scalar(Scalar::U32));
-    /// assert_eq!(Layout::decode_short(&file), Err(Refusal::RecordLength));
-    /// # Ok::<(), Refusal>(())
-    /// ```
-    ///
-    /// # Errors
-    ///
-    /// [`Refusal::RecordLength`], then those of [`Layout::from_short_bytes`].
-    pub fn decode_short(record: &[u8]) -> Result<Layout> {
-        // SAFETY: the bytes are lent for the call.
-        unsafe { exports::lukaripe_decode_short(record.as_ptr(), record.len()) }.answer().map(Layout::from_words)
-    }
-
-    /// Writes the short record into a slice of its length. On a refusal no byte of `out` has changed.
-    ///
-    /// ```
-    /// use lukaripe::{Layout, Refusal, Scalar, SHORT_RECORD_LENGTH};
-    ///
-    /// let mut file = [0; 2 * SHORT_RECORD_LENGTH];
-    /// for record in file.chunks_mut(SHORT_RECORD_LENGTH) {
-    ///     Layout::scalar(Scalar::U8).encode_short(record)?;
-    /// }
-    /// assert_eq!(Layout::scalar(Scalar::U8).encode_short(&mut file), Err(Refusal::RecordLength));
-    /// # Ok::<(), Refusal>(())
-    /// ```
-    ///
-    /// # Errors
-    ///
-    /// [`Refusal::RecordLength`], then those of [`Layout::to_short_bytes`].
-    pub fn encode_short(self, out: &mut [u8]) -> Result<()> {
-        // SAFETY: the bytes are lent for the call.
-        match unsafe { exports::lukaripe_encode_short(self.words(), out.as_mut_ptr(), out.len()) } {
-            0 => Ok(()),
-            number => Err(Refusal::told(number)),
-        }
-    }
-}
 
 /// Writes the short forms of records that stand end to end to the front of `out`, and gives the number of bytes
 /// written. Behind them `out` is as it was, and on a refusal all of it is.
@@ -140,8 +52,9 @@ impl Layout {
 ///   [`Refusal::FixedRecord`] or [`Refusal::RoundingWordZero`], then [`Refusal::WordAboveShort`].
 pub fn records_to_short(records: &[u8], out: &mut [u8]) -> Result<usize, Refused> {
     // SAFETY: the bytes are lent for the call, and those of `out` are its alone.
-    unsafe { exports::lukaripe_records_to_short(records.as_ptr(), records.len(), out.as_mut_ptr(), out.len()) }
-        .written()
+    let told =
+        unsafe { exports::lukaripe_records_to_short(records.as_ptr(), records.len(), out.as_mut_ptr(), out.len()) };
+    Moved::from(told).written()
 }
 
 /// [`records_to_short`] into a vector of the length that it takes.
@@ -191,8 +104,9 @@ pub fn records_to_short_vec(records: &[u8]) -> Result<Vec<u8>, Refused> {
 ///   [`Refusal::FixedRecord`] or [`Refusal::RoundingWordZero`].
 pub fn records_from_short(records: &[u8], out: &mut [u8]) -> Result<usize, Refused> {
     // SAFETY: the bytes are lent for the call, and those of `out` are its alone.
-    unsafe { exports::lukaripe_records_from_short(records.as_ptr(), records.len(), out.as_mut_ptr(), out.len()) }
-        .written()
+    let told =
+        unsafe { exports::lukaripe_records_from_short(records.as_ptr(), records.len(), out.as_mut_ptr(), out.len()) };
+    Moved::from(told).written()
 }
 
 /// [`records_from_short`] into a vector of the length that it takes.
@@ -217,16 +131,4 @@ pub fn records_from_short_vec(records: &[u8]) -> Result<Vec<u8>, Refused> {
     let mut out = vec![0; records.len() / SHORT_RECORD_LENGTH * RECORD_LENGTH];
     records_from_short(records, &mut out)?;
     Ok(out)
-}
-
-impl Told<2> {
-    /// How many bytes were written.
-    pub(crate) fn written(self) -> Result<usize, Refused> {
-        let [place, written] = self.values;
-        match self.refusal {
-            // Not more than `out` has.
-            0 => Ok(written as usize),
-            number => Err(Refused { refusal: Refusal::told(number), place }),
-        }
-    }
 }

@@ -1,11 +1,10 @@
 //! A layout that is built member by member.
 
-use crate::exports::{self, Words};
-use crate::layout::or_zero;
+use super::exports::{self, Words};
+use super::layout::or_zero;
 #[cfg(doc)]
-use crate::{compose, for_repr_c_struct};
-use crate::{Layout, Refusal, Result};
-use core::num::NonZeroU64;
+use super::{compose, for_repr_c_struct};
+use super::{Layout, NonZeroWord, Refusal, Result};
 
 /// A `repr(C)` struct whose members are added one by one, as its maker types them.
 ///
@@ -44,7 +43,7 @@ use core::num::NonZeroU64;
 #[derive(Clone, Copy, Debug, PartialEq, Eq, Hash)]
 pub struct Working {
     layout: Layout,
-    repr_packed: Option<NonZeroU64>,
+    repr_packed: Option<NonZeroWord>,
 }
 
 impl Working {
@@ -68,7 +67,7 @@ impl Working {
     /// # Errors
     ///
     /// [`Refusal::AlignNotPowerOfTwo`].
-    pub fn begin(repr_align: Option<NonZeroU64>, repr_packed: Option<NonZeroU64>) -> Result<Working> {
+    pub fn begin(repr_align: Option<NonZeroWord>, repr_packed: Option<NonZeroWord>) -> Result<Working> {
         let layout = exports::lukaripe_working_begin(or_zero(repr_align)).answer().map(Layout::from_words)?;
         Ok(Working { layout, repr_packed })
     }
@@ -91,7 +90,7 @@ impl Working {
     /// assert_eq!(odd.add(Layout::of::<u8>()), Err(Refusal::AlignNotPowerOfTwo));
     /// # Ok::<(), Refusal>(())
     /// ```
-    pub const fn from_layout(layout: Layout, repr_packed: Option<NonZeroU64>) -> Working {
+    pub const fn from_layout(layout: Layout, repr_packed: Option<NonZeroWord>) -> Working {
         Working { layout, repr_packed }
     }
 
@@ -134,8 +133,8 @@ impl Working {
     /// # Errors
     ///
     /// Those of [`Working::add`], where the member is tested as a record: [`Refusal::RecordLength`], [`Refusal::Kind`],
-    /// [`Refusal::AlignNotPowerOfTwo`], then [`Refusal::FixedRecord`] or [`Refusal::RoundingWordZero`]. With any of
-    /// them nothing has changed.
+    /// [`Refusal::AlignNotPowerOfTwo`], then [`Refusal::FixedRecord`] or [`Refusal::RoundingWordZero`], at 32 bits then
+    /// [`Refusal::NumberPassesWidth`]. With any of them nothing has changed.
     pub fn add_record(&mut self, record: &[u8]) -> Result<()> {
         let packed = or_zero(self.repr_packed);
         // SAFETY: the bytes are lent for the call.

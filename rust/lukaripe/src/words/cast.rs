@@ -1,26 +1,17 @@
 //! Casts.
 
-use crate::exports::{self, Told};
+use super::exports::{self, Told};
 #[cfg(doc)]
-use crate::Refusal;
-use crate::{Layout, Result};
-
-/// Which end of the bytes a cast takes.
-#[derive(Clone, Copy, Debug, PartialEq, Eq, Hash)]
-pub enum CastType {
-    /// The bytes from the start.
-    Prefix,
-    /// The bytes up to the end.
-    Suffix,
-}
+use super::Refusal;
+use super::{CastType, Layout, Result, Word};
 
 /// A granted cast.
 #[derive(Clone, Copy, Debug, PartialEq, Eq, Hash)]
 pub struct Cast {
     /// The greatest count whose size is at most the length; 0 for a fixed layout.
-    pub count: u64,
+    pub count: Word,
     /// Where the bytes are divided: after a prefix, before a suffix.
-    pub split: u64,
+    pub split: Word,
 }
 
 impl Cast {
@@ -57,7 +48,7 @@ impl Layout {
     ///
     /// [`Refusal::AlignNotPowerOfTwo`], [`Refusal::RoundingWordZero`], [`Refusal::CastElemSizeZero`],
     /// [`Refusal::AddressPassesMax`], [`Refusal::CastNotAligned`], [`Refusal::CastTooSmall`].
-    pub fn validate_cast_and_convert_metadata(self, addr: u64, bytes_len: u64, cast_type: CastType) -> Result<Cast> {
+    pub fn validate_cast_and_convert_metadata(self, addr: Word, bytes_len: Word, cast_type: CastType) -> Result<Cast> {
         let suffix = cast_type == CastType::Suffix;
         Cast::told(exports::lukaripe_validate_cast_and_convert_metadata(self.words(), addr, bytes_len, suffix))
     }
@@ -80,7 +71,7 @@ impl Layout {
     ///
     /// [`Refusal::AlignNotPowerOfTwo`], [`Refusal::RoundingWordZero`], then [`Refusal::NoExactCount`], which also comes
     /// of a fixed layout and of elements of size 0.
-    pub fn metadata_for_exact_size(self, size: u64) -> Result<u64> {
+    pub fn metadata_for_exact_size(self, size: Word) -> Result<Word> {
         exports::lukaripe_metadata_for_exact_size(self.words(), size).number()
     }
 }

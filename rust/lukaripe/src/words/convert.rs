@@ -1,9 +1,9 @@
 //! Conversions.
 
-use crate::exports::{self, Words};
+use super::exports::{self, Words};
 #[cfg(doc)]
-use crate::Refusal;
-use crate::{Cast, Layout, Result, Trailing};
+use super::Refusal;
+use super::{Cast, Layout, Result, Trailing, Word};
 use CastParams::*;
 
 /// How the count of one layout becomes the count of another that has the same size.
@@ -14,14 +14,14 @@ pub enum CastParams {
     /// The source is fixed: the count is always the same.
     SizedToUnsized {
         /// The count.
-        dst_meta: u64,
+        dst_meta: Word,
     },
     /// Count n becomes `offset_delta_elems + n * elem_multiple`.
     UnsizedToUnsized {
         /// The count that 0 becomes.
-        offset_delta_elems: u64,
+        offset_delta_elems: Word,
         /// How many elements of the target one of the source is.
-        elem_multiple: u64,
+        elem_multiple: Word,
     },
 }
 
@@ -34,7 +34,7 @@ impl CastParams {
         })
     }
 
-    pub(crate) fn from_words([kind, offset_delta_elems, elem_multiple, dst_meta]: [u64; 4]) -> CastParams {
+    pub(crate) fn from_words([kind, offset_delta_elems, elem_multiple, dst_meta]: [Word; 4]) -> CastParams {
         match kind {
             0 => SizedToSized,
             1 => SizedToUnsized { dst_meta },
@@ -90,7 +90,7 @@ impl CastParams {
     /// # Errors
     ///
     /// [`Refusal::ConvertedCountPassesMax`].
-    pub fn cast_metadata(self, src_meta: u64) -> Result<u64> {
+    pub fn cast_metadata(self, src_meta: Word) -> Result<Word> {
         exports::lukaripe_cast_metadata(self.words(), src_meta).number()
     }
 }
@@ -113,7 +113,7 @@ impl CastParams {
 /// # Errors
 ///
 /// [`Refusal::RoundingWordZero`] for either.
-pub fn size_sequences_match(src: Trailing, dst: Trailing, dst_base: u64) -> Result<bool> {
+pub fn size_sequences_match(src: Trailing, dst: Trailing, dst_base: Word) -> Result<bool> {
     exports::lukaripe_size_sequences_match(src.words(), dst.words(), dst_base).decision()
 }
 
@@ -123,7 +123,7 @@ pub struct Carried {
     /// The conversion: [`CastParams::try_compute`].
     pub computed: Result<CastParams>,
     /// The converted count: [`CastParams::cast_metadata`], or why there is no conversion.
-    pub count: Result<u64>,
+    pub count: Result<Word>,
     /// The cast over `bytes_len` bytes: [`Layout::validate_cast_and_convert_metadata`].
     pub first: Result<Cast>,
     /// The cast over `more_len` bytes.
@@ -162,7 +162,14 @@ pub struct Carried {
 /// ```
 ///
 /// A layout that is refused, `src` before `dst`, refuses all four.
-pub fn convert_and_cast(src: Layout, dst: Layout, src_meta: u64, addr: u64, bytes_len: u64, more_len: u64) -> Carried {
+pub fn convert_and_cast(
+    src: Layout,
+    dst: Layout,
+    src_meta: Word,
+    addr: Word,
+    bytes_len: Word,
+    more_len: Word,
+) -> Carried {
     Carried::told(exports::lukaripe_convert_and_cast(src.words(), dst.words(), src_meta, addr, bytes_len, more_len))
 }
 

@@ -1,10 +1,10 @@
 //! Whether sizes are equal, told in full: the comparison, the normal form, and conversions by them.
 
-use crate::exports;
+use super::exports;
 #[cfg(doc)]
-use crate::Refusal;
-use crate::{convert_and_cast, size_sequences_match};
-use crate::{Carried, CastParams, Layout, Result, RoundingAlignAndPhase, Trailing};
+use super::Refusal;
+use super::{convert_and_cast, size_sequences_match};
+use super::{Carried, CastParams, Layout, Mode, Result, RoundingAlignAndPhase, Trailing, Word};
 
 /// What of a trailing layout its sizes show: two layouts have equal sizes at every count exactly when their forms are
 /// equal.
@@ -31,9 +31,9 @@ use crate::{Carried, CastParams, Layout, Result, RoundingAlignAndPhase, Trailing
 #[derive(Clone, Copy, Debug, PartialEq, Eq, Hash)]
 pub struct NormalForm {
     /// What comes before the part that is rounded.
-    pub size_base: u64,
+    pub size_base: Word,
     /// The size of one element.
-    pub elem_size: u64,
+    pub elem_size: Word,
     /// How the rest of the size is rounded.
     pub size_rounding_align_and_phase: RoundingAlignAndPhase,
 }
@@ -54,7 +54,7 @@ impl NormalForm {
     /// assert_eq!(form.with_offset(9).normal_form()?, form);
     /// # Ok::<(), lukaripe::Refusal>(())
     /// ```
-    pub fn with_offset(self, offset: u64) -> Trailing {
+    pub fn with_offset(self, offset: Word) -> Trailing {
         let NormalForm { size_base, elem_size, size_rounding_align_and_phase } = self;
         Trailing { size_base, offset, elem_size, size_rounding_align_and_phase }
     }
@@ -106,16 +106,6 @@ impl Trailing {
         let [size_base, elem_size, word] = exports::lukaripe_normal_form(self.words()).answer()?;
         Ok(NormalForm { size_base, elem_size, size_rounding_align_and_phase: RoundingAlignAndPhase(word) })
     }
-}
-
-/// By which comparison of sizes a conversion is found.
-#[derive(Clone, Copy, Debug, PartialEq, Eq, Hash)]
-pub enum Mode {
-    /// By [`Trailing::has_same_size_sequence`], which zerocopy has: some equal sizes are not found. The functions
-    /// without a mode have this one.
-    Ported,
-    /// By [`Trailing::sizes_agree`]. What the other mode converts this one does, with the same parameters.
-    Full,
 }
 
 impl CastParams {
@@ -170,7 +160,7 @@ impl CastParams {
 /// # Errors
 ///
 /// [`Refusal::RoundingWordZero`] for either.
-pub fn size_sequences_match_in(src: Trailing, dst: Trailing, dst_base: u64, mode: Mode) -> Result<bool> {
+pub fn size_sequences_match_in(src: Trailing, dst: Trailing, dst_base: Word, mode: Mode) -> Result<bool> {
     match mode {
         Mode::Ported => size_sequences_match(src, dst, dst_base),
         Mode::Full => exports::lukaripe_size_sequences_match_full(src.words(), dst.words(), dst_base).decision(),
@@ -199,10 +189,10 @@ pub fn size_sequences_match_in(src: Trailing, dst: Trailing, dst_base: u64, mode
 pub fn convert_and_cast_in(
     src: Layout,
     dst: Layout,
-    src_meta: u64,
-    addr: u64,
-    bytes_len: u64,
-    more_len: u64,
+    src_meta: Word,
+    addr: Word,
+    bytes_len: Word,
+    more_len: Word,
     mode: Mode,
 ) -> Carried {
     match mode {
