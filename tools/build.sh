@@ -72,6 +72,11 @@ take_value() {
     [ "$fits" ] || wrong "$1 takes $takes${3+, not ${3@Q}}; see --help"
 }
 
+# need_width WIDTH: it must be one that there is.
+need_width() {
+    [[ $1 = 64 || $1 = 32 ]] || wrong "--width takes 64 or 32, not ${1@Q}; see --help"
+}
+
 # is_number WORD: whether it is digits alone, those of ASCII.
 is_number() {
     [[ $1 =~ ^[0123456789]+$ ]]
@@ -121,6 +126,38 @@ find_source() {
 need_source() {
     find_source "$@" ||
         fail "no src/layout.rs in $zerocopy: name the folder of the published zerocopy 0.8.63 by --source DIR"
+}
+
+# find_i686: sets `i686`, a rustc whose programs for 32 bits run here: the one that the variable RUSTC_I686 names, or
+# one that is found; root gets Debian's where there is none. Else it fails, and `no_i686` says in a line what is
+# missing.
+find_i686() {
+    local packages=(rustc-web libstd-rust-web-dev:i386 gcc-multilib) log=target/tools/i686.log
+    ! try_i686 || return 0
+    no_i686="no rustc that makes programs for i686-unknown-linux-gnu: install ${packages[*]} of Debian"
+    no_i686+=" (after dpkg --add-architecture i386), or name one by RUSTC_I686"
+    [ "$(id -u)" -eq 0 ] && [ -z "${RUSTC_I686-}" ] && command -v apt-get >/dev/null || return 1
+    echo "$tool: installing ${packages[*]}" >&2
+    # An index that cannot be had is left out: what is installed is checked against those that were.
+    if ! dpkg --add-architecture i386 >"$log" 2>&1 || ! { apt-get update || true; } >>"$log" 2>&1 ||
+        ! DEBIAN_FRONTEND=noninteractive apt-get install -y --no-install-recommends "${packages[@]}" >>"$log" 2>&1; then
+        no_i686+="; installing them failed, see $log"
+        return 1
+    fi
+    try_i686
+}
+
+# try_i686: the first compiler of those that may be here, by a program that it makes. Debian's is often behind another.
+try_i686() {
+    local try=target/tools/i686-try
+    mkdir -p target/tools
+    echo 'fn main() { assert_eq!(usize::BITS, 32) }' >"$try.rs"
+    for i686 in ${RUSTC_I686:-rustc /usr/bin/rustc}; do
+        if "$i686" --target i686-unknown-linux-gnu -o "$try" "$try.rs" >/dev/null 2>&1 && "$try"; then
+            return 0
+        fi
+    done
+    return 1
 }
 
 # ---- what is built ----
@@ -183,23 +220,53 @@ build_c() {
     mv "$program.$$" "$program"
 }
 
-# build_library OUT: builds the library, which must have every export that rust/lukaripe/src/exports.rs declares. OUT is
-# made.
+# build_library OUT [WIDTH]: builds the library, which must have every export that rust/lukaripe/src/exports.rs
+# declares. OUT is made. Sets `link`, by which a program is linked with it. With WIDTH 32 those of exports32.rs that it
+# has not are named, without their prefix, in the variable MISSING: a program leaves out what would call them.
 build_library() {
     local missing
     need nm
     tools/library
     mkdir -p "$1"
     nm --defined-only target/staticlib/liblukaripe.a | sed -n 's/.* T //p' | sort -u >"$1/exports"
-    missing=$(grep -oh 'lukaripe_[a-z_]*' rust/lukaripe/src/exports.rs | sort -u | comm -23 - "$1/exports" | xargs)
+    missing=$(missing_exports "$1" lukaripe_ exports.rs)
     [ -z "$missing" ] || fail "the library has no $missing"
+    link=(-L native=target/staticlib -l static=lukaripe)
+    [ "${2-64}" -eq 32 ] || return 0
+    MISSING=$(missing_exports "$1" lukaripe32_ exports32.rs)
+    export MISSING=${MISSING//lukaripe32_/}
+    [ "$MISSING" ] || return 0
+    need gcc
+    # Something to link with, that must not be called.
+    # shellcheck disable=SC2086
+    printf 'void lukaripe32_%s(void) { __builtin_trap(); }\n' $MISSING >"$1/missing.c"
+    gcc -c -o "$1/missing.o" "$1/missing.c"
+    link+=(-C "link-arg=$1/missing.o")
 }
 
-# build_oracle OUT: compiles what was ported of the published Rust, in `zerocopy`, as the crate `oracle` in OUT. Sets
-# `compile`, by which it is: debug assertions are on, as document 01 asks of the oracle.
+# missing_exports OUT PREFIX FILE: the exports that begin so and are declared in the file, but not in the library.
+missing_exports() {
+    grep -oh "\b$2[a-z_]*" "rust/lukaripe/src/$3" | sort -u | comm -23 - "$1/exports" | xargs
+}
+
+# build_oracle OUT [WIDTH]: compiles what was ported of the published Rust, in `zerocopy`, as the crate `oracle` in OUT.
+# Sets `compile`, by which it is: debug assertions are on, as document 01 asks of the oracle. With WIDTH 32 the crate
+# asks OUT/oracle32, a program for a machine of 32 bits.
 build_oracle() {
+    local for_i686
+    local -x ORACLE_TEXT=$PWD/$1/oracle.rs ORACLE32=$PWD/$1/oracle32
     compile=(rustc --edition 2021 -C opt-level=3 -C debug-assertions=on -C overflow-checks=on)
-    python3 rust/oracle/extract.py "$zerocopy" "$1/oracle.rs"
-    ORACLE_TEXT=$PWD/$1/oracle.rs "${compile[@]}" --crate-type rlib --crate-name oracle --out-dir "$1" \
-        rust/oracle/lib.rs
+    python3 rust/oracle/extract.py "$zerocopy" "$ORACLE_TEXT"
+    if [ "${2-64}" -eq 64 ]; then
+        "${compile[@]}" --crate-type rlib --crate-name oracle --out-dir "$1" rust/oracle/lib.rs
+        return
+    fi
+    find_i686 || fail "$no_i686"
+    for_i686=("$i686" --target i686-unknown-linux-gnu "${compile[@]:1}")
+    mkdir -p "$1/i686"
+    "${for_i686[@]}" --crate-type rlib --crate-name extract --out-dir "$1/i686" rust/oracle/lib.rs
+    "${for_i686[@]}" -L "$1/i686" --extern extract -o "$ORACLE32" rust/oracle/serve.rs
+    compile+=(--cfg bits32)
+    "${compile[@]}" --crate-type rlib --crate-name extract --out-dir "$1" rust/oracle/lib.rs
+    "${compile[@]}" --crate-type rlib --crate-name oracle -L "$1" --extern extract --out-dir "$1" rust/oracle/remote.rs
 }

@@ -15,6 +15,8 @@ mod random;
 mod refused;
 mod rows;
 mod tested;
+#[path = "../differential/width.rs"]
+mod width;
 
 use cases::{Case, Set, SETS};
 use rows::{rows, Row, Side};

@@ -8,6 +8,8 @@ mod exports;
 mod plain_describe;
 #[path = "../differential/plain_rewrite.rs"]
 mod plain_rewrite;
+#[path = "../differential/width.rs"]
+mod width;
 
 use exports::*;
 use oracle::Layout;

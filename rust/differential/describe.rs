@@ -7,10 +7,11 @@
 use crate::answer::Answer;
 use crate::exports::*;
 use crate::inputs::Input;
-use crate::kinds::{Boundaries, Kind};
+use crate::kinds::{Boundaries, Holds, Kind};
 use crate::lent::{bytes, held, reads};
 use crate::plain_describe;
 use crate::random::Random;
+use crate::width::NARROW;
 use std::collections::BTreeMap;
 use std::sync::Mutex;
 
@@ -167,11 +168,14 @@ pub fn counted() -> Vec<(String, u64)> {
 
 // ---- descriptions to try ----
 
-/// Bytes that mean something: codes and what is next to them, tags, powers of alignments about 2^29 and 2^63.
-pub const BYTES_THAT_MATTER: [u8; 20] = [0, 1, 2, 3, 4, 8, 9, 15, 16, 17, 18, 19, 20, 30, 31, 32, 63, 64, 65, 255];
+/// Bytes that mean something: codes and what is next to them, tags, powers of alignments about 2^29, 2^63 and, where
+/// that is less, the greatest that fits.
+pub const BYTES_THAT_MATTER: [u8; 20] =
+    [0, 1, 2, 3, 4, 8, 9, 15, 16, 17, 18, 19, 20, 30, 31, 32, if NARROW { 33 } else { 63 }, 64, 65, 255];
 
 const DESCRIPTION: Kind = Kind {
     names: &[],
+    holds: Holds::Bytes,
     good: &[4, 0x0000_0011],
     bad: &[],
     small,
@@ -268,8 +272,9 @@ fn power(random: &mut Random) -> u8 {
     power as u8
 }
 
+/// Of 32 bits a great one leaves no room for other members, and is drawn less often.
 fn count_of_array(random: &mut Random) -> u32 {
-    match random.below(8) {
+    match random.below(if NARROW { 512 } else { 8 }) {
         0 => random.next() as u32,
         1 => MOST_COUNT - random.below(3) as u32,
         2 => 1 << random.below(32),
@@ -348,18 +353,19 @@ fn deep(random: &mut Random, out: &mut Vec<u8>) {
 }
 
 /// Arrays of arrays, so many that a sum or a rounding passes the greatest number, or nearly: with the counts 2^32 - 1
-/// the first member has 2^64 - 2^33 + 1 bytes, and the two behind it are one byte short of the rest.
+/// the first member has 2^64 - 2^33 + 1 bytes, and the two behind it are one byte short of the rest. Of 32 bits one
+/// such array is all there is room for.
 fn huge(random: &mut Random, out: &mut Vec<u8>) {
     let members = random.below(5);
     if members > 0 {
         out.extend(any_struct_head(random, members));
     }
     for member in 0..members.max(1) {
-        if member < 3 {
+        if member < 3 && !(NARROW && random.one_in(2)) {
             let count = if random.one_in(8) { count_of_array(random) } else { MOST_COUNT };
             out.extend(array_head(count));
         }
-        if member == 0 {
+        if member == 0 && !NARROW {
             let count = if random.one_in(8) { count_of_array(random) } else { MOST_COUNT };
             out.extend(array_head(count));
         }
@@ -375,13 +381,14 @@ fn huge(random: &mut Random, out: &mut Vec<u8>) {
 /// A struct that is not composed, inside a few slices: 6, 7, 8 and 9 seldom come at each place else.
 fn refused(random: &mut Random) -> Vec<u8> {
     let array = array_head(MOST_COUNT);
-    let huge = [&array[..], &array, &[0]].concat();
+    let huge = if NARROW { [&array[..], &[0]].concat() } else { [&array[..], &array, &[0]].concat() };
     // Its members end at the greatest number.
-    let greatest = [&huge[..], &array, &[0], &array, &[0]].concat();
+    let (greatest, of_greatest) =
+        if NARROW { (huge.clone(), 1) } else { ([&huge[..], &array, &[0], &array, &[0]].concat(), 3) };
     let (modifiers, members, rest) = match random.below(4) {
         0 => ([31, 0], 1, vec![0]),
         1 => ([0, 0], 2, vec![SLICE, 0, 0]),
-        2 => ([2, 0], 3, greatest),
+        2 => ([2, 0], of_greatest, greatest),
         _ => ([0, 0], 2, huge.repeat(2)),
     };
     [vec![SLICE; random.below(9) as usize], struct_head(random, modifiers, members), rest].concat()

@@ -2,8 +2,9 @@
 //! either side.
 
 use crate::answer::Answer;
+use crate::width;
 
-const M: u128 = u64::MAX as u128;
+const M: u128 = width::M as u128;
 
 type Layout = [u64; 6];
 

@@ -1,7 +1,9 @@
 //! The inputs that a function is tried on.
 
-use crate::kinds::{Boundaries, Kind};
+use crate::kinds::{Boundaries, Holds, Kind};
 use crate::random::Random;
+use crate::width::M;
+use std::iter::{repeat, repeat_n};
 
 /// A parameter, or a member of one that is a struct.
 #[derive(Clone, Copy)]
@@ -40,8 +42,8 @@ const MOST_DRAWN: u64 = 1 << 21;
 /// What to try a function on.
 pub struct Plan {
     pub inputs: Vec<Input>,
-    /// Document 01's own cases.
-    pub pages: &'static [&'static [u64]],
+    /// Document 01's own cases. Those with a number past M are left out.
+    pub pages: Vec<&'static [u64]>,
     pub aim: Aim,
     pub seed: u64,
     /// How many cases of all phases: as many are random as the other phases leave.
@@ -70,7 +72,9 @@ impl Plan {
 
     fn given(&self, left: u64, visit: Visit) -> Result<(), String> {
         let bad = self.bad();
-        let cases = self.pages.iter().copied().chain(bad.iter().map(Vec::as_slice));
+        let fits = |page: &&[u64]| page.iter().zip(self.greatest()).all(|(number, greatest)| *number <= greatest);
+        let pages = self.pages.iter().copied().filter(fits);
+        let cases = pages.chain(bad.iter().map(Vec::as_slice));
         cases.take(left as usize).try_for_each(visit)
     }
 
@@ -90,6 +94,16 @@ impl Plan {
             }
         }
         cases
+    }
+
+    /// The greatest of each number of a case. Only the last input has no length of its own.
+    fn greatest(&self) -> impl Iterator<Item = u64> + '_ {
+        let of = |kind: &Kind| match kind.holds {
+            Holds::Words => M,
+            Holds::Bytes => u64::MAX,
+        };
+        let each = self.inputs.iter().flat_map(move |input| repeat_n(of(input.kind), input.kind.good.len()));
+        each.chain(repeat(self.inputs.last().map_or(0, |last| of(last.kind))))
     }
 
     fn most_combinations(&self) -> u64 {
@@ -141,6 +155,8 @@ impl Plan {
             if random.one_in(2) {
                 (self.aim)(&mut random, &mut case);
             }
+            // What aims at something works modulo 2^64; what is left of that is modulo M + 1.
+            case.iter_mut().zip(self.greatest()).for_each(|(number, greatest)| *number &= greatest);
             visit(&case)?;
         }
         Ok(())

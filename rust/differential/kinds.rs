@@ -8,10 +8,13 @@ use crate::moves::{FROM, TO};
 use crate::random::Random;
 use crate::runs;
 use crate::shorts;
+use crate::width::{BITS, M, NARROW, TOP};
 
 pub struct Kind {
     /// The names of its numbers, where it has several and always as many.
     pub names: &'static [&'static str],
+    /// What its numbers are.
+    pub holds: Holds,
     /// A good value, and bad ones to try in its place.
     pub good: &'static [u64],
     pub bad: &'static [&'static [u64]],
@@ -20,6 +23,14 @@ pub struct Kind {
     pub boundaries: Boundaries,
     /// Appends a random value to the numbers drawn so far.
     pub draw: fn(&mut Random, &mut Vec<u64>),
+}
+
+#[derive(Clone, Copy, PartialEq, Eq)]
+pub enum Holds {
+    /// Numbers that are handed over, which have the width.
+    Words,
+    /// Bytes, or lengths of them, which have 64 bits at any width.
+    Bytes,
 }
 
 /// The values at the boundaries of the numbers: so few that they are listed, or drawn.
@@ -37,7 +48,7 @@ impl Boundaries {
     }
 }
 
-/// 2^29 is the greatest alignment of a type.
+/// 2^29 is the greatest alignment of a type, and HALF the least number whose square does not fit.
 pub const BOUNDARIES: [u64; 16] = [
     0,
     1,
@@ -47,18 +58,21 @@ pub const BOUNDARIES: [u64; 16] = [
     1 << 29,
     (1 << 29) + 1,
     1 << 30,
-    (1 << 32) - 1,
-    1 << 32,
-    (1 << 32) + 1,
-    (1 << 63) - 1,
-    1 << 63,
-    (1 << 63) + 1,
-    u64::MAX - 1,
-    u64::MAX,
+    HALF - 1,
+    HALF,
+    HALF + 1,
+    TOP - 1,
+    TOP,
+    TOP + 1,
+    M - 1,
+    M,
 ];
+
+pub const HALF: u64 = 1 << (BITS / 2);
 
 const NUMBER: Kind = Kind {
     names: &[],
+    holds: Holds::Words,
     good: &[9],
     bad: &[],
     small: numbers,
@@ -93,7 +107,7 @@ const WORD: Kind = Kind {
 const MODIFIER: Kind = Kind {
     good: &[0],
     bad: &[&[3], &[1 << 30], &[3 << 29]],
-    boundaries: Boundaries::Listed(&[0, 1, 2, 3, 1 << 29, (1 << 29) + 1, 1 << 30, 3 << 29, 1 << 63, u64::MAX]),
+    boundaries: Boundaries::Listed(&[0, 1, 2, 3, 1 << 29, (1 << 29) + 1, 1 << 30, 3 << 29, TOP, M]),
     draw: |random, case| {
         let modifier = match random.below(16) {
             0 => any(random),
@@ -142,8 +156,23 @@ const SHORT_LENGTH: Kind = Kind {
     ..NUMBER
 };
 
+/// The length in bytes of what is lent somewhere else. It has 64 bits at any width.
+const BYTES_LEN: Kind = Kind {
+    holds: Holds::Bytes,
+    boundaries: Boundaries::Listed(if NARROW { &[0, 1, 2, M - 1, M, M + 1, M + 2, u64::MAX] } else { &BOUNDARIES }),
+    draw: |random, case| {
+        (NUMBER.draw)(random, case);
+        if NARROW {
+            let number = case.pop().unwrap() & M;
+            case.push(if random.one_in(16) { number + M + 1 } else { number });
+        }
+    },
+    ..NUMBER
+};
+
 const LAYOUT: Kind = Kind {
     names: &["align", "kind", "size_base", "offset", "elem_size", "word"],
+    holds: Holds::Words,
     good: &[8, 1, 16, 0, 0, 0],
     bad: &[
         &[8, 8, 16, 0, 0, 0],
@@ -176,15 +205,18 @@ const PRECEDING: Kind = Kind {
 /// The bytes of a record.
 const RECORD: Kind = Kind {
     names: &[],
+    holds: Holds::Bytes,
     good: &[48, 8, 3, 16, 9, 9, 12],
     bad: &[],
     small: lists::small_records,
     boundaries: Boundaries::Drawn(|random, case| {
         let layout = layouts::at_boundaries(random);
+        let layout = lists::widened(random, layout);
         case.extend(lists::record(random, layout));
     }),
     draw: |random, case| {
         let layout = layouts::draw(random);
+        let layout = lists::widened(random, layout);
         case.extend(lists::record(random, layout));
     },
 };
@@ -192,6 +224,7 @@ const RECORD: Kind = Kind {
 /// The bytes of a member list.
 const LIST: Kind = Kind {
     names: &[],
+    holds: Holds::Bytes,
     good: &[96, 8, 1, 16, 0, 0, 0, 1, 3, 0, 0, 1, 1],
     bad: &[&[95, 8, 1, 16, 0, 0, 0, 1, 3, 0, 0, 1, 1], &[48, 8, 8, 16, 0, 0, 0]],
     small: lists::small,
@@ -306,6 +339,10 @@ pub const fn length(name: &'static str) -> Input {
     Input { name, kind: &LENGTH }
 }
 
+pub const fn bytes_len(name: &'static str) -> Input {
+    Input { name, kind: &BYTES_LEN }
+}
+
 pub const fn layout(name: &'static str) -> Input {
     Input { name, kind: &LAYOUT }
 }
@@ -360,7 +397,7 @@ pub fn any(random: &mut Random) -> u64 {
         0 => random.below(32),
         1 => random.one_of(&BOUNDARIES),
         2 => {
-            let power = 1 << random.below(64);
+            let power = 1 << random.below(BITS);
             random.near(power)
         }
         _ => random.log_uniform(),
@@ -369,7 +406,7 @@ pub fn any(random: &mut Random) -> u64 {
 
 /// Half of them up to 128, since those meet sizes that are not huge.
 pub fn power_of_two(random: &mut Random) -> u64 {
-    let powers = if random.one_in(2) { 8 } else { 64 };
+    let powers = if random.one_in(2) { 8 } else { BITS };
     1 << random.below(powers)
 }
 

@@ -2,10 +2,11 @@
 //!
 //! Six words as a record's: alignment, kind, size_base, offset, element size, rounding word.
 
-use crate::kinds::{any, power_of_two, rounding_word, BOUNDARIES};
+use crate::kinds::{any, power_of_two, rounding_word, BOUNDARIES, HALF};
 use crate::random::Random;
 use crate::table::is_fixed;
-use oracle::{Layout, Trailing};
+use crate::width::{BITS, M, TOP};
+use oracle::{AtPlace, Layout, Trailing};
 
 pub const FIXED_KINDS: [u64; 4] = [0, 1, 4, 5];
 pub const TRAILING_KINDS: [u64; 4] = [2, 3, 6, 7];
@@ -35,7 +36,7 @@ pub fn size_at([_, kind, size_base, _, elem_size, word]: Layout, count: u64) -> 
     }
     let (align, phase) = parts(word);
     let unrounded = phase.wrapping_add(count.wrapping_mul(elem_size));
-    size_base.wrapping_add(unrounded.wrapping_add(align - 1) & !(align - 1))
+    size_base.wrapping_add(unrounded.wrapping_add(align - 1) & !(align - 1)) & M
 }
 
 /// A source that has the target's sizes from some count on, mostly, and that count.
@@ -48,21 +49,22 @@ pub fn source_for(random: &mut Random, [size_base, offset, elem_size, word]: Tra
         // The same rounding, further on.
         let base = size_base.wrapping_add(moved & !(align - 1));
         let source = [base, random.near(offset), elem_size.wrapping_mul(multiple), align + (moved & (align - 1))];
-        return (source, shift);
+        return (source.map(|number| number & M), shift);
     }
     // Another rounding, and elements that are a multiple of the alignments of both.
     let own = if random.one_in(2) { 1 << random.below(6) } else { rounding_word(random) };
     let larger = align.max(parts(own).0);
     let size = size_base.wrapping_add(moved.wrapping_add(align - 1) & !(align - 1));
     let elem_size = elem_size.wrapping_mul(multiple).wrapping_mul(larger);
-    ([size.wrapping_sub(rounded_phase(own)), random.near(offset), elem_size, own], shift)
+    let source = [size.wrapping_sub(rounded_phase(own)), random.near(offset), elem_size, own];
+    (source.map(|number| number & M), shift)
 }
 
 // ---- every small one ----
 
 /// The powers of two below twice the level.
 fn small_aligns(level: u64) -> Vec<u64> {
-    (0..64).map(|power| 1 << power).take_while(|align| *align < 2 * level).collect()
+    (0..BITS).map(|power| 1 << power).take_while(|align| *align < 2 * level).collect()
 }
 
 fn small_fixed(level: u64) -> Vec<Layout> {
@@ -106,7 +108,7 @@ pub fn small_preceding(level: u64) -> Vec<Layout> {
 fn with_kinds(random: &mut Random, kinds: &[u64]) -> Layout {
     let mut layout = [(); 6].map(|()| random.one_of(&BOUNDARIES));
     if !random.one_in(16) {
-        layout[0] = random.one_of(&[1, 2, 1 << 29, 1 << 30, 1 << 32, 1 << 63]);
+        layout[0] = random.one_of(&[1, 2, 1 << 29, 1 << 30, HALF, TOP]);
     }
     if !random.one_in(16) {
         layout[1] = random.one_of(kinds);
@@ -128,12 +130,12 @@ pub fn preceding_at_boundaries(random: &mut Random) -> Layout {
 
 // ---- random ones ----
 
-/// A size and an alignment, as of a type.
+/// A size and an alignment, as of a type: modulo M + 1 the size is a multiple too.
 fn sized(random: &mut Random) -> (u64, u64) {
     let powers = random.one_of(&[4, 4, 6, 30]);
     let align = 1 << random.below(powers);
     let counts = random.one_of(&[2, 8, 8, 1 << 20]);
-    (align * random.below(counts), align)
+    (align * random.below(counts) & M, align)
 }
 
 /// A fixed layout, as a type has it: one of two numbers, or a struct.
@@ -155,8 +157,17 @@ pub fn trailing(random: &mut Random) -> Layout {
     composed(random, true)
 }
 
-/// A struct of a few members, in one case of four without its final padding. Its numbers are too small for a refusal.
+/// A struct of a few members, in one case of four without its final padding. Of 64 bits its numbers are too small for a
+/// refusal; of 32 they may not be, and then another one is drawn.
 fn composed(random: &mut Random, ends_in_slice: bool) -> Layout {
+    loop {
+        if let Ok(layout) = some_struct(random, ends_in_slice) {
+            return layout;
+        }
+    }
+}
+
+fn some_struct(random: &mut Random, ends_in_slice: bool) -> Result<Layout, AtPlace> {
     let align = if random.one_in(4) { 1 << random.below(6) } else { 0 };
     let packing = if random.one_in(4) { 1 << random.below(4) } else { 0 };
     let mut members = Vec::new();
@@ -167,9 +178,9 @@ fn composed(random: &mut Random, ends_in_slice: bool) -> Layout {
         members.push(trailing(random));
     }
     if random.one_in(4) {
-        return oracle::compose(align, packing, &members).unwrap();
+        return oracle::compose(align, packing, &members);
     }
-    oracle::for_repr_c_struct(align, packing, &members).unwrap()
+    oracle::for_repr_c_struct(align, packing, &members)
 }
 
 /// In one case of four any number for a word, or any numbers.

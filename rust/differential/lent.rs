@@ -4,7 +4,8 @@
 //! that is no multiple of 8 the remaining bytes as one such number. They come last, since their number varies.
 
 use crate::answer::Answer;
-use crate::exports::Words;
+use crate::exports::Lent;
+use crate::width::{word, Word};
 
 pub const RECORD: usize = 48;
 
@@ -126,12 +127,12 @@ pub fn moves_over<T>(
 
 /// Numbers that are lent to be written, and as many others before them and after them.
 pub struct Numbers {
-    all: Vec<u64>,
+    all: Vec<Word>,
     len: usize,
 }
 
 const NUMBERS_AROUND: usize = 4;
-const OTHER_NUMBER: u64 = 0xa5a5_a5a5_a5a5_a5a5;
+const OTHER_NUMBER: Word = 0xa5a5_a5a5_a5a5_a5a5_u64 as Word;
 
 impl Numbers {
     pub fn new(len: u64) -> Numbers {
@@ -139,7 +140,7 @@ impl Numbers {
         Numbers { all: vec![OTHER_NUMBER; NUMBERS_AROUND + len + NUMBERS_AROUND], len }
     }
 
-    pub fn as_mut_ptr(&mut self) -> *mut u64 {
+    pub fn as_mut_ptr(&mut self) -> *mut Word {
         self.all[NUMBERS_AROUND..].as_mut_ptr()
     }
 
@@ -147,7 +148,7 @@ impl Numbers {
         self.len
     }
 
-    pub fn lent(&self) -> &[u64] {
+    pub fn lent(&self) -> &[Word] {
         &self.all[NUMBERS_AROUND..][..self.len]
     }
 
@@ -161,9 +162,10 @@ impl Numbers {
 }
 
 /// A call that only reads numbers which it is lent: what it gave, and what it broke.
-pub fn reads_numbers<T>(lent: &[u64], call: impl FnOnce(*const u64, usize) -> T) -> (T, Option<&'static str>) {
+pub fn reads_numbers<T>(lent: &[u64], call: impl FnOnce(*const Word, usize) -> T) -> (T, Option<&'static str>) {
     let others = [OTHER_NUMBER; NUMBERS_AROUND];
-    let before = [&others, lent, &others].concat();
+    let numbers: Vec<Word> = lent.iter().map(|number| word(*number)).collect();
+    let before = [&others, &numbers[..], &others].concat();
     let mut all = before.clone();
     let gave = call(all[NUMBERS_AROUND..].as_mut_ptr(), lent.len());
     (gave, (all != before).then_some("numbers changed that it may not change"))
@@ -171,11 +173,12 @@ pub fn reads_numbers<T>(lent: &[u64], call: impl FnOnce(*const u64, usize) -> T)
 
 /// A call that alters a layout which it is lent, and gives the refusal number: that, the words afterwards, and what it
 /// broke. Other words stand before the lent ones and after them.
-pub fn alters(lent: [u64; 6], call: impl FnOnce(&mut Words<6>) -> u64) -> (u64, [u64; 6], Option<&'static str>) {
-    const OTHERS: [u64; 6] = [OTHER_NUMBER; 6];
-    let mut all = [OTHERS, lent, OTHERS].map(Words);
+pub fn alters(lent: [u64; 6], call: impl FnOnce(&mut Lent<6>) -> u64) -> (u64, [u64; 6], Option<&'static str>) {
+    const OTHERS: [Word; 6] = [OTHER_NUMBER; 6];
+    let mut all = [Lent(OTHERS), Lent(lent.map(word)), Lent(OTHERS)];
     let refusal = call(&mut all[1]);
-    let [before, Words(after), behind] = all;
+    let [before, Lent(after), behind] = all;
+    let after = after.map(u64::from);
     let broken = if before.0 != OTHERS || behind.0 != OTHERS {
         Some("numbers changed that it may not change")
     } else if refusal != 0 && after != lent {

@@ -4,6 +4,7 @@ use crate::kinds::any;
 use crate::layouts;
 use crate::lent::{held, RECORD};
 use crate::random::Random;
+use crate::width::{BITS, M, NARROW};
 use oracle::Layout;
 
 /// The most members of a list; with lent slices, so that a recorded line is no longer than its readers have room for.
@@ -57,6 +58,7 @@ pub fn at_boundaries(random: &mut Random) -> Vec<u64> {
     if random.one_in(2) {
         members.push(layouts::at_boundaries(random));
     }
+    widen(random, &mut members);
     list(&members)
 }
 
@@ -89,6 +91,7 @@ fn draw_up_to(random: &mut Random, most: u64) -> Vec<u64> {
     for _ in 0..random.below(3) {
         spoil(random, &mut members);
     }
+    widen(random, &mut members);
     if random.one_in(32) {
         let words = members.concat();
         let len = random.below(words.len() as u64 * 8 + 1) as usize;
@@ -105,9 +108,10 @@ fn fill(random: &mut Random, members: &mut [Layout]) {
         1 => last.saturating_sub(1),
         _ => last,
     };
-    let before = oracle::compose(0, 0, &members[..at]).unwrap()[2];
+    // Of 32 bits those before it may be refused themselves.
+    let before = oracle::compose(0, 0, &members[..at]).map_or(0, |layout| layout[2]);
     let place = before.next_multiple_of(members[at][0]);
-    members[at][2] = u64::MAX - place - random.below(16);
+    members[at][2] = M.wrapping_sub(place).wrapping_sub(random.below(16)) & M;
 }
 
 /// In half of the cases no member has the alignment modifier, else one at some place, or any of them.
@@ -130,11 +134,34 @@ pub fn spoil(random: &mut Random, members: &mut [Layout]) {
         2 => [align, kind & !2, size_base, 0, random.below(2), 1],
         // A trailing one without its word.
         3 => [align, kind | 2, size_base, offset, elem_size, 0],
-        4 => [1 << (29 + random.below(35)), kind, size_base, offset, elem_size, word],
+        4 => [1 << (29 + random.below(BITS - 29)), kind, size_base, offset, elem_size, word],
         // A trailing one before others.
         5 => layouts::trailing(random),
         _ => [align, kind, any(random), offset, elem_size, word],
     };
+}
+
+// ---- records of a width with fewer bits than their fields ----
+
+/// In one case of four one of a record's numbers does not fit, where there are such. An alignment stays one, mostly.
+pub fn widened(random: &mut Random, mut layout: Layout) -> Layout {
+    if NARROW && random.one_in(4) {
+        let at = random.below(6) as usize;
+        layout[at] = match random.below(4) {
+            0 if at > 0 => M + 1 + random.below(3),
+            1 => random.next(),
+            _ => 1 << (BITS + random.below(64 - BITS)),
+        };
+    }
+    layout
+}
+
+/// The same of one of the members.
+fn widen(random: &mut Random, members: &mut [Layout]) {
+    if NARROW && !members.is_empty() {
+        let at = random.below(members.len() as u64) as usize;
+        members[at] = widened(random, members[at]);
+    }
 }
 
 // ---- with lent slices ----

@@ -1,12 +1,12 @@
 //! Calls the exports of liblukaripe.a and the Rust that they were ported from on the same inputs, and compares.
 //!
-//! tools/differential builds and runs it, and its help says what the words mean. It stops at the first difference. A
-//! run of the default number of inputs or more fails too where something that can come of a function never did.
+//! The numbers have 64 bits, or 32 by `--cfg bits32` (width.rs); the Rust is then one for i686, in a process of its
+//! own. tools/differential builds and runs it, and its help says what the words mean. It stops at the first difference.
+//! A run of the default number of inputs or more fails too where something that can come of a function never did.
 
 mod answer;
 mod cases;
 mod describe;
-#[path = "../lukaripe/src/exports.rs"]
 mod exports;
 mod full;
 mod guarantee;
@@ -30,6 +30,7 @@ mod runs;
 mod shares;
 mod shorts;
 mod table;
+mod width;
 
 use answer::Answer;
 use inputs::{Input, Plan, PHASES};
@@ -50,7 +51,7 @@ struct Options {
 }
 
 fn rows() -> impl Iterator<Item = &'static Row> {
-    LAYERS.iter().flat_map(|layer| layer.iter())
+    LAYERS.iter().flat_map(|layer| layer.iter()).filter(|row| row.is_tried())
 }
 
 fn options() -> Result<Options, String> {
@@ -64,7 +65,8 @@ fn options() -> Result<Options, String> {
             "--seed" => options.seed = number()?,
             "--record" => options.record = Some(number()?),
             "--only" if rows().any(|row| row.name == value) => options.only = Some(value),
-            "--only" => return Err(format!("no function {value}")),
+            // Moves and short lists at 32 bits, and what has no export there.
+            "--only" => return Err(format!("no function {value} at {} bits", width::BITS)),
             _ => return Err(format!("unknown word {name}")),
         }
     }
@@ -159,7 +161,7 @@ impl Tried<'_> {
     /// Prints the cells and gives the totals, compared and apart.
     fn report(&self) -> (u64, u64) {
         let (mut compared, mut apart) = (0, 0);
-        for (at, cell) in self.row.cells.iter().enumerate() {
+        for (at, cell) in self.row.cells.iter().enumerate().filter(|(_, cell)| cell.can_come()) {
             let of_cell = self.slots.iter().zip(&self.counts).filter(|(slot, _)| slot.cell == at);
             let count: u64 = of_cell.map(|(_, count)| count).sum();
             let columns = if cell.apart {
@@ -220,7 +222,7 @@ fn line(function: &str, cell: &str, compared: &str, apart: &str) {
 fn run<'a>(row: &'a Row, options: &Options, cases: u64, progress: &mut Progress) -> Result<Tried<'a>, String> {
     // Its own numbers, whichever functions come before it.
     let seed = options.seed.wrapping_add(row.number << 32);
-    let plan = Plan { inputs: row.inputs.concat(), pages: row.pages, aim: row.aim, seed, cases };
+    let plan = Plan { inputs: row.inputs.concat(), pages: row.all_pages(), aim: row.aim, seed, cases };
     let mut left = cases;
     let slots = row.slots();
     let mut counts = vec![0; slots.len()];
@@ -230,7 +232,7 @@ fn run<'a>(row: &'a Row, options: &Options, cases: u64, progress: &mut Progress)
         plan.each(phase, left, &mut |case| {
             left -= 1;
             progress.count(row);
-            let (slot, answer) = compare(row, &slots, case).map_err(|what| {
+            let (slot, answer) = oracle::compared(|| compare(row, &slots, case)).map_err(|what| {
                 let inputs = named(&plan.inputs, case);
                 format!("DIFFERENCE in {} ({phase:?})\nof:    {inputs}\n{what}", row.name)
             })?;
@@ -299,9 +301,20 @@ fn all(options: &Options) -> Result<(), String> {
     empty_cells(&tried, options.cases)
 }
 
+/// The functions that are not tried for want of an export.
+fn left_out() -> Vec<String> {
+    let all = LAYERS.iter().flat_map(|layer| layer.iter()).filter(|row| row.missing().next().is_some());
+    all.map(|row| format!("{}, left out: no {}", row.name, row.missing().collect::<Vec<_>>().join(", "))).collect()
+}
+
 /// What nothing came to is a fault, unless the inputs were fewer than it takes to come to everything.
 fn empty_cells(tried: &[Tried], cases: u64) -> Result<(), String> {
     const SHOWN: usize = 3;
+    let left_out = left_out();
+    left_out.iter().for_each(|what| eprintln!("{what}"));
+    if !left_out.is_empty() && cases >= CASES {
+        return Err(format!("{} functions left out", left_out.len()));
+    }
     let empty: Vec<String> = tried.iter().flat_map(Tried::empty).collect();
     if empty.is_empty() {
         return Ok(());
@@ -313,8 +326,23 @@ fn empty_cells(tried: &[Tried], cases: u64) -> Result<(), String> {
     Ok(())
 }
 
+/// At the end of a run, and where it ended early too, since a difference is one of settled answers.
+fn settle(ran: Result<(), String>, report: bool) -> Result<(), String> {
+    match (ran, oracle::settled()) {
+        (Ok(()), Ok(answered)) => {
+            if report && answered > 0 {
+                println!("{answered} calls of the Rust answered by a program for {} bits, as here", width::BITS);
+            }
+            Ok(())
+        }
+        (Err(difference), Err(other)) => Err(format!("{difference}\n{other}")),
+        (ran, settled) => ran.and(settled.map(|_| ())),
+    }
+}
+
 fn main() -> ExitCode {
-    match options().and_then(|options| all(&options)) {
+    let ran = options().and_then(|options| settle(all(&options), options.record.is_none()));
+    match ran {
         Ok(()) => ExitCode::SUCCESS,
         Err(message) => {
             eprintln!("{message}");

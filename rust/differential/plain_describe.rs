@@ -1,6 +1,7 @@
 //! Descriptions of types, of requests 4 and 8 of document 02, read by its text with a place that moves byte by byte.
 //! Scalars, slices, members and closing padding are the Rust's own; the rest shares nothing with either side.
 
+use crate::width::{BITS, M};
 use oracle::{said, Layout};
 
 /// A refusal and the place of its byte.
@@ -38,12 +39,14 @@ impl Reader<'_> {
         Ok(*byte)
     }
 
-    /// "alignment and packing as one byte each (0 none, else 1 + the power)"; "34 when a power is above 63".
+    /// "alignment and packing as one byte each (0 none, else 1 + the power)"; "34 when a power is above 63"; "43 when a
+    /// number in a .. description does not fit the chosen width, .. when it is read, at its byte".
     fn power(&mut self) -> Result<u64, At> {
         let place = self.place;
         match self.byte()? {
             0 => Ok(0),
-            byte @ 1..=64 => Ok(1 << (byte - 1)),
+            byte @ 1..=64 if u64::from(byte) <= BITS => Ok(1 << (byte - 1)),
+            1..=64 => Err((43, place)),
             _ => Err((34, place)),
         }
     }
@@ -84,8 +87,11 @@ impl Reader<'_> {
     fn array(&mut self, tag: usize) -> Result<Layout, At> {
         let count = self.count(4)?;
         let [align, kind, size, ..] = self.element(tag)?;
-        let product = u64::try_from(u128::from(size) * count).map_err(|_| (37, tag))?;
-        Ok([align, kind, product, 0, 0, 0])
+        let product = u128::from(size) * count;
+        if product > M.into() {
+            return Err((37, tag));
+        }
+        Ok([align, kind, product as u64, 0, 0, 0])
     }
 
     fn slice(&mut self, tag: usize) -> Result<Layout, At> {

@@ -1,7 +1,9 @@
 //! Equal sizes, normal forms and conversions by them, written from the documents alone: sizes are unlimited whole
 //! numbers, and are compared at counts. It shares nothing with either side.
 
-const M: i128 = u64::MAX as i128;
+use crate::width;
+
+const M: i128 = width::M as i128;
 
 /// The sizes of a trailing layout: base, alignment, phase and element size. The base may be any whole number, and so
 /// may the phase, which an advance adds to.
@@ -154,8 +156,10 @@ pub fn normal_form(layout: [u64; 4]) -> Result<[u64; 3], u64> {
         }
         align *= 2;
     };
-    let base = u64::try_from(form.base).map_err(|_| 46u64)?;
-    Ok([base, form.elem as u64, (form.align + form.phase) as u64])
+    if !(0..=M).contains(&form.base) {
+        return Err(46);
+    }
+    Ok([form.base as u64, form.elem as u64, (form.align + form.phase) as u64])
 }
 
 // ---- conversions ----

@@ -2,6 +2,7 @@
 //! member by member. It shares nothing with either side.
 
 use crate::answer::Answer;
+use crate::width::Word;
 
 /// A member's record.
 type Record = [u64; 6];
@@ -25,8 +26,8 @@ pub fn broken(
     asked: [u64; 2],
     members: &[Record],
     answer: &Answer,
-    places: &[u64],
-    gaps: &[u64],
+    places: &[Word],
+    gaps: &[Word],
 ) -> Option<&'static str> {
     let [repr_align, repr_packed] = asked;
     let placed = placed(repr_packed, members);

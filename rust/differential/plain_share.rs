@@ -1,6 +1,8 @@
 //! How much of the sizes at a list of counts is padding, of request 12 of document 02, by its text: over whole numbers,
 //! which u128 holds here. It shares nothing with either side.
 
+use crate::width;
+
 /// What is given: "total padding over total size as a fraction in lowest terms", "the mean size likewise", and "the
 /// greatest padding with its first index".
 #[derive(Clone, Copy, PartialEq, Eq)]
@@ -17,7 +19,7 @@ pub struct Totals {
     pub padding: u128,
 }
 
-const M: u128 = u64::MAX as u128;
+const M: u128 = width::M as u128;
 
 /// Alignment and phase: the highest bit of the word, and the rest.
 fn parts(word: u64) -> (u128, u128) {

@@ -1,5 +1,7 @@
 //! Numbers that repeat from a seed.
 
+use super::width::{BITS, M};
+
 pub struct Random(u64);
 
 impl Random {
@@ -28,14 +30,14 @@ impl Random {
         list[self.below(list.len() as u64) as usize]
     }
 
-    /// The number or one next to it, modulo 2^64.
+    /// The number or one next to it, modulo M + 1.
     pub fn near(&mut self, number: u64) -> u64 {
-        number.wrapping_add(self.below(5)).wrapping_sub(2)
+        number.wrapping_add(self.below(5)).wrapping_sub(2) & M
     }
 
     /// As many numbers of each length in bits.
     pub fn log_uniform(&mut self) -> u64 {
-        let bits = self.below(65) as u32;
+        let bits = self.below(BITS + 1) as u32;
         self.next().checked_shr(64 - bits).unwrap_or(0)
     }
 }

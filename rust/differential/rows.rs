@@ -14,6 +14,7 @@ mod share;
 mod short;
 mod trailing;
 mod util;
+mod wide;
 mod working;
 
 use crate::answer::Answer;
@@ -21,6 +22,7 @@ use crate::inputs::{Aim, Input};
 use crate::kinds::{number, word};
 use crate::random::Random;
 use crate::table::{has_modifier, is_fixed};
+use crate::width::BITS;
 use std::fmt;
 
 pub const LAYERS: &[&[Row]] = &[
@@ -78,10 +80,12 @@ pub struct Cell {
     label: &'static str,
     /// The least and the greatest place of a list's refusal.
     places: Option<(u64, u64)>,
+    /// The width at which alone it can come; None: at any.
+    width: Option<u64>,
 }
 
 pub const fn answered(label: &'static str) -> Cell {
-    Cell { refusal: 0, apart: false, label, places: None }
+    Cell { refusal: 0, apart: false, label, places: None, width: None }
 }
 
 pub const ANSWER: Cell = answered("");
@@ -106,6 +110,15 @@ pub const fn apart_for(refusal: u64, label: &'static str) -> Cell {
 impl Cell {
     pub const fn at(self, least: u64, greatest: u64) -> Cell {
         Cell { places: Some((least, greatest)), ..self }
+    }
+
+    pub const fn only_at(self, width: u64) -> Cell {
+        Cell { width: Some(width), ..self }
+    }
+
+    /// Whether it can come.
+    pub fn can_come(&self) -> bool {
+        self.width.is_none_or(|width| width == BITS)
     }
 
     /// Its places, one where it has none.
@@ -161,10 +174,27 @@ impl fmt::Display for Slot {
 impl Row {
     pub fn slots(&self) -> Vec<Slot> {
         let mut slots = Vec::new();
-        for (cell, what) in self.cells.iter().enumerate() {
+        for (cell, what) in self.cells.iter().enumerate().filter(|(_, what)| what.can_come()) {
             slots.extend(what.each_place().into_iter().map(|place| Slot { cell, what: *what, place }));
         }
         slots
+    }
+
+    /// Its own cases, and those that a width adds.
+    pub fn all_pages(&self) -> Vec<&'static [u64]> {
+        self.pages.iter().chain(wide::pages(self.name)).copied().collect()
+    }
+
+    /// Whether it is tried: it has the width, and all exports that it calls are in the library.
+    pub fn is_tried(&self) -> bool {
+        (BITS == 64 || !NO_WIDTH.contains(&self.name)) && self.missing().next().is_none()
+    }
+
+    /// The exports that it calls and the library has not.
+    pub fn missing(&self) -> impl Iterator<Item = &'static str> + '_ {
+        let besides = BESIDES.iter().filter(|(row, _)| *row == self.name).flat_map(|(_, exports)| exports.iter());
+        let own = (self.number != 0).then_some(&self.name);
+        own.into_iter().chain(besides).copied().filter(|export| MISSING.split(' ').any(|missing| missing == *export))
     }
 
     /// The answer as the Rust can give it, without the alignment modifier, and whether it had that. The six words of a
@@ -179,6 +209,29 @@ impl Row {
         (answer, had)
     }
 }
+
+/// Moves between the forms of records and the short lists choose no width: they are tried once.
+const NO_WIDTH: [&str; 3] = ["records_to_short", "records_from_short", "write_cases"];
+
+/// The exports that tools/build.sh did not find in the library, without their prefix.
+const MISSING: &str = match option_env!("MISSING") {
+    Some(names) => names,
+    None => "",
+};
+
+/// The exports that a row calls besides the one of its name.
+const BESIDES: &[(&str, &[&str])] = &[
+    ("sizes_agree", &["has_same_size_sequence", "normal_form"]),
+    ("normal_form", &["sizes_agree", "size_for_elems"]),
+    ("size_sequences_match_full", &["size_sequences_match"]),
+    ("try_compute_full", &["try_compute"]),
+    ("convert_and_cast_full", &["try_compute"]),
+    ("padding_of_counts", &["size_for_elems", "padding_for_elems"]),
+    ("working", &["working_begin", "working_add", "working_add_record", "compose"]),
+    ("read", &["for_repr_c_struct", "for_slice_of"]),
+    ("lengthen_counts", &["shorten_counts", "read"]),
+    ("shorten_counts", &["lengthen_counts", "read"]),
+];
 
 // ---- what rows of several layers share ----
 

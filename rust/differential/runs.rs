@@ -12,6 +12,7 @@ use crate::lent::{alters, bytes, held, reads, records, RECORD};
 use crate::lists::{self, MEMBERS};
 use crate::random::Random;
 use crate::table::{self, first, has_modifier};
+use crate::width::{M, NARROW};
 use oracle::{said, Layout};
 use std::collections::BTreeMap;
 use std::slice;
@@ -78,8 +79,10 @@ fn record(member: &[u64]) -> Option<Layout> {
 
 /// The refusal of an addition that the Rust is not handed: of the lent words, of the member's length, of its record.
 pub fn refusal_apart(lent: Layout, member: &[u64]) -> Option<u64> {
-    let of = |words| first(&table::layout(words)).map(|answer| answer.refusal);
-    of(lent).or_else(|| record(member).map_or(Some(20), of))
+    let number = |causes: &[table::Cause]| first(causes).map(|answer| answer.refusal);
+    // By value its numbers fit.
+    let of_member = |words| number(&table::record(words));
+    number(&table::layout(lent)).or_else(|| record(member).map_or(Some(20), of_member))
 }
 
 /// What the Rust says of an addition that it is handed; the alignment modifier of both beside it.
@@ -250,8 +253,12 @@ fn outcomes() -> Vec<Outcome> {
         let of_step = [0, 5, 6, 7, 8, 9].map(|refusal| (false, refusal));
         let of_member = [21, 1, 22, 2].map(|refusal| (false, refusal));
         let of_lent = [21, 1, 22, 2].map(|refusal| (true, refusal));
-        let of_length: &[(bool, u64)] = if by_record { &[(false, 20)] } else { &[] };
-        let all = [&of_step[..], &of_lent, of_length, &of_member].concat();
+        let of_bytes: &[(bool, u64)] = match (by_record, NARROW) {
+            (true, true) => &[(false, 20), (false, 43)],
+            (true, false) => &[(false, 20)],
+            (false, _) => &[],
+        };
+        let all = [&of_step[..], &of_lent, of_bytes, &of_member].concat();
         outcomes.extend(all.into_iter().map(|(others, refusal)| (by_record, others, refusal)));
     }
     outcomes
@@ -335,7 +342,7 @@ fn member(random: &mut Random) -> Layout {
         2 | 3 => {
             let [align, kind, ..] = layouts::fixed(random);
             let bits = random.below(12);
-            [align, kind, u64::MAX - random.below(1 << bits), 0, 0, 0]
+            [align, kind, M - random.below(1 << bits), 0, 0, 0]
         }
         _ => layouts::fixed(random),
     };
@@ -352,7 +359,13 @@ fn member(random: &mut Random) -> Layout {
 /// sixteen what is lent is no layout.
 fn made(random: &mut Random, member: Layout) -> Vec<u64> {
     let how = random.one_of(&[BY_VALUE, BY_RECORD]);
-    let member = if how == BY_VALUE { whole(member) } else { lists::record(random, member) };
+    let member = match how {
+        BY_VALUE => whole(member),
+        _ => {
+            let member = lists::widened(random, member);
+            lists::record(random, member)
+        }
+    };
     if random.one_in(16) {
         return step(how + OTHERS_LENT, &no_layout(random), &member);
     }

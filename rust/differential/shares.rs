@@ -7,10 +7,11 @@
 use crate::answer::Answer;
 use crate::exports::*;
 use crate::inputs::Input;
-use crate::kinds::{any, rounding_word, Boundaries, Kind, BOUNDARIES};
+use crate::kinds::{any, rounding_word, Boundaries, Holds, Kind, BOUNDARIES};
 use crate::lent::reads_numbers;
 use crate::plain_share::{self, share, shares_divisor, sized, Share, Totals};
 use crate::random::Random;
+use crate::width::{M, TOP};
 use std::collections::BTreeMap;
 use std::sync::Mutex;
 
@@ -147,7 +148,7 @@ const OF_LISTS: &str = "counts of the lists";
 const ORDERS: &str = "other orders of a list";
 const DIVIDED: &str = "fractions tried divisor by divisor";
 const TOTAL_0: &str = "accepted, total size 0";
-const GREAT: &str = "accepted, total size above 2^63";
+const GREAT: &str = "accepted, total size above M / 2";
 const ACCEPTED: [&str; 4] =
     ["accepted, 1 count", "accepted, 2 to 9 counts", "accepted, 10 to 99 counts", "accepted, 100 to 300 counts"];
 const REFUSED: [(u64, [&str; 2]); 3] = [
@@ -174,7 +175,7 @@ fn count_list(counts: &[u64], told: &Answer) {
     if (mean, of) == (0, 1) {
         count(TOTAL_0, 1);
     }
-    if u128::from(mean) * counts.len() as u128 / u128::from(over) > 1 << 63 {
+    if u128::from(mean) * counts.len() as u128 / u128::from(over) > TOP.into() {
         count(GREAT, 1);
     }
     if index > 0 {
@@ -195,8 +196,9 @@ pub fn counted() -> Vec<(String, u64)> {
 
 const KIND: Kind = Kind {
     names: &[],
+    holds: Holds::Words,
     good: &[8, 9, 1, 5, 3, 3, 0, 4],
-    bad: &[&[8, 9, 1, 0, 3, 3, 0, 4], &[8, 9, 1, 5, 0], &[8, 10, 1, 5, 3, 2, 3, 4], &[8, 9, 1, 5, 2, 3, u64::MAX]],
+    bad: &[&[8, 9, 1, 0, 3, 3, 0, 4], &[8, 9, 1, 5, 0], &[8, 10, 1, 5, 3, 2, 3, 4], &[8, 9, 1, 5, 2, 3, M]],
     small,
     boundaries: Boundaries::Drawn(|random, case| case.extend(at_boundaries(random))),
     draw: |random, case| case.extend(draw(random)),
@@ -269,7 +271,7 @@ fn layout(random: &mut Random) -> Layout {
         // Above the size at those counts whose padding is smaller than this.
         0..=4 => [base, start + random.below(align), elem_size, align + phase],
         // No size at count 0, or at few counts.
-        5 => [u64::MAX - random.below(4 * align), random.log_uniform(), elem_size, align + phase],
+        5 => [M - random.below(4 * align), random.log_uniform(), elem_size, align + phase],
         6 => [any(random), any(random), any(random), rounding_word(random)],
         7 => [base, start, any(random), align + phase],
         // Total size 0.
@@ -281,11 +283,11 @@ fn layout(random: &mut Random) -> Layout {
 
 /// The greatest count that has a size: of two, one with a size and one without, the way between them is halved.
 fn greatest_count(layout: Layout) -> u64 {
-    let has = |count| plain_share::size(layout, count) <= u64::MAX.into();
-    if has(u64::MAX) {
-        return u64::MAX;
+    let has = |count| plain_share::size(layout, count) <= M.into();
+    if has(M) {
+        return M;
     }
-    let (mut with, mut without) = (0, u64::MAX);
+    let (mut with, mut without) = (0, M);
     while without - with > 1 {
         let between = with + (without - with) / 2;
         if has(between) {
@@ -302,7 +304,7 @@ fn greatest_count(layout: Layout) -> u64 {
 fn counts(random: &mut Random, layout: Layout, len: u64) -> Vec<u64> {
     let elem_size = layout[2].max(1);
     let about = match random.below(4) {
-        0 => Some(u64::MAX / (1 + random.below(len + 1)) / elem_size),
+        0 => Some(M / (1 + random.below(len + 1)) / elem_size),
         1 => Some(random.log_uniform() / (len + 1)),
         _ => None,
     };

@@ -7,6 +7,7 @@ use crate::lists::MEMBERS;
 use crate::moves::{Way, SEEN};
 use crate::plain_short::{NEW, OLD, TO_SHORT};
 use crate::random::Random;
+use crate::width::NARROW;
 use oracle::Layout;
 
 /// The most records of a list, so that a recorded line is no longer than its readers have room for.
@@ -172,10 +173,19 @@ fn bytes_at_boundaries(random: &mut Random) -> Vec<u8> {
 
 pub fn draw_record(random: &mut Random) -> Vec<u64> {
     let mut record = short_of(layout(random)).unwrap();
+    widen(random, &mut record);
     if random.one_in(2) {
         spoil(random, &crate::moves::FROM, &mut record);
     }
     cut_one(random, &record)
+}
+
+/// In one case of four a number that does not fit, where there are such.
+fn widen(random: &mut Random, record: &mut [u8]) {
+    if NARROW && random.one_in(4) {
+        let words = if record[29] & 2 == 0 { 1 } else { 3 };
+        put(record, random.below(words) as usize, random.next());
+    }
 }
 
 /// In one case of eight of another length.

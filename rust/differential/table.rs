@@ -2,6 +2,7 @@
 //! shares nothing with either side.
 
 use crate::answer::Answer;
+use crate::width::M;
 
 /// A cause: its number, and whether it applies.
 pub type Cause = (u64, bool);
@@ -25,7 +26,7 @@ pub fn has_modifier(kind: u64) -> bool {
     kind & 4 != 0
 }
 
-/// The causes of a layout, which is tested as its record is.
+/// The causes of a layout that is handed over, which is tested as its record is.
 pub fn layout([align, kind, _, offset, elem_size, word]: [u64; 6]) -> [Cause; 4] {
     let fixed = is_fixed(kind);
     [
@@ -34,6 +35,13 @@ pub fn layout([align, kind, _, offset, elem_size, word]: [u64; 6]) -> [Cause; 4]
         (22, fixed && (offset, elem_size, word) != (0, 0, 0)),
         (2, !fixed && word == 0),
     ]
+}
+
+/// The causes of a record, whose own tests are 64 bits wide at any width: "43 when a number in a record .. does not fit
+/// the chosen width, after the record's own tests".
+pub fn record(words: [u64; 6]) -> [Cause; 5] {
+    let [kind, align, later, word] = layout(words);
+    [kind, align, later, word, (43, words.iter().any(|number| *number > M))]
 }
 
 /// The causes of two layouts, the first one's first.

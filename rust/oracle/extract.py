@@ -106,6 +106,10 @@ NUMBERS_FOR_TYPES = [
     ("Dst::PointerMetadata::from_elem_count(dst_meta)", "dst_meta", 1),
     # The bench calls it twice, which keeps the compiler from inlining it where a program would call it once.
     ("                fn try_compute(", "#[cfg_attr(bench, inline(always))]\n                fn try_compute(", 1),
+    # What the language gives as the machine's usize, where usize is another (lib.rs, bits32). Else they change nothing.
+    ("= mem::size_of::<usize>() * 8;", "= (mem::size_of::<usize>() * 8) as usize;", 1),
+    ("1usize << shift", "(1 as usize) << shift", 1),
+    ("ptr::slice_from_raw_parts_mut(data.as_ptr(), len)", "ptr::slice_from_raw_parts_mut(data.as_ptr(), len as _)", 1),
     # Those items stood two modules deeper.
     ("super::max_elems_for_bytes(", "max_elems_for_bytes(", 2),
     ("super::add_scaled_metadata(", "add_scaled_metadata(", 1),

@@ -5,7 +5,21 @@
 
 #![allow(unexpected_cfgs, dead_code)]
 
-use core::{mem, num::NonZeroUsize};
+use core::{mem, primitive};
+
+#[cfg(not(bits32))]
+use core::num::NonZeroUsize;
+
+// For 32 bits on a machine that has others: wherever the text says usize it has a number of 32 bits. What it says then
+// is no authority: a program for a machine of 32 bits is asked the same (remote.rs).
+#[cfg(bits32)]
+use core::num::NonZeroU32 as NonZeroUsize;
+#[cfg(bits32)]
+#[allow(non_camel_case_types)]
+type usize = u32;
+#[cfg(bits32)]
+#[allow(non_camel_case_types)]
+type isize = i32;
 
 /// What a panic carries where the Rust refuses by an assertion: the number of the cause.
 pub struct Cause(pub u64);
@@ -58,7 +72,7 @@ include!(env!("ORACLE_TEXT"));
 pub mod bench;
 
 /// An answer of N numbers, or the number of the refusal.
-pub type Says<const N: usize> = Result<[u64; N], u64>;
+pub type Says<const N: primitive::usize> = Result<[u64; N], u64>;
 
 /// A trailing layout: size_base, offset, elem_size, rounding word.
 pub type Trailing = [u64; 4];
@@ -69,8 +83,13 @@ pub type Layout = [u64; 6];
 /// The parameters of a conversion: kind, offset_delta_elems, elem_multiple, dst_meta.
 pub type Params = [u64; 4];
 
+/// A number that is handed over has the width: it is never cut off.
+fn narrow(number: u64) -> usize {
+    usize::try_from(number).expect("the number passes the width")
+}
+
 fn nonzero(number: u64) -> NonZeroUsize {
-    NonZeroUsize::new(number as usize).expect("the Rust takes no 0 here")
+    NonZeroUsize::new(narrow(number)).expect("the Rust takes no 0 here")
 }
 
 fn number(value: usize) -> Says<1> {
@@ -87,9 +106,9 @@ fn yes_or_no(value: bool) -> Says<1> {
 
 fn trailing([size_base, offset, elem_size, word]: Trailing) -> TrailingSliceLayout {
     TrailingSliceLayout {
-        offset: offset as usize,
-        elem_size: elem_size as usize,
-        size_base: size_base as usize,
+        offset: narrow(offset),
+        elem_size: narrow(elem_size),
+        size_base: narrow(size_base),
         size_rounding_align_and_phase: RoundingAlignAndPhase(nonzero(word)),
     }
 }
@@ -106,7 +125,7 @@ fn trailing_numbers(layout: TrailingSliceLayout) -> Trailing {
 /// The Rust has no alignment modifier: 4 of a kind is left out, and no answer has it.
 fn layout([align, kind, tail @ ..]: Layout) -> DstLayout {
     let size_info =
-        if kind & 2 == 0 { SizeInfo::Sized { size: tail[0] as usize } } else { SizeInfo::SliceDst(trailing(tail)) };
+        if kind & 2 == 0 { SizeInfo::Sized { size: narrow(tail[0]) } } else { SizeInfo::SliceDst(trailing(tail)) };
     DstLayout { align: nonzero(align), size_info, statically_shallow_unpadded: kind % 2 == 1 }
 }
 
@@ -123,21 +142,21 @@ fn layout_numbers(layout: DstLayout) -> Says<6> {
 
 /// An alignment or packing that may not be asked for.
 fn asked(number: u64) -> Option<NonZeroUsize> {
-    NonZeroUsize::new(number as usize)
+    NonZeroUsize::new(narrow(number))
 }
 
 // ---- rounding helpers ----
 
 pub fn is_power_of_two(align: u64) -> Says<1> {
-    yes_or_no(align.is_power_of_two())
+    yes_or_no(narrow(align).is_power_of_two())
 }
 
 pub fn padding_needed_for(len: u64, align: u64) -> Says<1> {
-    number(util::padding_needed_for(len as usize, nonzero(align)))
+    number(util::padding_needed_for(narrow(len), nonzero(align)))
 }
 
 pub fn round_down_to_next_multiple_of_alignment(n: u64, align: u64) -> Says<1> {
-    number(util::round_down_to_next_multiple_of_alignment(n as usize, nonzero(align)))
+    number(util::round_down_to_next_multiple_of_alignment(narrow(n), nonzero(align)))
 }
 
 pub fn max(a: u64, b: u64) -> Says<1> {
@@ -151,7 +170,7 @@ pub fn min(a: u64, b: u64) -> Says<1> {
 // ---- the rounding word ----
 
 pub fn rounding_new(align: u64, phase: u64) -> Says<1> {
-    number(RoundingAlignAndPhase::new(nonzero(align), phase as usize).0.get())
+    number(RoundingAlignAndPhase::new(nonzero(align), narrow(phase)).0.get())
 }
 
 pub fn rounding_components(word: u64) -> Says<2> {
@@ -170,19 +189,19 @@ pub fn size_offset(layout: Trailing) -> Says<1> {
 }
 
 pub fn max_trailing_bytes(layout: Trailing, available_bytes: u64) -> Says<1> {
-    number_or(trailing(layout).max_trailing_bytes(available_bytes as usize), 16)
+    number_or(trailing(layout).max_trailing_bytes(narrow(available_bytes)), 16)
 }
 
 pub fn padding_for_elems(layout: Trailing, elems: u64) -> Says<1> {
-    number(trailing(layout).padding_for_elems(elems as usize))
+    number(trailing(layout).padding_for_elems(narrow(elems)))
 }
 
 pub fn size_for_elems(layout: Trailing, elems: u64) -> Says<1> {
-    number_or(trailing(layout).size_for_elems(elems as usize), 15)
+    number_or(trailing(layout).size_for_elems(narrow(elems)), 15)
 }
 
 pub fn advance(layout: Trailing, bytes: u64, elem_size: u64) -> Says<4> {
-    trailing(layout).advance(bytes as usize, elem_size as usize).map(trailing_numbers).ok_or(17)
+    trailing(layout).advance(narrow(bytes), narrow(elem_size)).map(trailing_numbers).ok_or(17)
 }
 
 pub fn has_same_size_sequence(layout: Trailing, other: Trailing) -> Says<1> {
@@ -196,15 +215,15 @@ pub fn new_zst(repr_align: u64) -> Says<6> {
 }
 
 pub fn for_type(size: u64, align: u64) -> Says<6> {
-    layout_numbers(DstLayout::for_type(size as usize, align as usize))
+    layout_numbers(DstLayout::for_type(narrow(size), narrow(align)))
 }
 
 pub fn for_unpadded_type(size: u64, align: u64) -> Says<6> {
-    layout_numbers(DstLayout::for_unpadded_type(size as usize, align as usize))
+    layout_numbers(DstLayout::for_unpadded_type(narrow(size), narrow(align)))
 }
 
 pub fn for_slice(size: u64, align: u64) -> Says<6> {
-    layout_numbers(DstLayout::for_slice(size as usize, align as usize))
+    layout_numbers(DstLayout::for_slice(narrow(size), narrow(align)))
 }
 
 pub fn extend(own: Layout, field: Layout, repr_packed: u64) -> Says<6> {
@@ -226,11 +245,13 @@ pub fn requires_dynamic_padding(own: Layout) -> Says<1> {
 // ---- scalars and member lists ----
 
 /// A type that has no padding, as the compiler lays it out.
+#[cfg(not(bits32))]
 fn unpadded<T>() -> Says<6> {
     for_unpadded_type(mem::size_of::<T>() as u64, mem::align_of::<T>() as u64)
 }
 
 /// The scalar of a code up to 8.
+#[cfg(not(bits32))]
 pub fn scalar(code: u64) -> Says<6> {
     let by_code = [
         unpadded::<u8>,
@@ -246,8 +267,18 @@ pub fn scalar(code: u64) -> Says<6> {
     by_code[code as usize]()
 }
 
+/// The scalars by their codes, size and alignment, as a compiler for 32 bits lays them out: this one does otherwise.
+#[cfg(bits32)]
+pub static SCALARS: std::sync::OnceLock<Vec<[u64; 2]>> = std::sync::OnceLock::new();
+
+#[cfg(bits32)]
+pub fn scalar(code: u64) -> Says<6> {
+    let [size, align] = SCALARS.get().expect("they were asked for")[code as primitive::usize];
+    for_unpadded_type(size, align)
+}
+
 /// A refusal of a list: number and place.
-pub type AtPlace = (u64, usize);
+pub type AtPlace = (u64, primitive::usize);
 
 /// The Rust's composition before its final padding, by its own steps, so that the step that panics gives the place.
 pub fn compose(repr_align: u64, repr_packed: u64, members: &[Layout]) -> Result<Layout, AtPlace> {
@@ -271,7 +302,7 @@ pub fn for_repr_c_struct(repr_align: u64, repr_packed: u64, members: &[Layout]) 
 
 pub fn validate_cast_and_convert_metadata(own: Layout, addr: u64, bytes_len: u64, suffix: bool) -> Says<2> {
     let side = if suffix { CastType::Suffix } else { CastType::Prefix };
-    match layout(own).validate_cast_and_convert_metadata(addr as usize, bytes_len as usize, side) {
+    match layout(own).validate_cast_and_convert_metadata(narrow(addr), narrow(bytes_len), side) {
         Ok((count, split)) => Ok([count as u64, split as u64]),
         Err(MetadataCastError::Alignment) => Err(12),
         Err(MetadataCastError::Size) => Err(13),
@@ -279,13 +310,13 @@ pub fn validate_cast_and_convert_metadata(own: Layout, addr: u64, bytes_len: u64
 }
 
 pub fn metadata_for_exact_size(own: Layout, size: u64) -> Says<1> {
-    number_or(layout(own).metadata_for_exact_size(size as usize), 14)
+    number_or(layout(own).metadata_for_exact_size(narrow(size)), 14)
 }
 
 // ---- conversions ----
 
 pub fn size_sequences_match(src: Trailing, dst: Trailing, dst_base: u64) -> Says<1> {
-    yes_or_no(CastParams::size_sequences_match(trailing(src), trailing(dst), dst_base as usize))
+    yes_or_no(CastParams::size_sequences_match(trailing(src), trailing(dst), narrow(dst_base)))
 }
 
 /// The Rust's answer; where it gives none, the number of the place at which it does.
@@ -304,18 +335,30 @@ pub fn try_compute(src: Layout, dst: Layout) -> Says<4> {
     })
 }
 
-/// # Safety
-///
-/// Where kind is above 1, offset_delta_elems + src_meta * elem_multiple is at most M.
-pub unsafe fn cast_metadata([kind, offset_delta_elems, elem_multiple, dst_meta]: Params, src_meta: u64) -> Says<1> {
+/// The count is one that the Rust may be asked for: its sum is at most M.
+pub fn cast_metadata([kind, offset_delta_elems, elem_multiple, dst_meta]: Params, src_meta: u64) -> Says<1> {
+    let [delta, multiple, count] = [offset_delta_elems, elem_multiple, src_meta].map(u128::from);
+    assert!(kind < 2 || delta + multiple * count <= usize::MAX as u128, "the sum passes M");
     let inner = match kind {
         0 => CastParamsInner::SizedToSized,
-        1 => CastParamsInner::SizedToUnsized { dst_meta: dst_meta as usize },
+        1 => CastParamsInner::SizedToUnsized { dst_meta: narrow(dst_meta) },
         _ => CastParamsInner::UnsizedToUnsized {
-            offset_delta_elems: offset_delta_elems as usize,
-            elem_multiple: elem_multiple as usize,
+            offset_delta_elems: narrow(offset_delta_elems),
+            elem_multiple: narrow(elem_multiple),
         },
     };
-    // SAFETY: by the caller, the sum that the Rust does not test exists.
-    number(unsafe { CastParams { inner }.cast_metadata(src_meta as usize) })
+    // SAFETY: the sum that the Rust does not test exists.
+    number(unsafe { CastParams { inner }.cast_metadata(narrow(src_meta)) })
+}
+
+// ---- where the Rust is asked ----
+
+/// Does what compares with the Rust, which is asked here and at once. (At 32 bits it is not; see remote.rs.)
+pub fn compared<T>(compare: impl FnOnce() -> T) -> T {
+    compare()
+}
+
+/// How many calls were answered somewhere else, all of them as here; or what was answered otherwise.
+pub fn settled() -> Result<u64, String> {
+    Ok(0)
 }

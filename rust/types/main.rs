@@ -3,15 +3,24 @@
 //! descriptions; and what the strict composition refuses with what the compiler refuses. tools/rustc-types writes the
 //! structs, builds and runs.
 
-#[path = "../lukaripe/src/exports.rs"]
+mod compiler;
+#[cfg(not(facts))]
+#[path = "../differential/exports.rs"]
+mod exports;
+#[cfg(facts)]
+#[path = "no_exports.rs"]
 mod exports;
 mod nested;
 mod strict;
+#[path = "../differential/width.rs"]
+mod width;
 
+use compiler::compiler;
 use exports::*;
 use std::mem::{align_of, align_of_val, offset_of, size_of, size_of_val};
 use std::process::ExitCode;
 use std::ptr::slice_from_raw_parts;
+use width::Word;
 
 /// How many comparisons were made, or what differs.
 type Checked = Result<usize, String>;
@@ -31,7 +40,7 @@ trait Member {
 }
 
 fn sized<T>() -> [u64; 6] {
-    [align_of::<T>() as u64, 1, size_of::<T>() as u64, 0, 0, 0]
+    [compiler(align_of::<T>()) as u64, 1, compiler(size_of::<T>()) as u64, 0, 0, 0]
 }
 
 macro_rules! scalars {
@@ -47,7 +56,8 @@ impl<T, const N: usize> Member for [T; N] {
 
 impl<T> Member for [T] {
     fn layout() -> [u64; 6] {
-        [align_of::<T>() as u64, 3, 0, 0, size_of::<T>() as u64, align_of::<T>() as u64]
+        let [align, _, size, ..] = sized::<T>();
+        [align, 3, 0, 0, size, align]
     }
 }
 
@@ -66,7 +76,7 @@ fn records(members: &[[u64; 6]]) -> Vec<u8> {
 }
 
 fn equal(what: &str, ours: u64, compiler: usize) -> Result<(), String> {
-    if ours == compiler as u64 {
+    if ours == compiler as u64 || cfg!(facts) {
         return Ok(());
     }
     Err(format!("{what}: ours {ours}, the compiler's {compiler}"))
@@ -76,7 +86,7 @@ fn equal(what: &str, ours: u64, compiler: usize) -> Result<(), String> {
 /// compiler has between a member and the end of the one before it.
 fn check_places(align: u64, packing: u64, members: &[[u64; 6]], places: &[usize]) -> Result<(), String> {
     // Numbers that no member here is placed at, nor stands behind.
-    let [mut ours, mut gaps] = [(); 2].map(|()| vec![u64::MAX; members.len()]);
+    let [mut ours, mut gaps] = [(); 2].map(|()| vec![Word::MAX; members.len()]);
     let layout = composed_with_places(align, packing, members, &mut ours, &mut gaps);
     let ported = composed(lukaripe_for_repr_c_struct, align, packing, members);
     if layout != ported {
@@ -84,11 +94,11 @@ fn check_places(align: u64, packing: u64, members: &[[u64; 6]], places: &[usize]
     }
     let mut end = 0;
     for (at, place) in places.iter().enumerate() {
-        equal(&format!("place of f{at}"), ours[at], *place)?;
+        equal(&format!("place of f{at}"), ours[at].into(), *place)?;
         let Some(gap) = place.checked_sub(end) else {
             return Err(format!("the compiler has f{at} at {place}, before the end of the member before it, {end}"));
         };
-        equal(&format!("gap before f{at}"), gaps[at], gap)?;
+        equal(&format!("gap before f{at}"), gaps[at].into(), gap)?;
         // Only the last can end in a slice, and nothing stands behind it.
         let [_, _, size, ..] = members[at];
         end = place + size as usize;
@@ -100,8 +110,8 @@ fn composed_with_places(
     align: u64,
     packing: u64,
     members: &[[u64; 6]],
-    places: &mut [u64],
-    gaps: &mut [u64],
+    places: &mut [Word],
+    gaps: &mut [Word],
 ) -> [u64; 6] {
     let bytes = records(members);
     // SAFETY: bytes and numbers are as many as said.
@@ -152,9 +162,9 @@ macro_rules! fixed {
         impl $name {
             fn check() -> Checked {
                 let [align, _, size, ..] = $name::layout();
-                equal("alignment", align, align_of::<$name>())?;
-                equal("size", size, size_of::<$name>())?;
-                let places: &[usize] = &[$(offset_of!($name, $field)),*];
+                equal("alignment", align, compiler(align_of::<$name>()))?;
+                equal("size", size, compiler(size_of::<$name>()))?;
+                let places: &[usize] = &[$(compiler(offset_of!($name, $field))),*];
                 check_places($align, $packing, &[$(<$type>::layout()),*], places)?;
                 check_strict($align, $packing, &[$(<$type>::layout()),*])?;
                 Ok(2 + 2 * places.len())
@@ -177,14 +187,14 @@ macro_rules! ends_in_slice {
             fn check() -> Checked {
                 let [align, _, tail @ ..] = $name::layout();
                 let empty = $name::at(0);
-                equal("alignment", align, align_of_val(empty))?;
+                equal("alignment", align, compiler(align_of_val(empty)))?;
                 let start = (empty as *const $name).cast::<u8>() as usize;
-                let places: &[usize] = &[$((&raw const empty.$field).cast::<u8>() as usize - start),*];
+                let places: &[usize] = &[$(compiler((&raw const empty.$field).cast::<u8>() as usize - start)),*];
                 check_places($align, $packing, &[$(<$type>::layout()),*], places)?;
                 check_strict($align, $packing, &[$(<$type>::layout()),*])?;
                 for count in COUNTS {
                     let told = lukaripe_size_for_elems(Words(tail), count as u64);
-                    equal(&format!("size at {count}"), told.values[0], size_of_val($name::at(count)))?;
+                    equal(&format!("size at {count}"), told.values[0], compiler(size_of_val($name::at(count))))?;
                 }
                 Ok(1 + 2 * places.len() + COUNTS.len())
             }
@@ -194,26 +204,31 @@ macro_rules! ends_in_slice {
 
 include!(env!("TYPES"));
 
-fn main() -> ExitCode {
+/// What was found, a line each, or what differs.
+fn check_all() -> Result<[String; 3], String> {
     let mut compared = 0;
     for (at, check) in CHECKS.iter().enumerate() {
-        match check() {
-            Ok(count) => compared += count,
-            Err(what) => {
-                eprintln!("DIFFERENCE in S{at} of {}: {what}", env!("TYPES"));
-                return ExitCode::FAILURE;
-            }
+        compared += check().map_err(|what| format!("DIFFERENCE in S{at} of {}: {what}", env!("TYPES")))?;
+    }
+    let structs = format!("{} structs: {compared} alignments, sizes, places and gaps are the compiler's", CHECKS.len());
+    let found = [structs, nested::check_all()?, strict::check_all()?];
+    if !compiler::all_taken() {
+        return Err("fewer numbers are asked for than there are".to_string());
+    }
+    Ok(found)
+}
+
+fn main() -> ExitCode {
+    match check_all() {
+        // Then the numbers are what is printed.
+        Ok(_) if cfg!(facts) => ExitCode::SUCCESS,
+        Ok(found) => {
+            println!("{}", found.join("\n"));
+            ExitCode::SUCCESS
+        }
+        Err(what) => {
+            eprintln!("{what}");
+            ExitCode::FAILURE
         }
     }
-    println!("{} structs: {compared} alignments, sizes, places and gaps are the compiler's", CHECKS.len());
-    for found in [nested::check_all(), strict::check_all()] {
-        match found {
-            Ok(found) => println!("{found}"),
-            Err(what) => {
-                eprintln!("{what}");
-                return ExitCode::FAILURE;
-            }
-        }
-    }
-    ExitCode::SUCCESS
 }

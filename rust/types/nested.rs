@@ -1,6 +1,7 @@
 //! Compares what descriptions read as with the compiler: nested.py has written random types inside types. The bytes of
 //! a type are put together by its parts alone, which have theirs.
 
+use crate::compiler::compiler;
 use crate::exports::*;
 use crate::{check_places, composed, equal, Checked, BYTES, COUNTS};
 use std::mem::{align_of, align_of_val, offset_of, size_of, size_of_val};
@@ -120,8 +121,8 @@ fn check_array<T: Described>() -> Checked {
         return Ok(0);
     }
     let [align, _, size, ..] = read::<[T; 3]>();
-    equal("alignment of an array", align, align_of::<[T; 3]>())?;
-    equal("size of an array", size, size_of::<[T; 3]>())?;
+    equal("alignment of an array", align, compiler(align_of::<[T; 3]>()))?;
+    equal("size of an array", size, compiler(size_of::<[T; 3]>()))?;
     Ok(2)
 }
 
@@ -158,10 +159,10 @@ macro_rules! fixed {
             fn check() -> Checked {
                 let read_as = read::<$name>();
                 let [align, _, size, ..] = read_as;
-                equal("alignment", align, align_of::<$name>())?;
-                equal("size", size, size_of::<$name>())?;
+                equal("alignment", align, compiler(align_of::<$name>()))?;
+                equal("size", size, compiler(size_of::<$name>()))?;
                 let members: &[[u64; 6]] = &[$(read::<$type>()),*];
-                let places: &[usize] = &[$(offset_of!($name, $field)),*];
+                let places: &[usize] = &[$(compiler(offset_of!($name, $field))),*];
                 check_places($align, $packing, members, places)?;
                 check_by_hand($align, $packing, members, read_as)?;
                 Ok(2 + 2 * places.len() + check_array::<$name>()?)
@@ -185,15 +186,15 @@ macro_rules! ends_in_slice {
                 let read_as = read::<$name>();
                 let [align, _, tail @ ..] = read_as;
                 let empty = $name::at(0);
-                equal("alignment", align, align_of_val(empty))?;
+                equal("alignment", align, compiler(align_of_val(empty)))?;
                 let start = (empty as *const $name).cast::<u8>() as usize;
-                let places: &[usize] = &[$((&raw const empty.$field).cast::<u8>() as usize - start),*];
+                let places: &[usize] = &[$(compiler((&raw const empty.$field).cast::<u8>() as usize - start)),*];
                 let members: &[[u64; 6]] = &[$(read::<$type>()),*];
                 check_places($align, $packing, members, places)?;
                 check_by_hand($align, $packing, members, read_as)?;
                 for count in COUNTS {
                     let told = lukaripe_size_for_elems(Words(tail), count as u64);
-                    equal(&format!("size at {count}"), told.values[0], size_of_val($name::at(count)))?;
+                    equal(&format!("size at {count}"), told.values[0], compiler(size_of_val($name::at(count))))?;
                 }
                 Ok(1 + 2 * places.len() + COUNTS.len())
             }

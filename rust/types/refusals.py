@@ -1,7 +1,7 @@
 #!/usr/bin/env python3
 """Writes random repr(C) types, and what rustc itself says of each, as a Rust source.
 
-    refusals.py OUT_DIR CASES SEED
+    refusals.py OUT_DIR CASES SEED RUSTC...
 
 A type asks for an alignment, a packing, both or neither. It has up to four members: scalars, types before it and arrays
 of these; the last may be a slice, or a type that ends in one. OUT_DIR/judged.rs has them all, a line each, for rustc to
@@ -126,9 +126,9 @@ def draw(index, before):
     return Type(index, align, packing, members, ends_in_slice)
 
 
-def rustc_says(source, types):
+def rustc_says(rustc, source, types):
     """The code by which rustc refuses each type, "" where it takes it."""
-    command = ["rustc", "--edition", "2021", "--crate-type", "lib", "--emit=metadata", "--error-format=json"]
+    command = [*rustc, "--edition", "2021", "--crate-type", "lib", "--emit=metadata", "--error-format=json"]
     ran = subprocess.run([*command, "-o", f"{source}.rmeta", source], stderr=subprocess.PIPE, text=True)
     codes = [""] * len(types)
     for said in map(json.loads, ran.stderr.splitlines()):
@@ -147,8 +147,8 @@ def rustc_says(source, types):
 
 
 def main():
-    if len(sys.argv) != 4:
-        sys.exit("refusals.py: usage: refusals.py OUT_DIR CASES SEED")
+    if len(sys.argv) < 5:
+        sys.exit("refusals.py: usage: refusals.py OUT_DIR CASES SEED RUSTC...")
     out, cases = sys.argv[1], int(sys.argv[2])
     random.seed(int(sys.argv[3]))
     types = given()
@@ -157,7 +157,7 @@ def main():
     source = f"{out}/judged.rs"
     with open(source, "w", encoding="utf-8") as file:
         file.write("\n".join(["#![allow(dead_code)]", *(one.in_rust() for one in types)]) + "\n")
-    lines = [one.in_cases(code) for one, code in zip(types, rustc_says(source, types))]
+    lines = [one.in_cases(code) for one, code in zip(types, rustc_says(sys.argv[4:], source, types))]
     with open(f"{out}/refusals.rs", "w", encoding="utf-8") as file:
         file.write("\n".join(["const CASES: &[Case] = &[", *lines, "];"]) + "\n")
 

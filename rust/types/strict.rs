@@ -3,6 +3,7 @@
 //! where the Reference says "at any depth".
 
 use crate::exports::*;
+use crate::sized;
 
 /// A type: what it asks for, its members, whether the Reference allows it, and by which error rustc refuses it ("": by
 /// none).
@@ -15,10 +16,8 @@ struct Case {
 }
 
 enum Element {
-    Scalar {
-        size: u64,
-        align: u64,
-    },
+    /// A scalar, by its layout.
+    Scalar(fn() -> [u64; 6]),
     /// The type at this index.
     Type(usize),
 }
@@ -39,7 +38,7 @@ struct Member {
 use Element::Type;
 
 const fn scalar<T>() -> Element {
-    Element::Scalar { size: size_of::<T>() as u64, align: align_of::<T>() as u64 }
+    Element::Scalar(sized::<T>)
 }
 
 const fn alone(element: Element) -> Member {
@@ -63,7 +62,7 @@ impl Member {
     /// As a record: an array and a slice have the element's alignment and alignment modifier, an array its mark too.
     fn layout(&self, types: &[Option<[u64; 6]>]) -> Result<[u64; 6], String> {
         let element = match self.element {
-            Element::Scalar { size, align } => [align, 1, size, 0, 0, 0],
+            Element::Scalar(layout) => layout(),
             Type(at) => types[at].ok_or(format!("T{at} is a member and has no layout"))?,
         };
         let [align, kind, size, ..] = element;
@@ -109,6 +108,9 @@ fn strict(case: &Case, members: &[[u64; 6]]) -> Told<7> {
 fn check(case: &Case, types: &[Option<[u64; 6]>], counts: &mut Counts) -> Result<Option<[u64; 6]>, String> {
     let members: Vec<[u64; 6]> = case.members.iter().map(|member| member.layout(types)).collect::<Result<_, _>>()?;
     let Told { refusal, values: [place, layout @ ..] } = strict(case, &members);
+    if cfg!(facts) {
+        return Ok(Some(layout));
+    }
     let first = members.iter().position(|[_, kind, ..]| kind & MODIFIER != 0);
     if (refusal == 0) != case.allowed {
         return Err(format!(

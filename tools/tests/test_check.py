@@ -12,8 +12,8 @@ class Check(Trial):
 
     def test_the_parts_are_listed(self):
         listed = self.output("tools/check --list")
-        parts = "build format shell readme examples tools wrapper cli types sequences descriptions differential"
-        for part in parts.split():
+        parts = "build format shell readme examples tools wrapper cli types types32 sequences descriptions"
+        for part in [*parts.split(), "differential", "differential32"]:
             self.assertRegex(listed, rf"(?m)^{part} +\S")
         for word in "foo", "build format", "", "@":
             self.says(f"tools/check readme '{word}'", 2, err=f"check: no part '{word}'; see --list\n")

@@ -72,6 +72,9 @@ class Words(Trial):
         for tool in "differential", "descriptions", "bench", "record", "check":
             self.says(f"tools/{tool} --source", 2, err=line(tool, "--source takes a word"))
             self.says(f"tools/{tool} --source=", 2, err=line(tool, "--source takes a word"))
+        for tool in "differential", "rustc-types", "record":
+            for width in 0, 16, 65, "x", "' 32'":
+                self.says(f"tools/{tool} --width {width}", 2, err=line(tool, "--width takes 64 or 32, not"))
         for tool in "differential", "bench":
             self.says(f"tools/{tool} --only", 2, err=line(tool, "--only takes a word"))
             for name in "nope", "size_for", "'.*'":
@@ -157,6 +160,13 @@ class Missing(Trial):
         self.lacks("rustc", "Rust", commands=uses)
         self.lacks("python3", "Python", commands=uses)
         self.lacks("valgrind", "install", commands=[f"bench --source '{SOURCE}' --instructions"])
+
+    def test_a_compiler_for_32_bits(self):
+        self.build(LIBRARY, PROGRAM)
+        missing = line("rustc-types", "no rustc that makes programs for i686-unknown-linux-gnu: install rustc-web")
+        self.says("tools/rustc-types --width 32", 1, err=missing, RUSTC_I686="/none")
+        skipped = r"\Askipped types32: no rustc that makes programs for i686.*\nall 0 parts ok, 1 skipped, \d+ s\n\Z"
+        self.assertRegex(self.output("tools/check types32", RUSTC_I686="/none"), skipped)
 
     def test_the_source_of_zerocopy(self):
         for tool in "differential", "bench", "record":

@@ -25,6 +25,10 @@ RUNS = HOME / "rt.runs"
 SOURCE = Path(os.environ.get("ZEROCOPY") or ROOT.parent / "shared/docs/src")
 has_source = unittest.skipUnless((SOURCE / "src/layout.rs").exists(), "no source of zerocopy")
 
+# A compiler for 32 bits, which no test installs.
+finds_i686 = subprocess.run(["bash", "-c", ". tools/build.sh && try_i686"], cwd=ROOT).returncode == 0
+has_i686 = unittest.skipUnless(finds_i686, "no compiler for i686")
+
 TOOLS = sorted(path.name for path in (ROOT / "tools").iterdir() if path.is_file() and "." not in path.name)
 LIBRARY, PROGRAM = "target/staticlib/liblukaripe.a", "target/bin/listing"
 # The greatest number.

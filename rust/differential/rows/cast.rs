@@ -7,6 +7,7 @@ use crate::kinds::{flag, layout, number};
 use crate::layouts::size_at;
 use crate::random::Random;
 use crate::table::{self, first, is_fixed};
+use crate::width::{BITS, M};
 
 pub const ROWS: &[Row] = &[
     Row {
@@ -42,7 +43,7 @@ pub const ROWS: &[Row] = &[
             // A suffix of a layout that was never padded may start unaligned.
             &[4, 0, 5, 0, 0, 0, 3, 5, 1],
             // 11 for a prefix too.
-            &[4, 0, 5, 0, 0, 0, 4, u64::MAX - 3, 0],
+            &[4, 0, 5, 0, 0, 0, 4, M - 3, 0],
         ],
         aim: at_a_cast,
         ours: |i| lukaripe_validate_cast_and_convert_metadata(Words(layout_of(i)), i[6], i[7], i[8] != 0).into(),
@@ -104,7 +105,7 @@ fn why_no_exact_count(inputs: &[u64], answer: &Answer) -> &'static str {
 
 /// The size of the first layout at some count, or a number next to it.
 fn a_size(random: &mut Random, inputs: &[u64]) -> u64 {
-    let counts = random.one_of(&[4, 64, 1 << 20, 1 << 62]);
+    let counts = random.one_of(&[4, 64, 1 << 20, 1 << (BITS - 2)]);
     let count = random.below(counts);
     random.near(size_at(layout_of(inputs), count))
 }
@@ -117,7 +118,7 @@ fn at_a_cast(random: &mut Random, inputs: &mut [u64]) {
     inputs[6] = match random.below(4) {
         0 => random.near(aligned),
         // Up to M, or just past it.
-        1 => random.near(u64::MAX - inputs[7]),
+        1 => random.near(M.wrapping_sub(inputs[7])),
         _ => aligned,
     };
 }

@@ -8,6 +8,7 @@ use crate::kinds::{layout, number, variant};
 use crate::layouts::{parts, size_at, source_for, FIXED_KINDS, TRAILING_KINDS};
 use crate::random::Random;
 use crate::table::{first, is_fixed, two_layouts};
+use crate::width::{BITS, M};
 
 pub const ROWS: &[Row] = &[
     Row {
@@ -161,7 +162,7 @@ fn params_of(inputs: &[u64]) -> oracle::Params {
 /// Whether the converted count of two trailing layouts passes M, over unlimited whole numbers.
 fn passes_max([kind, offset_delta_elems, elem_multiple, _]: oracle::Params, src_meta: u64) -> bool {
     let count = u128::from(offset_delta_elems) + u128::from(elem_multiple) * u128::from(src_meta);
-    kind > 1 && count > u128::from(u64::MAX)
+    kind > 1 && count > u128::from(M)
 }
 
 /// What the Rust says, and where it may not be asked the refusal of the table.
@@ -169,8 +170,7 @@ fn converted(params: oracle::Params, src_meta: u64) -> oracle::Says<1> {
     if passes_max(params, src_meta) {
         return Err(19);
     }
-    // SAFETY: the count does not pass M.
-    unsafe { oracle::cast_metadata(params, src_meta) }
+    oracle::cast_metadata(params, src_meta)
 }
 
 // ---- a conversion and casts after it ----
@@ -301,7 +301,7 @@ pub fn at_a_conversion(random: &mut Random, inputs: &mut [u64]) {
 /// Bytes that hold what a source converts, or come close: the guarantee speaks of these.
 fn at_a_chain(random: &mut Random, inputs: &mut [u64]) {
     at_a_conversion(random, &mut inputs[..12]);
-    let counts = random.one_of(&[4, 64, 1 << 20, 1 << 62]);
+    let counts = random.one_of(&[4, 64, 1 << 20, 1 << (BITS - 2)]);
     inputs[12] = random.below(counts);
     let size = size_at(layout_of(inputs), inputs[12]);
     inputs[14] = a_length(random, size, inputs[10]);
@@ -322,8 +322,8 @@ pub fn a_length(random: &mut Random, size: u64, elem_size: u64) -> u64 {
 /// Mostly aligned; or such that as many bytes end at M, or just past it.
 pub fn an_address(random: &mut Random, align: u64, len: u64) -> u64 {
     match random.below(8) {
-        0 => random.near(u64::MAX - len),
-        1 => (u64::MAX - len) & align.wrapping_neg(),
+        0 => random.near(M.wrapping_sub(len)),
+        1 => M.wrapping_sub(len) & align.wrapping_neg(),
         2 => random.near(align),
         _ => align.wrapping_mul(random.below(1 << 8)),
     }
@@ -339,5 +339,5 @@ pub fn spoil(random: &mut Random, inputs: &mut [u64]) {
 
 /// The greatest source count whose converted count exists.
 fn at_the_last_count(random: &mut Random, inputs: &mut [u64]) {
-    inputs[4] = random.near((u64::MAX - inputs[1]) / inputs[2].max(1));
+    inputs[4] = random.near((M - inputs[1]) / inputs[2].max(1));
 }

@@ -7,9 +7,8 @@ use crate::exports::*;
 use crate::kinds::{layout, number};
 use crate::random::Random;
 use crate::table::{self, first, has_modifier, is_fixed};
+use crate::width::{M, TOP};
 use oracle::said;
-
-const M: u64 = u64::MAX;
 
 /// Later places in a cell of their own, which holds what those before it do not.
 const LATER: &str = "later";
@@ -29,6 +28,9 @@ pub const ROWS: &[Row] = &[
             apart_for(33, LATER),
             apart(34).at(0, 8),
             apart_for(34, LATER),
+            // No power stands first.
+            apart(43).at(1, 8).only_at(32),
+            apart_for(43, LATER).only_at(32),
             // Sixteen slices, and fifteen with a struct or an array among them.
             apart(35).at(16, 16),
             apart(35).at(19, 20),
@@ -86,11 +88,11 @@ pub const ROWS: &[Row] = &[
             // The last product, and one past it.
             &[1, 1, 1, 0, 0, 0, M],
             &[1, 1, 3, 0, 0, 0, M / 3],
-            &[1, 1, 2, 0, 0, 0, 1 << 63],
+            &[1, 1, 2, 0, 0, 0, TOP],
             // 36 before 37, and the element's own before both.
             &[1, 3, 0, 0, 1, 1, M],
             &[1, 3, 0, 0, 1, 0, M],
-            &[3, 1, 2, 0, 0, 0, 1 << 63],
+            &[3, 1, 2, 0, 0, 0, TOP],
         ],
         aim: at_the_last_product,
         ours: |i| lukaripe_for_array(Words(layout_of(i)), i[6]).into(),
@@ -119,7 +121,7 @@ pub const ROWS: &[Row] = &[
             &[4, 0, 8, 0, 0, 0],
             &[4, 5, 8, 0, 0, 0],
             &[4, 4, 6, 0, 0, 0],
-            &[1 << 63, 5, 0, 0, 0, 0],
+            &[TOP, 5, 0, 0, 0, 0],
             &[1, 3, 0, 0, 1, 1],
             &[1, 3, 0, 0, 1, 0],
         ],
@@ -147,12 +149,15 @@ fn array_apart(inputs: &[u64]) -> Option<Answer> {
     if let Some(refused) = first(&element(layout_of(inputs))) {
         return Some(refused);
     }
-    match u64::try_from(u128::from(size) * u128::from(count)) {
-        Err(_) => Some(Answer::refused(37)),
-        // The Rust can be handed the copies.
-        Ok(_) if size % align == 0 && align <= 1 << 29 && (1..=MOST_COPIES).contains(&count) => None,
-        Ok(product) => Some(Answer::of([align, kind, product, 0, 0, 0])),
+    let product = u128::from(size) * u128::from(count);
+    if product > M.into() {
+        return Some(Answer::refused(37));
     }
+    // The Rust can be handed the copies.
+    if size % align == 0 && align <= 1 << 29 && (1..=MOST_COPIES).contains(&count) {
+        return None;
+    }
+    Some(Answer::of([align, kind, product as u64, 0, 0, 0]))
 }
 
 /// So many members one behind the other, by the Rust.
@@ -215,6 +220,7 @@ macro_rules! described {
         &words::<{ 1 + BYTES.len().div_ceil(8) }>(BYTES)
     }};
 }
+pub(super) use described;
 
 const PAGES: &[&[u64]] = &[
     described!(),

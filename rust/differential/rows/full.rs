@@ -10,6 +10,7 @@ use crate::plain_full::{agree, converts, matches, normal_form, Sizes};
 use crate::random::Random;
 use crate::rows::convert::{a_length, an_address, at_a_conversion, at_a_match, spoil};
 use crate::table::{first, is_fixed, two_layouts};
+use crate::width::{BITS, M, TOP};
 
 pub const ROWS: &[Row] = &[
     Row {
@@ -20,11 +21,7 @@ pub const ROWS: &[Row] = &[
         cells: &[apart(0), apart(2)],
         modifier: None,
         label: no_label,
-        pages: &[
-            &[0, 0, 4, 9, 0, 0, 4, 10],
-            &[u64::MAX - 7, 0, 1, 9, u64::MAX - 7, 3, 1, 9],
-            &[0, 0, 4, 13, 8, 0, 4, 8],
-        ],
+        pages: &[&[0, 0, 4, 9, 0, 0, 4, 10], &[M - 7, 0, 1, 9, M - 7, 3, 1, 9], &[0, 0, 4, 13, 8, 0, 4, 8]],
         aim: at_equal_sizes,
         ours: full::compared,
         apart: |i| {
@@ -47,11 +44,11 @@ pub const ROWS: &[Row] = &[
             &[0, 0, 4, 10],
             &[0, 0, 4, 13],
             &[8, 9, 4, 5],
-            &[u64::MAX, 0, 4, 9],
-            &[u64::MAX, 0, 4, 13],
-            &[u64::MAX - 8, 0, 4, 13],
-            &[u64::MAX - 7, 0, 4, 13],
-            &[1 << 63, 0, 0, 3 << 62],
+            &[M, 0, 4, 9],
+            &[M, 0, 4, 13],
+            &[M - 8, 0, 4, 13],
+            &[M - 7, 0, 4, 13],
+            &[TOP, 0, 0, 3 << (BITS - 2)],
         ],
         aim: at_a_form,
         ours: full::formed,
@@ -71,7 +68,7 @@ pub const ROWS: &[Row] = &[
             &[18, 3, 8, 28, 18, 5, 8, 18, 1],
             &[34, 0, 24, 58, 2, 0, 8, 32, 8],
             &[34, 0, 24, 58, 2, 0, 8, 32, 7],
-            &[u64::MAX - 7, 0, 1, 9, u64::MAX - 7, 0, 1, 9, 0],
+            &[M - 7, 0, 1, 9, M - 7, 0, 1, 9, 0],
         ],
         aim: |random, inputs| {
             at_a_match(random, inputs);
@@ -155,7 +152,7 @@ pub const ROWS: &[Row] = &[
             &[4, 2, 37, 0, 36, 61, 4, 7, 5, 0, 9, 32, 1, 8, 101, 200],
             &[8, 2, 0, 0, 4, 9, 8, 2, 0, 0, 4, 10, 3, 0, 24, 24],
             // The count passes M.
-            &[1, 2, 0, 0, 2, 7, 1, 2, 0, 0, 2, 4, u64::MAX, 0, 12, 17],
+            &[1, 2, 0, 0, 2, 7, 1, 2, 0, 0, 2, 4, M, 0, 12, 17],
         ],
         aim: at_a_full_chain,
         ours: full::carried,
@@ -177,7 +174,7 @@ const GAINED: &[&[u64]] = &[
     &[1, 2, 1, 0, 24, 26, 1, 2, 1, 0, 1, 29],
     &[8, 2, 0, 0, 4, 9, 8, 2, 0, 0, 4, 10],
     &[8, 2, 0, 0, 4, 10, 8, 2, 0, 0, 4, 9],
-    &[1, 2, u64::MAX - 7, 0, 1, 9, 1, 2, u64::MAX - 7, 0, 1, 9],
+    &[1, 2, M - 7, 0, 1, 9, 1, 2, M - 7, 0, 1, 9],
 ];
 
 fn unasked(_: &[u64]) -> Answer {
@@ -197,7 +194,11 @@ fn chain(inputs: &[u64]) -> Answer {
         1 => Ok([meta]),
         _ => {
             let count = u128::from(shift) + u128::from(multiple) * u128::from(inputs[12]);
-            u64::try_from(count).map(|count| [count]).map_err(|_| 19)
+            if count <= M.into() {
+                Ok([count as u64])
+            } else {
+                Err(19)
+            }
         }
     });
     let cast = |len| oracle::said(|| oracle::validate_cast_and_convert_metadata(dst, inputs[13], len, false));
@@ -227,7 +228,7 @@ fn disguise(random: &mut Random, layout: &mut [u64]) {
     let step = elem_size & elem_size.wrapping_neg();
     if elem_size & (align - 1) == 0 {
         // Any alignment that divides the element size.
-        let powers = if step == 0 { 64 } else { u64::from(step.ilog2()) + 1 };
+        let powers = if step == 0 { BITS } else { u64::from(step.ilog2()) + 1 };
         let other = 1 << random.below(powers);
         let size = size_base.wrapping_add(if phase == 0 { 0 } else { align });
         let phase = random.next() & (other - 1);
@@ -270,7 +271,7 @@ fn at_a_form(random: &mut Random, inputs: &mut [u64]) {
     }
     if random.one_in(2) {
         let align = 1 << inputs[3].checked_ilog2().unwrap_or(0);
-        inputs[0] = random.near(u64::MAX - align);
+        inputs[0] = random.near(M.wrapping_sub(align));
     }
     spoil(random, inputs);
 }
@@ -289,7 +290,7 @@ fn at_a_full_conversion(random: &mut Random, inputs: &mut [u64]) {
 
 fn at_a_full_chain(random: &mut Random, inputs: &mut [u64]) {
     at_a_full_conversion(random, &mut inputs[..12]);
-    let counts = random.one_of(&[4, 64, 1 << 20, 1 << 62]);
+    let counts = random.one_of(&[4, 64, 1 << 20, 1 << (BITS - 2)]);
     inputs[12] = random.below(counts);
     let size = size_at(layout_of(inputs), inputs[12]);
     inputs[14] = a_length(random, size, inputs[10]);

@@ -6,6 +6,7 @@ use crate::exports::*;
 use crate::kinds::{align, layout, modifier, number, preceding};
 use crate::random::Random;
 use crate::table::{self, first, has_modifier, is_fixed, sized, two_layouts};
+use crate::width::M;
 
 pub const ROWS: &[Row] = &[
     Row {
@@ -105,7 +106,7 @@ pub const ROWS: &[Row] = &[
             &[4, 6, 9, 9, 1, 1],
             &[4, 7, 8, 8, 4, 4],
             // 8 is about the base, not about the size at 0.
-            &[8, 2, u64::MAX - 1, 0, 1, 1],
+            &[8, 2, M - 1, 0, 1, 1],
         ],
         aim: at_the_last_base,
         ours: |i| lukaripe_pad_to_align(Words(layout_of(i))).into(),
@@ -134,7 +135,7 @@ pub const ROWS: &[Row] = &[
         cells: &[answered("no"), answered("yes"), apart(1), apart(2), apart(21), apart(22)],
         modifier: None,
         label: yes_or_no,
-        pages: &[&[4, 3, 8, 9, 1, 5], &[8, 2, u64::MAX - 7, 0, 8, 9]],
+        pages: &[&[4, 3, 8, 9, 1, 5], &[8, 2, M - 7, 0, 8, 9]],
         aim: at_the_last_base,
         ours: |i| lukaripe_requires_dynamic_padding(Words(layout_of(i))).into(),
         apart: |i| first(&table::layout(layout_of(i))),
@@ -189,13 +190,13 @@ pub fn at_the_last_place(random: &mut Random, inputs: &mut [u64]) {
     let room = random.below(64);
     match random.below(3) {
         // No room to round up in.
-        0 => inputs[2] = u64::MAX - room,
+        0 => inputs[2] = M - room,
         // Room for the member's numbers, or less.
-        1 => inputs[2] = random.near(u64::MAX - inputs[8].max(inputs[9])),
+        1 => inputs[2] = random.near(M.wrapping_sub(inputs[8].max(inputs[9]))),
         _ => {
             let at = 8 + random.below(2) as usize;
             if at == 8 || !is_fixed(inputs[7]) {
-                inputs[at] = random.near(u64::MAX - inputs[2]).wrapping_sub(room);
+                inputs[at] = random.near(M.wrapping_sub(inputs[2])).wrapping_sub(room) & M;
             }
         }
     }
@@ -204,5 +205,5 @@ pub fn at_the_last_place(random: &mut Random, inputs: &mut [u64]) {
 /// A size_base near M.
 fn at_the_last_base(random: &mut Random, inputs: &mut [u64]) {
     let room = random.below(4).wrapping_mul(inputs[0]);
-    inputs[2] = random.near(u64::MAX.wrapping_sub(room));
+    inputs[2] = random.near(M.wrapping_sub(room));
 }

@@ -8,6 +8,7 @@ use crate::kinds::{layout, length, lent_list, list, modifier, number, record};
 use crate::lent::{bytes, reads, records, writes, Numbers, RECORD};
 use crate::plain_places;
 use crate::table::{self, bad_align, first, has_modifier};
+use crate::width::{Word, M};
 
 pub const ROWS: &[Row] = &[
     Row {
@@ -15,7 +16,7 @@ pub const ROWS: &[Row] = &[
         name: "decode",
         inputs: &[&[record("record")]],
         values: 6,
-        cells: &[apart(0), apart(1), apart(2), apart(20), apart(21), apart(22)],
+        cells: &[apart(0), apart(1), apart(2), apart(20), apart(21), apart(22), apart(43).only_at(32)],
         modifier: None,
         label: no_label,
         pages: &[
@@ -36,7 +37,7 @@ pub const ROWS: &[Row] = &[
         aim: nowhere,
         ours: |i| reads(&bytes(i), |record, len| unsafe { lukaripe_decode(record, len) }.into()),
         apart: |i| match records(i).as_deref() {
-            Some([words]) => first(&table::layout(*words)).or(Some(Answer::of(*words))),
+            Some([words]) => first(&table::record(*words)).or(Some(Answer::of(*words))),
             _ => Some(Answer::refused(20)),
         },
         rust: |_| unreachable!("the Rust has no records"),
@@ -104,6 +105,7 @@ pub const ROWS: &[Row] = &[
             apart(1).at(0, 7),
             apart(22).at(0, 7),
             apart(2).at(0, 7),
+            apart(43).at(0, 7).only_at(32),
         ],
         modifier: Some(some_modifier),
         label: composed,
@@ -136,6 +138,7 @@ pub const ROWS: &[Row] = &[
             apart(1).at(0, 7),
             apart(22).at(0, 7),
             apart(2).at(0, 7),
+            apart(43).at(0, 7).only_at(32),
         ],
         modifier: Some(some_modifier),
         label: composed,
@@ -169,6 +172,7 @@ pub const ROWS: &[Row] = &[
             apart(1).at(0, 7),
             apart(22).at(0, 7),
             apart(2).at(0, 7),
+            apart(43).at(0, 7).only_at(32),
             apart(50).at(0, 7),
         ],
         modifier: Some(some_modifier),
@@ -208,6 +212,7 @@ pub const ROWS: &[Row] = &[
             apart(1).at(0, 6),
             apart(22).at(0, 6),
             apart(2).at(0, 6),
+            apart(43).at(0, 6).only_at(32),
         ],
         modifier: Some(|i| some_modifier(&without_lent(i))),
         label: |i, answer| composed(&without_lent(i), answer),
@@ -279,7 +284,7 @@ const STRICT_LISTS: &[&[u64]] = &[
     &[0, 16, 48, 4, 5, 8, 0, 0, 0],
     &[0, 1, 48, 1 << 30, 4, 0, 0, 0, 0],
     &[0, 1, 96, 1, 3, 0, 0, 1, 1, 4, 4, 8, 0, 0, 0],
-    &[0, 1, 96, 1, 1, u64::MAX, 0, 0, 0, 1, 4, 8, 0, 0, 0],
+    &[0, 1, 96, 1, 1, M, 0, 0, 0, 1, 4, 8, 0, 0, 0],
     // An earlier member's refusal comes before, and of two with it the first is meant.
     &[0, 3, 96, 1, 1, 1, 0, 0, 0, 4, 4, 8, 0, 0, 0],
     &[0, 1, 96, 3, 1, 1, 0, 0, 0, 4, 4, 8, 0, 0, 0],
@@ -300,7 +305,7 @@ const PLACED_LISTS: &[&[u64]] = &[
     &[0, 0, 3, 3, 0, 144, 1, 1, 1, 0, 0, 0, 8, 1, 8, 0, 0, 0, 2, 1, 2, 0, 0, 0],
     &[0, 0, 3, 3, 1, 144, 1, 1, 1, 0, 0, 0, 8, 1, 8, 0, 0, 0, 2, 1, 2, 0, 0, 0],
     &[0, 0, 3, 3, 2, 144, 1, 1, 1, 0, 0, 0, 8, 1, 8, 0, 0, 0, 2, 1, 2, 0, 0, 0],
-    &[0, 0, 3, 3, u64::MAX, 144, 1, 1, 1, 0, 0, 0, 8, 1, 8, 0, 0, 0, 2, 1, 2, 0, 0, 0],
+    &[0, 0, 3, 3, M, 144, 1, 1, 1, 0, 0, 0, 8, 1, 8, 0, 0, 0, 2, 1, 2, 0, 0, 0],
     // A packing that lowers, one that does not, and an own alignment, which moves nothing.
     &[0, 2, 3, 3, 1, 144, 1, 1, 1, 0, 0, 0, 8, 1, 8, 0, 0, 0, 2, 1, 2, 0, 0, 0],
     &[0, 1, 3, 3, 2, 144, 1, 1, 1, 0, 0, 0, 8, 1, 8, 0, 0, 0, 2, 1, 2, 0, 0, 0],
@@ -319,8 +324,8 @@ const PLACED_LISTS: &[&[u64]] = &[
     &[0, 0, 4, 4, 2, 192, 1, 1, 1, 0, 0, 0, 4, 1, 0, 0, 0, 0, 1, 1, 0, 0, 0, 0, 1, 1, 1, 0, 0, 0],
     &[0, 0, 4, 4, 3, 192, 1, 1, 1, 0, 0, 0, 4, 1, 0, 0, 0, 0, 1, 1, 0, 0, 0, 0, 1, 1, 1, 0, 0, 0],
     // The greatest place, and a gap that ends at it.
-    &[0, 0, 2, 2, 1, 96, 1, 1, u64::MAX, 0, 0, 0, 1, 1, 0, 0, 0, 0],
-    &[0, 0, 2, 2, 1, 96, 1, 1, u64::MAX - 14, 0, 0, 0, 8, 1, 0, 0, 0, 0],
+    &[0, 0, 2, 2, 1, 96, 1, 1, M, 0, 0, 0, 1, 1, 0, 0, 0, 0],
+    &[0, 0, 2, 2, 1, 96, 1, 1, M - 14, 0, 0, 0, 8, 1, 0, 0, 0, 0],
     // Slices of another length: longer, shorter and none, of either.
     &[0, 0, 2, 1, 0, 48, 1, 1, 1, 0, 0, 0],
     &[0, 0, 1, 2, 0, 48, 1, 1, 1, 0, 0, 0],
@@ -341,10 +346,10 @@ const PLACED_LISTS: &[&[u64]] = &[
     // Refusals behind members that have their places: of the last member, and of the closing padding.
     &[0, 0, 2, 2, 0, 96, 1, 3, 0, 0, 1, 1, 1, 1, 1, 0, 0, 0],
     &[0, 0, 2, 2, 0, 96, 1, 1, 1, 0, 0, 0, 3, 1, 1, 0, 0, 0],
-    &[0, 0, 2, 2, 0, 96, 1, 1, u64::MAX, 0, 0, 0, 2, 1, 2, 0, 0, 0],
-    &[0, 0, 2, 2, 0, 96, 1, 1, 1, 0, 0, 0, 1, 1, u64::MAX, 0, 0, 0],
-    &[0, 0, 2, 2, 1, 96, 8, 1, 8, 0, 0, 0, 1, 1, u64::MAX - 8, 0, 0, 0],
-    &[2, 0, 1, 1, 0, 48, 1, 1, u64::MAX, 0, 0, 0],
+    &[0, 0, 2, 2, 0, 96, 1, 1, M, 0, 0, 0, 2, 1, 2, 0, 0, 0],
+    &[0, 0, 2, 2, 0, 96, 1, 1, 1, 0, 0, 0, 1, 1, M, 0, 0, 0],
+    &[0, 0, 2, 2, 1, 96, 8, 1, 8, 0, 0, 0, 1, 1, M - 8, 0, 0, 0],
+    &[2, 0, 1, 1, 0, 48, 1, 1, M, 0, 0, 0],
 ];
 
 /// The inputs of the composition that writes nothing.
@@ -381,7 +386,10 @@ fn placed(inputs: &[u64]) -> Answer {
         let members = records(list).unwrap_or_default();
         let wrong = plain_places::broken([repr_align, repr_packed], &members, &answer, places, gaps);
         answer.broken = answer.broken.or(wrong);
-        let of_one = |numbers: &[u64]| at.checked_rem(numbers.len() as u64).map_or(0, |at| numbers[at as usize]);
+        let of_one = |numbers: &[Word]| match at.checked_rem(numbers.len() as u64) {
+            Some(at) => u64::from(numbers[at as usize]),
+            None => 0,
+        };
         answer.values[7..9].copy_from_slice(&[of_one(places), of_one(gaps)]);
     }
     answer
@@ -405,7 +413,7 @@ fn some_modifier(inputs: &[u64]) -> bool {
 /// The members before the first whose record is refused: those that the Rust can be handed.
 fn good_records(inputs: &[u64]) -> Vec<[u64; 6]> {
     let members = records(&inputs[2..]).unwrap();
-    members.into_iter().take_while(|member| first(&table::layout(*member)).is_none()).collect()
+    members.into_iter().take_while(|member| first(&table::record(*member)).is_none()).collect()
 }
 
 /// A length, or the first bad record where the Rust composes all the members before it.
@@ -416,7 +424,7 @@ fn bad_record(inputs: &[u64]) -> Option<Answer> {
     let good = good_records(inputs);
     let bad = members.get(good.len())?;
     oracle::compose(inputs[0], inputs[1], &good).ok()?;
-    first(&table::layout(*bad)).map(|answer| Answer::refused_at(answer.refusal, good.len()))
+    first(&table::record(*bad)).map(|answer| Answer::refused_at(answer.refusal, good.len()))
 }
 
 /// What the Rust is not asked for of the strict composition, in the order tested: the length, which like a bad own

@@ -4,6 +4,7 @@ use super::{apart, no_label, nowhere, refused, Row, ANSWER};
 use crate::exports::*;
 use crate::kinds::{align, number, word};
 use crate::table::first;
+use crate::width::M;
 
 pub const ROWS: &[Row] = &[
     Row {
@@ -28,7 +29,7 @@ pub const ROWS: &[Row] = &[
         cells: &[ANSWER, apart(2)],
         modifier: None,
         label: no_label,
-        pages: &[&[1], &[12], &[u64::MAX]],
+        pages: &[&[1], &[12], &[M]],
         aim: nowhere,
         ours: |i| lukaripe_rounding_components(i[0]).into(),
         apart: |i| first(&[(2, i[0] == 0)]),
@@ -42,7 +43,7 @@ pub const ROWS: &[Row] = &[
         cells: &[ANSWER, apart(2)],
         modifier: None,
         label: no_label,
-        pages: &[&[1], &[12], &[u64::MAX]],
+        pages: &[&[1], &[12], &[M]],
         aim: nowhere,
         ours: |i| lukaripe_rounding_align(i[0]).into(),
         apart: |i| first(&[(2, i[0] == 0)]),

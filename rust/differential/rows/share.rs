@@ -1,9 +1,9 @@
 //! The padding over counts.
 
 use super::{apart, apart_for, no_label, nowhere, Row};
+use crate::kinds::HALF;
 use crate::shares;
-
-const M: u64 = u64::MAX;
+use crate::width::{M, TOP};
 
 const LATER: &str = "behind 9 counts or more";
 
@@ -48,11 +48,11 @@ pub const ROWS: &[Row] = &[Row {
         &[64, 40, 24, 17, 6, 6, 5, 4, 3, 2, 1],
         &[48, 50, 10, 127, 6, 2, 4, 8, 16, 32, 64],
         &[0, 0, 1, 1 << 29, 4, 1, (1 << 29) - 1, 1 << 29, (1 << 29) + 1],
-        &[0, 0, 1, 1 << 32, 3, (1 << 32) + 1, 1 << 32, (1 << 32) - 1],
+        &[0, 0, 1, HALF, 3, HALF + 1, HALF, HALF - 1],
         &[1 << 29, 1, 1 << 29, 1 << 29, 3, 1, 2, 3],
-        &[0, 0, 1, 1 << 62, 3, 0, 1, 1 << 62],
-        &[0, 0, 1 << 32, 1 << 32, 2, (1 << 31) - 1, 1 << 31],
-        &[1 << 62, 7, 0, 1, 3, 0, M, 1],
+        &[0, 0, 1, TOP / 2, 3, 0, 1, TOP / 2],
+        &[0, 0, HALF, HALF, 2, HALF / 2 - 1, HALF / 2],
+        &[TOP / 2, 7, 0, 1, 3, 0, M, 1],
         &[M, 0, 9, 1, 2, 0, 0],
         &[M, 0, 9, 1, 1, 0],
         &[M / 3, 2, 0, 1, 3, 9, 8, 7],
@@ -76,7 +76,7 @@ pub const ROWS: &[Row] = &[Row {
         &[0, 0, 1, 1, 3, M, 0, 0],
         &[M - 7, 0, 0, 8, 2, 1, 1],
         // No size behind one that has it, and none at 0.
-        &[0, 0, 2, 1, 2, 0, 1 << 63],
+        &[0, 0, 2, 1, 2, 0, TOP],
         &[M, 0, 0, 3, 2, 1, 0],
         &[M, M, 1, 3, 1, M],
         // 2 before 51, 51 before 39; of one count no size before the end, and the end before the sum.
@@ -84,7 +84,7 @@ pub const ROWS: &[Row] = &[Row {
         &[0, 0, 1, 0, 1, 0],
         &[M, 0, 0, 3, 0],
         &[0, 0, 1, 1, 0],
-        &[0, M, 2, 1, 1, 1 << 63],
+        &[0, M, 2, 1, 1, TOP],
         &[M - 8, 0, 8, 8, 2, 1, 2],
         &[M, M, 0, 1, 2, 0, 0],
         &[8, 10, 1, 5, 2, 2, 3],

@@ -14,7 +14,7 @@ pub const ROWS: &[Row] = &[
         name: "decode_short",
         inputs: &[&[short_record("record")]],
         values: 6,
-        cells: &[apart(0), apart(2), apart(20), apart(21), apart(22), apart(42)],
+        cells: &[apart(0), apart(2), apart(20), apart(21), apart(22), apart(42), apart(43).only_at(32)],
         modifier: None,
         label: no_label,
         pages: &[
@@ -57,7 +57,7 @@ pub const ROWS: &[Row] = &[
         inputs: &[&[layout("layout"), short_length("len")]],
         // The first words of the output.
         values: 5,
-        cells: &[apart(0), apart(1), apart(2), apart(20), apart(21), apart(22), apart(40)],
+        cells: &[apart(0), apart(1), apart(2), apart(20), apart(21), apart(22), apart(40).only_at(64)],
         modifier: None,
         label: no_label,
         pages: &[

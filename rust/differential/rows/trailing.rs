@@ -7,6 +7,7 @@ use crate::kinds::number;
 use crate::layouts::{parts, rounded_phase};
 use crate::random::Random;
 use crate::table::first;
+use crate::width::M;
 
 pub const ROWS: &[Row] = &[
     Row {
@@ -63,9 +64,9 @@ pub const ROWS: &[Row] = &[
             &[8, 9, 1, 5, 0],
             &[8, 9, 1, 5, 3],
             &[8, 9, 1, 5, 4],
-            &[u64::MAX - 7, 0, 1, 8, 0],
-            &[u64::MAX - 7, 0, 1, 8, 1],
-            &[u64::MAX - 7, 0, 1, 9, 0],
+            &[M - 7, 0, 1, 8, 0],
+            &[M - 7, 0, 1, 8, 1],
+            &[M - 7, 0, 1, 9, 0],
         ],
         aim: at_the_last_count,
         ours: |i| lukaripe_size_for_elems(Words(trailing_of(i)), i[4]).into(),
@@ -114,7 +115,7 @@ fn at_a_size(random: &mut Random, inputs: &mut [u64]) {
 /// The greatest count that has a size.
 fn at_the_last_count(random: &mut Random, inputs: &mut [u64]) {
     let (align, phase) = parts(inputs[3]);
-    let room = (u64::MAX - inputs[0]) & !(align - 1);
+    let room = (M - inputs[0]) & !(align - 1);
     let count = room.saturating_sub(phase) / inputs[2].max(1);
     inputs[4] = random.near(count);
 }
@@ -122,7 +123,7 @@ fn at_the_last_count(random: &mut Random, inputs: &mut [u64]) {
 /// The greatest number of bytes to advance by.
 fn at_the_last_advance(random: &mut Random, inputs: &mut [u64]) {
     let (align, phase) = parts(inputs[3]);
-    let bytes = u64::MAX - (inputs[0] & !(align - 1)) - phase;
+    let bytes = M - (inputs[0] & !(align - 1)) - phase;
     inputs[4] = random.near(bytes);
 }
 

@@ -4,6 +4,7 @@ use super::{answered, apart, no_label, nowhere, refused, yes_or_no, Row, ANSWER}
 use crate::exports::*;
 use crate::kinds::{align, number};
 use crate::table::{bad_align, first};
+use crate::width::M;
 
 pub const ROWS: &[Row] = &[
     Row {
@@ -28,7 +29,7 @@ pub const ROWS: &[Row] = &[
         cells: &[ANSWER, apart(1)],
         modifier: None,
         label: no_label,
-        pages: &[&[0, 8], &[1, 8], &[u64::MAX, 8]],
+        pages: &[&[0, 8], &[1, 8], &[M, 8]],
         aim: nowhere,
         ours: |i| lukaripe_padding_needed_for(i[0], i[1]).into(),
         apart: |i| first(&[(1, bad_align(i[1]))]),

@@ -9,6 +9,7 @@ use crate::lent::RECORD;
 use crate::random::Random;
 use crate::runs;
 use crate::table::{has_modifier, two_layouts};
+use crate::width::M;
 
 pub const ROWS: &[Row] = &[
     Row {
@@ -63,6 +64,7 @@ pub const ROWS: &[Row] = &[
             apart(20),
             apart(21),
             apart(22),
+            apart(43).only_at(32),
         ],
         modifier: Some(|i| has_modifier(i[1]) || has_modifier(i[9])),
         label: which_layout,
@@ -84,9 +86,9 @@ pub const ROWS: &[Row] = &[
             &[4, 3, 9, 9, 1, 1, 3, 48, 1 << 30, 3, 8, 0, 0, 0],
             &[4, 3, 9, 9, 1, 1, 3, 48, 1 << 30, 1, 8, 0, 0, 0],
             &[4, 3, 9, 9, 1, 1, 1, 48, 1 << 30, 1, 8, 0, 0, 0],
-            &[4, 3, 9, 9, 1, 1, 1, 48, 4, 1, u64::MAX, 0, 0, 0],
-            &[4, 1, u64::MAX, 0, 0, 0, 0, 48, 4, 1, u64::MAX, 0, 0, 0],
-            &[4, 1, 9, 0, 0, 0, 0, 48, 4, 1, u64::MAX, 0, 0, 0],
+            &[4, 3, 9, 9, 1, 1, 1, 48, 4, 1, M, 0, 0, 0],
+            &[4, 1, M, 0, 0, 0, 0, 48, 4, 1, M, 0, 0, 0],
+            &[4, 1, 9, 0, 0, 0, 0, 48, 4, 1, M, 0, 0, 0],
         ],
         aim: at_the_last_place_by_record,
         ours: |i| altered(runs::add_record(layout_of(i), &i[7..], i[6])),
@@ -119,6 +121,7 @@ pub const ROWS: &[Row] = &[
             apart(1),
             apart(22),
             apart(2),
+            apart(43).only_at(32),
         ],
         modifier: Some(runs::modifier),
         label: |i, answer| match answer.refusal {
@@ -138,8 +141,8 @@ pub const ROWS: &[Row] = &[
 const RUNS: &[&[u64]] = &[
     &[0, 0],
     // u32, u8, one that has no room, and a run of bytes, behind which nothing comes.
-    &[0, 0, 0, 48, 4, 1, 4, 0, 0, 0, 1, 48, 1, 1, 1, 0, 0, 0, 0, 48, 1, 1, u64::MAX, 0, 0, 0],
-    &[0, 0, 0, 48, 4, 1, 4, 0, 0, 0, 0, 48, 1, 1, u64::MAX, 0, 0, 0, 1, 48, 1, 3, 0, 0, 1, 1],
+    &[0, 0, 0, 48, 4, 1, 4, 0, 0, 0, 1, 48, 1, 1, 1, 0, 0, 0, 0, 48, 1, 1, M, 0, 0, 0],
+    &[0, 0, 0, 48, 4, 1, 4, 0, 0, 0, 0, 48, 1, 1, M, 0, 0, 0, 1, 48, 1, 3, 0, 0, 1, 1],
     &[0, 0, 0, 48, 4, 1, 4, 0, 0, 0, 1, 48, 1, 3, 0, 0, 1, 1, 0, 48, 1, 1, 1, 0, 0, 0],
     // A packing that is no power of two refuses each, and leaves the empty layout; so an own alignment above 2^29.
     &[8, 3, 0, 48, 4, 1, 4, 0, 0, 0, 1, 48, 1, 1, 1, 0, 0, 0],
