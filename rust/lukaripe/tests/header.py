@@ -6,13 +6,15 @@
                                       which refusal.rt has the refusals: the same names in the same order, and the same
                                       types
     header.py program HEADER ROWS...  prints a C program that calls each function; ROWS are the files of
-                                      rust/differential/rows, which give each function its number
+                                      rust/differential/rows, which give each function its number. Where HEADER is
+                                      that of 32 bits, lukaripe.h stands beside it
 
     PROGRAM says                      prints each struct with its size and alignment, each constant, the words of the
                                       refusals, and the version
     PROGRAM replay <ANSWERS           every line must be what the function of its number says
     PROGRAM wrong <LINES              no line may be; how a line reads is written in rust/differential/recorded.rs
 """
+import os
 import re
 import subprocess
 import sys
@@ -269,29 +271,29 @@ static const uint8_t *next_seen(size_t words) {
 }
 
 /* Numbers to lend: their bytes are as those of `lent` before, also those of the numbers behind them. */
-static size_t next_numbers(uint64_t numbers[NUMBERS]) {
+static size_t next_numbers(lent_number numbers[NUMBERS]) {
     uint64_t len = next();
     memset(numbers, BEFORE, NUMBERS * sizeof *numbers);
     missing |= len > NUMBERS;
     return missing ? 0 : (size_t)len;
 }
 
-static bool untouched_behind(const uint64_t numbers[NUMBERS], size_t len) {
+static bool untouched_behind(const lent_number numbers[NUMBERS], size_t len) {
     return untouched(numbers + len, (NUMBERS - len) * sizeof *numbers);
 }
 
 /* Numbers to lend that are read: others stand before them and behind them, whose bytes are as those above. */
-static size_t take_numbers(uint64_t numbers[NUMBERS]) {
+static size_t take_numbers(lent_number numbers[NUMBERS]) {
     uint64_t len = next();
     memset(numbers, BEFORE, NUMBERS * sizeof *numbers);
     missing |= len > NUMBERS - 2;
     for (size_t i = 0; !missing && i < len; i++)
-        numbers[1 + i] = next();
+        numbers[1 + i] = (lent_number)next();
     return missing ? 0 : (size_t)len;
 }
 
 /* The number of one member, of a list of so many bytes. */
-static uint64_t of_member(const uint64_t numbers[NUMBERS], uint64_t refusal, uint64_t member, size_t len) {
+static uint64_t of_member(const lent_number numbers[NUMBERS], uint64_t refusal, uint64_t member, size_t len) {
     size_t count = len / LUKARIPE_RECORD_LENGTH;
     return refusal || count == 0 ? 0 : numbers[member % count];
 }
@@ -352,14 +354,22 @@ def numbers_of(kind, place, structs):
     return [number for field, name in structs[kind] for number in numbers_of(field, f"{place}.{name}", structs)]
 
 
+# A lent slice of numbers, which are as wide as the words.
+LENT_NUMBERS = {"uint64_t *", "uint32_t *"}
+
+
+def is_read(kind):
+    return kind.removeprefix("const ") != kind and kind.removeprefix("const ") in LENT_NUMBERS
+
+
 def writes_numbers(parameters):
     """The lent slices of numbers that are written."""
-    return [name for kind, name in parameters if kind == "uint64_t *"]
+    return [name for kind, name in parameters if kind in LENT_NUMBERS]
 
 
 def reads_numbers(parameters):
     """The lent slices of numbers that are only read."""
-    return [name for kind, name in parameters if kind == "const uint64_t *"]
+    return [name for kind, name in parameters if is_read(kind)]
 
 
 def altered(parameters, structs):
@@ -379,7 +389,7 @@ def output(function, parameters):
     """Of a function that writes to the area: what it is handed as the length, and whether it is a move. The record of
     48 bytes, which came before there were others, is written to `lent`."""
     kinds = [kind for kind, _ in parameters]
-    if "uint8_t *" not in kinds or function == "lukaripe_encode":
+    if "uint8_t *" not in kinds or function in ("lukaripe_encode", "lukaripe32_encode"):
         return None
     moves = "const uint8_t *" in kinds or function == CASES
     return "out_len" if "const uint8_t *" in kinds else "len", moves
@@ -414,11 +424,11 @@ def take(function, parameters, structs):
         elif kind == "uint8_t *":
             yield "size_t len = next_length();"
             yield "memset(lent, BEFORE, len);"
-        elif kind == "uint64_t *":
-            yield f"uint64_t {name}[NUMBERS];"
+        elif kind in LENT_NUMBERS:
+            yield f"lent_number {name}[NUMBERS];"
             yield f"size_t {name}_len = next_numbers({name});"
-        elif kind == "const uint64_t *":
-            yield f"uint64_t {name}[NUMBERS], {name}_before[NUMBERS];"
+        elif is_read(kind):
+            yield f"lent_number {name}[NUMBERS], {name}_before[NUMBERS];"
             yield f"size_t {name}_len = take_numbers({name});"
             yield f"memcpy({name}_before, {name}, sizeof {name});"
         else:
@@ -455,7 +465,7 @@ def statements(function, result, parameters, structs):
             return "area"
         if kind.endswith("8_t *"):
             return "lent"
-        return f"{name} + 1" if name in lent_structs or kind == "const uint64_t *" else name
+        return f"{name} + 1" if name in lent_structs or is_read(kind) else name
 
     yield from take(function, parameters, structs)
     yield f"{result} r = {function}({', '.join(handed(*parameter) for parameter in parameters)});"
@@ -482,16 +492,21 @@ def statements(function, result, parameters, structs):
 
 
 def program(header, rows):
-    c = declared_in_c(header)
+    c, prefix, lent_number, structs = declared_in_c(header), "lukaripe_", "uint64_t", {}
+    if any(name.startswith("lukaripe32_") for name in c.functions):
+        # What has no width is the other header's.
+        prefix, lent_number = "lukaripe32_", "uint32_t"
+        structs = declared_in_c(os.path.join(os.path.dirname(header), "lukaripe.h")).structs
+    structs |= c.structs
     table = "".join(open(row).read() for row in rows)
-    numbers = {"lukaripe_" + name: number for number, name in re.findall(r'number: (\d+),\s+name: "(\w+)"', table)}
+    numbers = {prefix + name: number for number, name in re.findall(r'number: (\d+),\s+name: "(\w+)"', table)}
     if c.functions.keys() - numbers.keys():
         fail(f"the rows have no {', '.join(c.functions.keys() - numbers.keys())}")
 
-    print(f'#include "{header}"' + START)
+    print(f'#include "{header}"\n\ntypedef {lent_number} lent_number;' + START)
     print("static bool call(uint64_t function) {\n    switch (function) {")
     for name, (result, parameters) in c.functions.items():
-        body = "".join(f"        {line}\n" for line in statements(name, result, parameters, c.structs))
+        body = "".join(f"        {line}\n" for line in statements(name, result, parameters, structs))
         print(f"    case {numbers[name]}: {{\n{body}    }}")
     print("    }\n    return false;\n}\n")
 
