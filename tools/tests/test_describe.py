@@ -210,7 +210,7 @@ class Texts(WithProgram):
             "struct(align 16) {}": "--align 16",
         }.items():
             self.assertEqual(self.shows(quote(text)), self.shows(words), text)
-            self.assertEqual(self.shows(quote(text) + " --width 40"), self.shows(words + " --width 40"), text)
+            self.assertEqual(self.shows(quote(text) + " --columns 40"), self.shows(words + " --columns 40"), text)
 
     def test_the_bar_has_the_outermost_members(self):
         text = self.shows(quote("struct { u8, struct { u8, u32 }, u8 }"))
@@ -453,19 +453,3 @@ class Describe(WithProgram):
         self.says(f"'{TREE}'/tools/lukaripe describe 'struct {{ u8 }}' --out 'a type'", cwd=folder)
         self.assertEqual((folder / "a type").read_bytes(), bytes([17, 0, 0, 1, 0]))
         self.assertIn("size 1,", self.output(f"'{TREE}'/tools/lukaripe describe --read 'a type'", cwd=folder))
-
-    def test_the_help(self):
-        text = self.output("tools/lukaripe describe --help")
-        self.assertEqual(text, self.output(f"{CLI} describe u8 -h"))
-        uses = " ".join(re.findall(r"^    tools/lukaripe describe (\[.*)$", text, re.M))
-        for option in {*re.findall(r"--\w+", uses), "TEXT"}:
-            about = re.search(rf"^ {{4}}{option}\b.*(\n {{8,}}.*)*", text, re.M)
-            self.assertIn("default", about[0], option)
-        examples = re.findall(r"^    (tools/.*?)  +\S.*$", text[text.index("Examples") :], re.M)
-        self.assertEqual(len(examples), 4)
-        self.addCleanup((TREE / "type").unlink, True)
-        for example in examples:
-            ran = self.run_shell(example)
-            is_refused = example.endswith("'struct { [u8], u8 }'")
-            self.assertEqual(ran.returncode, int(is_refused), (example, ran.stderr))
-        self.assertTrue((TREE / "type").exists())

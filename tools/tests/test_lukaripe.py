@@ -9,6 +9,7 @@ from trial import HOME, LIBRARY, M, ROOT, TREE, Trial, line, make_tree
 
 CLI = "target/tools/lukaripe"
 FIRST = "u64 u8 '[u8]'"
+COMMANDS = "layout describe".split()
 # As `members` says it of the same words.
 SIGNED = "signed integers have no code; use {}, which has the same size and alignment"
 
@@ -59,6 +60,13 @@ class WithProgram(Trial):
         ran = self.run_shell(f"{CLI} layout {words}", **how)
         self.assertEqual((ran.returncode, ran.stderr), (0, b""), words)
         return ran.stdout.decode()
+
+    def causes(self):
+        """The words of each refusal, by its number, as the header has them."""
+        header = (TREE / "include/lukaripe.h").read_text()
+        numbers = dict(re.findall(r"(LUKARIPE_REFUSED_\w+) = (\d+)", header))
+        causes = re.findall(r'case (LUKARIPE_\w+):\s+return "(.*)";', header)
+        return {int(numbers[name]): cause for name, cause in causes}
 
     def members(self, text):
         """Of each line of the table, the numbers behind the name."""
@@ -184,7 +192,7 @@ class Bar(WithProgram):
     def test_no_line_is_wider_than_asked_for(self):
         for words in *FIXED, *OPEN, "u64 " * 30, "u8 " * 200, "bytes:4000 " + "u8 " * 40:
             for width in 40, 79, 80, 200:
-                text = self.shows(f"--width {width} {words}")
+                text = self.shows(f"--columns {width} {words}")
                 drawn = text[text.rindex("\n\n") :].splitlines()
                 cells = [row for row in drawn if re.fullmatch(r"[0-9.x>-]+|[ \d]+", row)]
                 self.assertLessEqual(max(map(len, cells), default=0), width, words)
@@ -330,12 +338,12 @@ class Words(WithProgram):
                 self.wrong(f"layout u8 '{word}'", f"'{word}' is out of range", f"{number} is above 2^64 - 1", by=CLI)
 
     def test_options(self):
-        for option in "--align", "--packed", "--width":
+        for option in "--align", "--packed", "--columns":
             for value in "", "x", "-1", "1_000", "' 1'", "１", "''", "0", "--svg 1":
                 self.wrong(f"layout {option} {value}", f"{option} takes a number")
             self.wrong(f"layout {option} {M + 1}", f"{option} is out of range: {M + 1} is above 2^64 - 1")
         for value in 39, 1001:
-            self.wrong(f"layout --width {value}", "--width takes a number from 40 to 1000")
+            self.wrong(f"layout --columns {value}", "--columns takes a number from 40 to 1000")
         for option in "--records", "--svg":
             self.wrong(f"layout {option}", f"{option} takes a word, FILE")
             self.wrong(f"layout {option}=", f"{option} takes a word, FILE")
@@ -346,31 +354,46 @@ class Words(WithProgram):
 
     def test_commands(self):
         self.wrong("", "a command is missing")
-        for command in "nope", "Layout", "../help/layout", "layout/":
+        for command in "nope", "Layout", "../help/layout", "layout/", "lukaripe":
             self.wrong(command, f"no command '{command}'")
+        listed = re.findall(r"^ {21}([a-z]+) +\S", self.output("tools/lukaripe --help"), re.M)
+        self.assertEqual(listed, COMMANDS)
 
     def test_the_program_says_the_same_without_the_script(self):
-        for words in "--help", "-h", "layout --help", "layout u8 -h", "describe -h", "", "nope", "layout", "describe":
+        words = ["--help", "-h", "layout u8 -h", "", "nope", *COMMANDS, *(f"{command} --help" for command in COMMANDS)]
+        for words in words:
             script, program = self.run_shell(f"tools/lukaripe {words}"), self.run_shell(f"{CLI} {words}")
             for given in "returncode", "stdout", "stderr":
                 self.assertEqual(getattr(script, given), getattr(program, given), words)
 
-    def test_the_help_of_a_command(self):
-        text = self.output("tools/lukaripe layout --help")
-        uses = " ".join(re.findall(r"^    tools/lukaripe layout (\[.*)$", text, re.M))
-        for option in set(re.findall(r"--\w+", uses)):
-            about = re.search(rf"^ {{4}}{option}\b.*(\n {{8,}}.*)*", text, re.M)
-            self.assertIn("default", about[0], option)
+    def test_the_help_of_each_command(self):
+        for command in COMMANDS:
+            text = self.output(f"tools/lukaripe {command} --help")
+            uses = " ".join(re.findall(rf"^    tools/lukaripe {command} (.*)$", text[: text.index("Examples:")], re.M))
+            options = re.findall(r"--[a-z-]+", uses)
+            self.assertIn("--width", options)
+            # Options, and the words that are not the value of one.
+            for argument in options + re.findall(r"\b[A-Z]+\b", re.sub(r"--[a-z-]+ [A-Z]+", "", uses)):
+                about = re.search(rf"^ {{4}}{argument}\b.*(\n {{8,}}.*)*", text, re.M)
+                self.assertIn("default", about[0], (command, argument))
 
-    def test_its_examples(self):
-        text = self.output("tools/lukaripe layout --help") + self.output("tools/lukaripe --help")
-        examples = re.findall(r"^    (tools/.*?)  +\S.*$", text[text.index("Examples") :], re.M)
-        self.assertGreater(len(examples), 6)
-        self.addCleanup((TREE / "record.svg").unlink, True)
-        for example in examples:
-            ran = self.run_shell(example)
-            self.assertEqual(ran.returncode, 1 if example.endswith("'[u8]' u8") else 0, (example, ran.stderr))
-        self.assertTrue((TREE / "record.svg").exists())
+    def test_the_examples(self):
+        folder = HOME / "examples"
+        folder.mkdir(exist_ok=True)
+        (folder / "tools").unlink(missing_ok=True)
+        (folder / "tools").symlink_to(TREE / "tools")
+        for command in [*COMMANDS, ""]:
+            text = self.output(f"tools/lukaripe {command} --help")
+            text = text[text.index("Examples:" if command else "an example of layout") - 60 :]
+            examples = re.findall(r"^    ((?:tools/|seq ).*?)  +(\S.*)$", text, re.M)
+            self.assertGreaterEqual(len(examples), 2, command)
+            for example, about in examples:
+                ran = self.run_shell(example, cwd=folder)
+                status = {"refused": 1, "wrong": 2}.get(about.split(":")[0], 0)
+                self.assertEqual(ran.returncode, status, (example, ran.stderr))
+                self.assertEqual(ran.stderr != b"", status > 0, example)
+        made = {path.name for path in folder.iterdir()}
+        self.assertLessEqual({"record.svg", "type"}, made)
 
 
 class Places(WithProgram):
@@ -525,8 +548,10 @@ class Readme(WithProgram):
         text = (ROOT / "README.md").read_text()
         samples = re.findall(r"^<!-- (tools/lukaripe [^\n]*) -->\n(.*?)^<!-- end -->$", text, re.M | re.S)
         self.assertIn(f"tools/lukaripe layout {FIRST}", [command for command, _ in samples])
+        # What is set before its commands, as page='..'.
+        variables = dict(re.findall(r"^    (\w+)='([^'\n]*)'$", text, re.M))
         for command, shown in samples:
-            said = "".join(f"    {row}".rstrip() + "\n" for row in self.output(command).splitlines())
+            said = "".join(f"    {row}".rstrip() + "\n" for row in self.output(command, **variables).splitlines())
             self.assertEqual(shown, said)
 
     def test_its_picture(self):

@@ -3,14 +3,59 @@
 
 use crate::record::{notes, Part, Record, Sort};
 use crate::scale::{fold, share, Fragment, Room};
+use crate::words::{quoted, Words};
+use crate::{End, Result};
+use lukaripe::Fraction;
+use std::ops::RangeInclusive;
 
 const GAP: char = '.';
 const CLOSING: char = 'x';
 const REST: char = '-';
 const OPEN: char = '>';
 
+/// The letters of a line.
+#[derive(Clone, Copy)]
+pub struct Columns(pub usize);
+
+impl Default for Columns {
+    fn default() -> Columns {
+        Columns(80)
+    }
+}
+
+impl Columns {
+    const TAKEN: RangeInclusive<u64> = 40..=1000;
+
+    /// The value of an option.
+    pub fn read(words: &mut Words, option: &str) -> Result<Columns> {
+        let columns = words.count(option)?;
+        match Columns::TAKEN.contains(&columns) {
+            true => Ok(Columns(columns as usize)),
+            false => {
+                let takes = format!("a number from {} to {}", Columns::TAKEN.start(), Columns::TAKEN.end());
+                Err(End::Wrong(format!("{option} takes {takes}, not {}; see --help", quoted(&columns.to_string()))))
+            }
+        }
+    }
+}
+
+/// What the letters of a bar of a share mean.
+pub const SHARE_LEGEND: &str = "- used   x padding";
+
+/// A share of padding in so many letters, to the nearest. What is there is seen: padding has a letter, and so has what
+/// is none.
+pub fn share_bar(padding: Fraction, cells: usize) -> String {
+    let [part, whole] = [padding.numerator, padding.denominator].map(u128::from);
+    let nearest = (2 * part * cells as u128 + whole) / (2 * whole);
+    let least = usize::from(part > 0);
+    let most = cells - usize::from(part < whole);
+    let shown = (nearest as usize).clamp(least, most);
+    REST.to_string().repeat(cells - shown) + &CLOSING.to_string().repeat(shown)
+}
+
 /// The bar and what its letters mean.
-pub fn bar(record: &Record, width: usize) -> String {
+pub fn bar(record: &Record, columns: Columns) -> String {
+    let Columns(width) = columns;
     let pieces = record.pieces();
     let sizes: Vec<u128> = pieces.iter().map(|piece| piece.bytes).collect();
     let total: u128 = sizes.iter().sum();
@@ -94,5 +139,21 @@ fn legend(record: &Record) -> String {
         line
     } else {
         line + "\n"
+    }
+}
+
+#[cfg(test)]
+mod tests {
+    use super::*;
+
+    #[test]
+    fn shares_to_the_nearest_letter() {
+        let bar = |numerator, denominator| share_bar(Fraction { numerator, denominator }, 10);
+        assert_eq!(bar(0, 1), "----------");
+        assert_eq!(bar(1, 4), "-------xxx");
+        assert_eq!(bar(1, 1), "xxxxxxxxxx");
+        // What is small is seen, on either side.
+        assert_eq!(bar(1, u64::MAX), "---------x");
+        assert_eq!(bar(u64::MAX - 1, u64::MAX), "-xxxxxxxxx");
     }
 }

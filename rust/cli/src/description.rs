@@ -1,8 +1,8 @@
-//! Descriptions of types: their parts, in the order of their bytes, and what the library makes of them.
+//! Descriptions of types: their parts, in the order of their bytes.
 
-use crate::member::{member_at, Member, CLOSING, SCALARS};
-use crate::record::{members_said, Asked, Inner, Record};
-use lukaripe::{for_repr_c_struct_places, Layout, Refused, TAG_ARRAY, TAG_LONG_STRUCT, TAG_SLICE, TAG_STRUCT};
+use crate::record::{members_said, Asked};
+use crate::scalars::SCALARS;
+use lukaripe::{Refusal, Refused, TAG_ARRAY, TAG_LONG_STRUCT, TAG_SLICE, TAG_STRUCT};
 use std::collections::BTreeMap;
 use std::iter;
 use std::num::NonZeroU64;
@@ -130,10 +130,26 @@ impl Description {
         Description { bytes, names: BTreeMap::new() }
     }
 
-    /// What stands at a place, in few words.
-    pub fn sort_at(&self, place: u64) -> &'static str {
-        let bytes = usize::try_from(place).ok().and_then(|place| self.bytes.get(place..));
-        match bytes.and_then(Form::read) {
+    /// The same parts in other bytes, with the names that they have here.
+    pub fn rewritten(&self, bytes: Vec<u8>) -> Description {
+        let mut other = Description::of_bytes(bytes);
+        let parts = self.parts().zip(other.parts());
+        let named = parts.filter_map(|(part, new)| Some((new, self.names.get(&part)?.clone())));
+        other.names = named.collect();
+        other
+    }
+
+    /// The parts of a description that the library accepts, in the order of their bytes.
+    fn parts(&self) -> impl Iterator<Item = usize> + '_ {
+        let first = Some(0).filter(|_| !self.bytes.is_empty());
+        iter::successors(first, |part| Some(part + self.form(*part).length()).filter(|next| *next < self.bytes.len()))
+    }
+
+    /// What is refused, in few words.
+    pub fn sort_at_fault(&self, why: Refused) -> &'static str {
+        match self.form_at(why.place) {
+            // Its place is that of an alignment or a packing, whatever form it could be.
+            _ if why.refusal == Refusal::NumberPassesWidth => "the number",
             Some(Form::Struct(..)) => "the struct",
             Some(Form::Array(_)) => "the array",
             Some(Form::Slice) => "the slice",
@@ -141,98 +157,18 @@ impl Description {
         }
     }
 
-    /// Of a struct that is refused for its composition, the member or the closing padding that is refused. The members
-    /// before that are accepted.
-    pub fn member_at_fault(&self, why: Refused) -> Option<String> {
-        let part = usize::try_from(why.place).ok()?;
-        let Form::Struct(asked, _) = Form::read(self.bytes.get(part..)?)? else { return None };
-        let held = self.held(part);
-        let layouts: Vec<Layout> = held.iter().map_while(|held| self.layout_of(*held).ok()).collect();
-        let own = for_repr_c_struct_places(asked.align, asked.packed, &layouts).err()?;
-        let index = usize::try_from(own.place).ok().filter(|_| own.refusal == why.refusal)?;
-        Some(match held.get(index) {
-            Some(member) => member_at(index, Some(&self.name(*member))),
-            None => CLOSING.to_string(),
-        })
-    }
-
-    /// The layout of the whole.
-    pub fn layout(&self) -> Result<Layout, Refused> {
-        Layout::read(&self.bytes)
-    }
-
-    /// The record of the whole: a struct's members, or what is no struct as the one member.
-    pub fn record(&self) -> Result<Record, Refused> {
-        match self.form(0) {
-            Form::Struct(asked, _) => self.record_of(0, asked),
-            _ => {
-                let whole = self.layout()?;
-                let member = Member { name: self.name(0), layout: whole };
-                Ok(Record::of_one(self.type_name(0), member))
-            }
-        }
-    }
-
-    /// The record of the whole, with all that its members hold.
-    pub fn record_with_inner(&self) -> Result<Record, Refused> {
-        let mut record = self.record()?;
-        let parts = match self.form(0) {
-            Form::Struct(..) => self.held(0),
-            _ => vec![0],
-        };
-        for (index, (member, part)) in record.members.iter_mut().zip(parts).enumerate() {
-            self.add_inner(part, member.place.into(), &index.to_string(), 1, &mut member.inner)?;
-        }
-        Ok(record)
-    }
-
-    /// Adds what a part at a place of the whole holds: a struct its members; an array or slice what its first element
-    /// holds, where it has one.
-    fn add_inner(
-        &self,
-        part: usize,
-        place: u128,
-        path: &str,
-        depth: usize,
-        inner: &mut Vec<Inner>,
-    ) -> Result<(), Refused> {
-        let asked = match self.form(part) {
-            Form::Scalar(_) | Form::Array(0) => return Ok(()),
-            form @ (Form::Array(_) | Form::Slice) => {
-                return self.add_inner(part + form.length(), place, &format!("{path}[0]"), depth, inner);
-            }
-            Form::Struct(asked, _) => asked,
-        };
-        let record = self.record_of(part, asked)?;
-        let closing = record.closing_piece();
-        for (index, (member, part)) in record.members.into_iter().zip(self.held(part)).enumerate() {
-            let (path, place) = (format!("{path}.{index}"), place + u128::from(member.place));
-            inner.push(Inner::member(depth, path.clone(), place, &member));
-            self.add_inner(part, place, &path, depth + 1, inner)?;
-        }
-        inner.extend(closing.map(|closing| Inner::closing(depth, place + closing.start, closing.bytes)));
-        Ok(())
-    }
-
-    /// The record of a struct alone: its members by their own layouts.
-    fn record_of(&self, part: usize, asked: Asked) -> Result<Record, Refused> {
-        let member = |part| Ok(Member { name: self.name(part), layout: self.layout_of(part)? });
-        let members = self.held(part).into_iter().map(member).collect::<Result<Vec<_>, Refused>>()?;
-        let layouts: Vec<Layout> = members.iter().map(|member| member.layout).collect();
-        Ok(Record::new(asked, for_repr_c_struct_places(asked.align, asked.packed, &layouts)?, members))
-    }
-
-    fn layout_of(&self, part: usize) -> Result<Layout, Refused> {
-        Layout::read(&self.bytes[self.span(part)])
+    /// What stands at a place, where that is a head.
+    pub fn form_at(&self, place: u64) -> Option<Form> {
+        usize::try_from(place).ok().and_then(|place| self.bytes.get(place..)).and_then(Form::read)
     }
 
     /// What the head of a part says.
-    fn form(&self, part: usize) -> Form {
+    pub fn form(&self, part: usize) -> Form {
         Form::read(&self.bytes[part..]).expect("an accepted description has a part here")
     }
 
     /// The bytes of a part and of all that it holds.
-    fn span(&self, part: usize) -> Range<usize> {
+    pub fn span(&self, part: usize) -> Range<usize> {
         let (mut end, mut left) = (part, 1);
         while left > 0 {
             let form = self.form(end);
@@ -243,19 +179,19 @@ impl Description {
     }
 
     /// The parts that a part holds.
-    fn held(&self, part: usize) -> Vec<usize> {
+    pub fn held(&self, part: usize) -> Vec<usize> {
         let form = self.form(part);
         let each = iter::successors(Some(part + form.length()), |held| Some(self.span(*held).end));
         each.take(form.holds()).collect()
     }
 
     /// The name of a part, or its type where it has none.
-    fn name(&self, part: usize) -> String {
+    pub fn name(&self, part: usize) -> String {
         self.names.get(&part).cloned().unwrap_or_else(|| self.type_name(part))
     }
 
     /// A type in few words: a struct without its members.
-    fn type_name(&self, part: usize) -> String {
+    pub fn type_name(&self, part: usize) -> String {
         let form = self.form(part);
         match form {
             Form::Scalar(code) => SCALARS[code].to_string(),
@@ -278,8 +214,7 @@ impl Description {
         let mut text = String::new();
         // How many parts each has still to come, of those that are open.
         let mut left: Vec<usize> = Vec::new();
-        let mut part = 0;
-        while part < self.bytes.len() {
+        for part in self.parts() {
             let form = self.form(part);
             let name = self.names.get(&part).map(|name| format!("{name}: ")).unwrap_or_default();
             let count = match form {
@@ -289,7 +224,6 @@ impl Description {
             let head = hex(&self.bytes[part..part + form.length()]);
             let indent = "  ".repeat(left.len());
             text += &format!("{head:14}  {indent}{name}{}{count}\n", self.type_name(part));
-            part += form.length();
             if let Some(left) = left.last_mut() {
                 *left -= 1;
             }
@@ -312,19 +246,13 @@ mod tests {
     use super::*;
     use crate::text::Typed;
 
-    const TEXTS: [&str; 14] = [
+    const TEXTS: [&str; 8] = [
         "u8",
         "[u16; 4]",
         "[u16]",
         "struct {}",
-        "struct { u8, u64, u16 }",
-        "struct(align 16) { u8, u64 }",
-        "struct(packed 2) { u8, u64, struct { u8, u32 } }",
         "struct(align 32, packed 4) { u8, struct(align 16) { u8 }, [u64] }",
-        "struct { u64, [u16; 4], struct { u8, u32 }, [u8] }",
-        "struct { u8, struct { u16, struct { u32, [struct { u8, u16 }] } } }",
         "[struct { u8, [struct { u64, u8 }; 3], u8 }; 5]",
-        "[[struct { u8, u16 }; 0]; 3]",
         "struct { [struct(align 8) {}; 7], [u8; 0] }",
         "[struct(align 9223372036854775808) {}; 2]",
     ];
@@ -354,53 +282,6 @@ mod tests {
         assert_eq!(described.span(0), 0..11);
         assert_eq!(described.held(0), [5, 6]);
         assert_eq!(described.listing().lines().next(), Some("13 00 04 02 00  struct(packed 8), 2 members"));
-        assert_eq!(described.record_with_inner().map(|record| record.whole), described.layout());
-    }
-
-    #[test]
-    fn the_whole_is_as_it_is_read() {
-        for text in TEXTS {
-            let described = described(text);
-            assert_eq!(described.record_with_inner().map(|record| record.whole), described.layout(), "{text}");
-        }
-    }
-
-    #[test]
-    fn what_members_hold_has_its_places() {
-        let text = "struct { u8, a: [struct { u32, b: struct { u16, u8 } }; 2], [struct { u8, u16 }] }";
-        let record = described(text).record_with_inner().unwrap();
-        let said = |inner: &Inner| {
-            let gap = inner.align_and_gap.map(|(_, gap)| gap);
-            (inner.depth, inner.path.clone(), inner.name.clone(), inner.place, inner.size.clone(), gap)
-        };
-        let row = |depth, path: &str, name: &str, place, size: &str, gap| {
-            (depth, path.to_string(), name.to_string(), place, size.to_string(), gap)
-        };
-        assert!(record.members[0].inner.is_empty());
-        assert_eq!(
-            record.members[1].inner.iter().map(said).collect::<Vec<_>>(),
-            [
-                row(1, "1[0].0", "u32", 4, "4", Some(0)),
-                row(1, "1[0].1", "b", 8, "4", Some(0)),
-                row(2, "1[0].1.0", "u16", 8, "2", Some(0)),
-                row(2, "1[0].1.1", "u8", 10, "1", Some(0)),
-                row(2, "", "closing padding", 11, "1", None),
-            ]
-        );
-        assert_eq!(
-            record.members[2].inner.iter().map(said).collect::<Vec<_>>(),
-            [row(1, "2[0].0", "u8", 20, "1", Some(0)), row(1, "2[0].1", "u16", 22, "2", Some(1))]
-        );
-        // No first element.
-        assert!(described("struct { [struct { u8 }; 0] }").record_with_inner().unwrap().members[0].inner.is_empty());
-    }
-
-    #[test]
-    fn places_of_a_first_element_may_be_beyond_all_sizes() {
-        let large = "[[[u8; 4294967295]; 2147483648]; 2]";
-        let text = format!("struct {{ {large}, [struct {{ {large}, u8 }}] }}");
-        let record = described(&text).record_with_inner().unwrap();
-        assert_eq!(record.members[1].inner[1].place, 2 * 18446744069414584320);
     }
 
     #[test]

@@ -8,7 +8,7 @@ use std::path::{Path, PathBuf};
 use std::process;
 
 /// As much as is read of a file. What is asked for has an end, and what has none must not fill the memory.
-const MOST: u64 = 1 << 24;
+const MOST: u64 = 1 << 26;
 
 /// The bytes of a file, or of standard input.
 pub fn read(file: &str) -> Result<Vec<u8>> {

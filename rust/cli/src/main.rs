@@ -1,13 +1,17 @@
 //! The command-line program over the wrapper crate. The first word names a command, and each command has a file.
 
+// The sources of bits/ are compiled at both widths, and what is a conversion at one is none at the other.
+#![allow(clippy::duplicate_mod, clippy::useless_conversion)]
+
 mod bar;
-mod describe;
+mod bits32;
+mod bits64;
 mod description;
 mod files;
-mod layout;
-mod member;
 mod record;
+mod scalars;
 mod scale;
+mod shape;
 mod svg;
 mod table;
 mod text;
@@ -16,7 +20,7 @@ mod words;
 use std::ffi::OsString;
 use std::io::{self, ErrorKind, Write};
 use std::process::ExitCode;
-use words::{quoted, text_of};
+use words::{quoted, take_width, text_of, Width, Words};
 
 /// Why the program ends early.
 pub enum End {
@@ -30,17 +34,30 @@ pub enum End {
 
 type Result<T, E = End> = std::result::Result<T, E>;
 
-/// A command: its name, its help, and what it does with the words behind its name.
+/// What a command does with the words behind its name.
+type Run = fn(Words) -> Result<()>;
+
+/// A command: its name, its help, and what it does with words of 64 bits, and of 32.
 struct Command {
     name: &'static str,
     help: &'static str,
-    run: fn(Vec<String>) -> Result<()>,
+    at64: Run,
+    at32: Run,
 }
 
-const COMMANDS: &[Command] = &[
-    Command { name: "layout", help: include_str!("../help/layout.txt"), run: layout::run },
-    Command { name: "describe", help: include_str!("../help/describe.txt"), run: describe::run },
-];
+/// A command that has a file of its own name in bits/.
+macro_rules! command {
+    ($name:ident) => {
+        Command {
+            name: stringify!($name),
+            help: include_str!(concat!("../help/", stringify!($name), ".txt")),
+            at64: bits64::$name::run,
+            at32: bits32::$name::run,
+        }
+    };
+}
+
+const COMMANDS: &[Command] = &[command!(layout), command!(describe)];
 
 fn main() -> ExitCode {
     let (status, said) = match begin(std::env::args_os().skip(1).collect()) {
@@ -65,10 +82,15 @@ fn begin(words: Vec<OsString>) -> Result<()> {
     let Some(command) = COMMANDS.iter().find(|command| command.name == first) else {
         return Err(End::Wrong(format!("no command {}; see --help", quoted(first))));
     };
-    match rest.iter().any(|word| is_help(word)) {
-        true => print(command.help),
-        false => (command.run)(rest.to_vec()),
+    if rest.iter().any(|word| is_help(word)) {
+        return print(command.help);
     }
+    let (width, others) = take_width(rest)?;
+    let run = match width {
+        Width::Bits64 => command.at64,
+        Width::Bits32 => command.at32,
+    };
+    run(Words::new(others))
 }
 
 fn is_help(word: &str) -> bool {

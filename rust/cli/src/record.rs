@@ -1,9 +1,9 @@
-//! A record whose members are placed, and the pieces that it is drawn of. The numbers are the library's; what is added
-//! up here is for drawing alone.
+//! A record whose members are placed, and the pieces that it is drawn of. The numbers are the library's, of either
+//! width; what is added up here is for drawing alone.
 
-use crate::member::Member;
 use crate::scale::{Scale, Shared};
-use lukaripe::{Layout, Placed, Refusal};
+use crate::shape::{bytes, Extent, Shape};
+use lukaripe::Refusal;
 use std::num::NonZeroU64;
 
 /// What a composition is asked for beside its members.
@@ -15,7 +15,7 @@ pub struct Asked {
 
 pub struct PlacedMember {
     pub name: String,
-    pub layout: Layout,
+    pub shape: Shape,
     pub place: u64,
     pub gap: u64,
     /// What it holds, where that is known, in the order of the places.
@@ -40,7 +40,7 @@ pub struct Inner {
 impl Inner {
     /// A member of a record inside, which stands at this place of the whole.
     pub fn member(depth: usize, path: String, place: u128, member: &PlacedMember) -> Inner {
-        let align_and_gap = Some((member.layout.align, member.gap));
+        let align_and_gap = Some((member.shape.align, member.gap));
         Inner { depth, path, name: member.name.clone(), place, size: member.size(), align_and_gap }
     }
 
@@ -54,10 +54,10 @@ impl Inner {
 impl PlacedMember {
     /// The size of a member; of one that ends in a run of elements, that of an element, and what comes before the run.
     pub fn size(&self) -> String {
-        match (self.layout.size(), self.layout.trailing()) {
-            (Some(size), _) => size.to_string(),
-            (None, Some(run)) if run.offset > 0 => format!("{} + {} each", run.offset, run.elem_size),
-            (None, run) => format!("{} each", run.map_or(0, |run| run.elem_size)),
+        match self.shape.extent {
+            Extent::Size(size) => size.to_string(),
+            Extent::Run(run) if run.offset > 0 => format!("{} + {} each", run.offset, run.elem_size),
+            Extent::Run(run) => format!("{} each", run.elem_size),
         }
     }
 }
@@ -65,8 +65,10 @@ impl PlacedMember {
 pub struct Record {
     /// What it is.
     pub heading: String,
-    pub whole: Layout,
+    pub whole: Shape,
     pub members: Vec<PlacedMember>,
+    /// The sizes at 0, 1 and 2 elements, of a whole that ends in a run of them.
+    pub sizes: Vec<SizeAt>,
 }
 
 #[derive(Clone, Copy, Debug, PartialEq, Eq)]
@@ -112,24 +114,12 @@ pub struct SizeAt {
 }
 
 /// How many elements of an open end are drawn.
-pub const ELEMENTS: u64 = 2;
+pub const ELEMENTS: u8 = 2;
 
 impl Record {
-    pub fn new(asked: Asked, placed: Placed, members: Vec<Member>) -> Record {
-        let places = placed.places.into_iter().zip(placed.gaps);
-        let members = members.into_iter().zip(places).map(|(member, (place, gap))| member.placed(place, gap));
-        let members: Vec<PlacedMember> = members.collect();
-        Record { heading: heading(asked, members.len()), whole: placed.layout, members }
-    }
-
-    /// What is no struct, as a record that has nothing else.
-    pub fn of_one(heading: String, member: Member) -> Record {
-        Record { heading, whole: member.layout, members: vec![member.placed(0, 0)] }
-    }
-
     /// Where the last member ends, of a fixed whole.
     fn end(&self) -> u128 {
-        self.members.last().map_or(0, |last| u128::from(last.place) + u128::from(last.layout.size().unwrap_or(0)))
+        self.members.last().map_or(0, |last| u128::from(last.place) + u128::from(last.shape.size().unwrap_or(0)))
     }
 
     /// The closing padding of a fixed whole: its size less the end of the last member.
@@ -145,7 +135,7 @@ impl Record {
 
     /// Whether the size hangs on a count of elements.
     pub fn is_open(&self) -> bool {
-        self.whole.trailing().is_some()
+        self.whole.run().is_some()
     }
 
     /// What is drawn, from the left. A member of size 0 has no piece. An open end has two elements.
@@ -155,7 +145,7 @@ impl Record {
             let start = u128::from(member.place);
             let gap = u128::from(member.gap);
             pieces.push(Piece { part: Part::Gap, start: start - gap, bytes: gap });
-            let (part, bytes) = match (member.layout.size(), self.whole.trailing()) {
+            let (part, bytes) = match (member.shape.size(), self.whole.run()) {
                 (None, Some(run)) => {
                     let elements = u128::from(run.elem_size) * u128::from(ELEMENTS);
                     (Part::Open(index), u128::from(run.offset).saturating_sub(start) + elements)
@@ -175,7 +165,7 @@ impl Record {
         let has = |sort| pieces.iter().any(|piece| piece.part.sort() == sort);
         let mut legend = vec![(Sort::Member, "member"), (Sort::Gap, "gap"), (Sort::Closing, "closing padding")];
         legend.retain(|(sort, _)| has(*sort));
-        match self.whole.trailing().map(|run| run.elem_size) {
+        match self.whole.run().map(|run| run.elem_size) {
             None => {}
             Some(0) => legend.push((Sort::Open, "more elements follow, of 0 bytes")),
             Some(_) => legend.push((Sort::Open, "more elements follow (2 are drawn)")),
@@ -185,40 +175,19 @@ impl Record {
 
     /// The members that have no bytes to draw.
     pub fn undrawn(&self) -> Vec<usize> {
-        let is_empty = |index: &usize| self.members[*index].layout.size() == Some(0);
+        let is_empty = |index: &usize| self.members[*index].shape.size() == Some(0);
         (0..self.members.len()).filter(is_empty).collect()
-    }
-
-    /// The sizes at 0, 1 and 2 elements, of a whole that ends in a run of them.
-    pub fn sizes(&self) -> Vec<SizeAt> {
-        let Some(run) = self.whole.trailing() else { return Vec::new() };
-        let at = |count| {
-            let size = run.size_for_elems(count).map_err(Refusal::from);
-            // The library's padding is modulo 2^64: it is one where the elements end within the size.
-            let end = u128::from(run.offset) + u128::from(count) * u128::from(run.elem_size);
-            let is_within = size.is_ok_and(|size| end <= u128::from(size));
-            let padding = run.padding_for_elems(count).ok().filter(|_| is_within);
-            SizeAt { count, size, padding }
-        };
-        (0..=ELEMENTS).map(at).collect()
     }
 
     /// The whole's numbers and marks in words.
     pub fn summary(&self) -> String {
-        let align = self.whole.align;
-        let size = match self.whole.trailing() {
-            Some(run) => format!("elements of {} from place {} on", bytes(run.elem_size.into()), run.offset),
-            None => {
-                let closing = self.closing().unwrap_or(0);
-                format!("size {}, closing padding {closing}", self.whole.size().unwrap_or(0))
-            }
-        };
-        format!("alignment {align}, {size}; {}", marks(self.whole))
+        let closing = self.closing().map(|closing| format!(", closing padding {closing}")).unwrap_or_default();
+        format!("{}{closing}; {}", self.whole.said(), self.whole.marks())
     }
 }
 
 /// The `repr` attribute, and how many members there are.
-fn heading(asked: Asked, members: usize) -> String {
+pub fn heading(asked: Asked, members: usize) -> String {
     let align = asked.align.map(|align| format!(", align({align})")).unwrap_or_default();
     let packed = asked.packed.map(|packed| format!(", packed({packed})")).unwrap_or_default();
     format!("repr(C{align}{packed}), {}", members_said(members))
@@ -229,25 +198,6 @@ pub fn members_said(members: usize) -> String {
         0 => "no members".to_string(),
         1 => "1 member".to_string(),
         count => format!("{count} members"),
-    }
-}
-
-/// The marks of a layout in words. Of a run of elements it says nothing: what padding follows them hangs on the count.
-fn marks(layout: Layout) -> String {
-    let padding = match (layout.statically_shallow_unpadded, layout.trailing()) {
-        (true, None) => "no padding known",
-        (true, Some(_)) => "no padding known between the members",
-        (false, _) => "there may be padding",
-    };
-    // Of the whole or of a member: a packed struct may hold neither.
-    let modifier = if layout.has_align_modifier() { "; with an alignment modifier" } else { "" };
-    format!("{padding}{modifier}")
-}
-
-pub fn bytes(count: u128) -> String {
-    match count {
-        1 => "1 byte".to_string(),
-        _ => format!("{count} bytes"),
     }
 }
 

@@ -129,7 +129,7 @@ fn bar(drawing: &mut Drawing, record: &Record) -> Shared {
         let mut end = None;
         if at + 1 == lines.len() {
             let at = fragments.last().map_or(0, |last| last.at + last.cells);
-            match record.whole.trailing() {
+            match record.whole.run() {
                 None => end = Some((at, sizes.iter().sum::<u128>().to_string())),
                 Some(run) if run.elem_size == 0 => {
                     // There may be no piece that has the open end.
@@ -161,7 +161,7 @@ fn draw(drawing: &mut Drawing, record: &Record, piece: &Piece, fragment: &Fragme
     };
     let end = if is_torn { torn(right, y) } else { format!("{right} {y} L{right} {bottom}") };
     drawing.add(&format!("<path class=\"{class}\" d=\"M{x} {bottom} L{x} {y} L{end} Z\"/>"));
-    if let (Part::Open(_), Some(run)) = (piece.part, record.whole.trailing()) {
+    if let (Part::Open(_), Some(run)) = (piece.part, record.whole.run()) {
         elements(drawing, piece, fragment, run.elem_size);
     }
     let left = if fragment.first { format!("M{x} {y} L{x} {bottom} ") } else { String::new() };

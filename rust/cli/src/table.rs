@@ -1,6 +1,6 @@
 //! Tables: of the members, and of the sizes at some counts.
 
-use crate::record::{Inner, PlacedMember, Record};
+use crate::record::{Inner, PlacedMember, Record, SizeAt};
 use std::fmt::Write;
 
 pub struct Table {
@@ -20,7 +20,7 @@ impl Table {
                 shortened(&member.name, LONGEST),
                 member.place.to_string(),
                 member.size(),
-                member.layout.align.to_string(),
+                member.shape.align.to_string(),
                 member.gap.to_string(),
             ];
             [outer].into_iter().chain(member.inner.iter().map(inner_row)).collect::<Vec<_>>()
@@ -39,7 +39,7 @@ impl Table {
     /// The sizes of a whole that ends in a run of elements.
     pub fn sizes(record: &Record) -> Table {
         let none = || "-".to_string();
-        let row = |at: crate::record::SizeAt| {
+        let row = |at: &SizeAt| {
             let (size, remark) = match at.size {
                 Ok(size) if at.padding.is_none() => (size.to_string(), "the elements end past it".to_string()),
                 Ok(size) => (size.to_string(), String::new()),
@@ -48,7 +48,7 @@ impl Table {
             vec![at.count.to_string(), size, at.padding.map_or_else(none, |padding| padding.to_string()), remark]
         };
         let heads = &[("elements", false), ("size", false), ("padding", false), ("", true)];
-        Table { heads, rows: record.sizes().into_iter().map(row).collect() }
+        Table { heads, rows: record.sizes.iter().map(row).collect() }
     }
 
     /// The letters of each column.

@@ -1,9 +1,11 @@
 //! Members, as words name them and as records hold them.
 
+use super::library::{Layout, Refusal, Scalar, RECORD_LENGTH};
+use super::Word;
 use crate::record::PlacedMember;
-use crate::words::{number, quoted, NoNumber};
+use crate::scalars::{other_than, SCALARS};
+use crate::words::{above, number, quoted, NoNumber};
 use crate::{End, Result};
-use lukaripe::{Layout, Refusal, Scalar, RECORD_LENGTH};
 
 /// A member before it is placed.
 pub struct Member {
@@ -12,8 +14,9 @@ pub struct Member {
 }
 
 impl Member {
-    pub fn placed(self, place: u64, gap: u64) -> PlacedMember {
-        PlacedMember { name: self.name, layout: self.layout, place, gap, inner: Vec::new() }
+    pub fn placed(self, place: Word, gap: Word) -> PlacedMember {
+        let (name, shape) = (self.name, self.layout.into());
+        PlacedMember { name, shape, place: place.into(), gap: gap.into(), inner: Vec::new() }
     }
 }
 
@@ -26,13 +29,9 @@ pub struct Named {
 
 enum Form {
     Scalar(Scalar),
-    Type(u64, u64),
-    Unpadded(u64, u64),
+    Type(Word, Word),
+    Unpadded(Word, Word),
 }
-
-/// In the order of their codes.
-pub const SCALARS: [&str; 9] = ["u8", "u16", "u32", "u64", "f32", "f64", "char", "bool", "usize"];
-const SIGNED: [&str; 5] = ["i8", "i16", "i32", "i64", "isize"];
 
 impl Named {
     /// Reads `[NAME=]WORD`, where a WORD is one that tools/members takes.
@@ -41,24 +40,29 @@ impl Named {
             Some((name, word)) => (name, word),
             None => (given, given),
         };
-        let no_member = || End::Wrong(format!("{} is no member; see --help", quoted(given)));
         // So that a name takes one line of a table, and may stand in XML.
         if name.is_empty() || !name.chars().all(|letter| letter.is_alphanumeric() || (' '..='~').contains(&letter)) {
-            return Err(no_member());
+            return Err(End::Wrong(format!("{} is no member; see --help", quoted(given))));
         }
+        Named::read_word(name, word, given, "member")
+    }
+
+    /// Reads a WORD, which stands in what was given, and is to be a member or a type.
+    pub fn read_word(name: &str, word: &str, given: &str, sort: &str) -> Result<Named> {
+        let no_member = || End::Wrong(format!("{} is no {sort}; see --help", quoted(given)));
         let run = word.strip_prefix('[').and_then(|rest| rest.strip_suffix(']'));
         let inner = run.unwrap_or(word);
         if let Some(other) = other_than(inner, word) {
-            return Err(End::Wrong(format!("{} is no member: {other}", quoted(given))));
+            return Err(End::Wrong(format!("{} is no {sort}: {other}", quoted(given))));
         }
         let numbers = |word: &str| match number(word) {
             Ok(value) => Ok(value),
             Err(NoNumber::Range) => {
-                Err(End::Wrong(format!("{} is out of range: {word} is above 2^64 - 1", quoted(given))))
+                Err(End::Wrong(format!("{} is out of range: {}", quoted(given), above::<Word>(word))))
             }
             Err(NoNumber::Digits) => {
                 let why = "a number is decimal digits alone";
-                Err(End::Wrong(format!("{} is no member: {why}; see --help", quoted(given))))
+                Err(End::Wrong(format!("{} is no {sort}: {why}; see --help", quoted(given))))
             }
         };
         let form = match inner.split(':').collect::<Vec<_>>()[..] {
@@ -75,7 +79,7 @@ impl Named {
     }
 
     /// The layout that the library makes of it.
-    fn layout(&self) -> Result<Layout, Refusal> {
+    pub fn layout(&self) -> Result<Layout, Refusal> {
         let one = match self.form {
             Form::Scalar(scalar) => Layout::scalar(scalar),
             Form::Type(size, align) => Layout::for_type(size, align)?,
@@ -86,13 +90,6 @@ impl Named {
             _ => Ok(one),
         }
     }
-}
-
-/// Of a signed integer what to use instead, in a word that has it.
-pub fn other_than(scalar: &str, word: &str) -> Option<String> {
-    let other = word.replacen('i', "u", 1);
-    let said = format!("signed integers have no code; use {other}, which has the same size and alignment");
-    SIGNED.contains(&scalar).then_some(said)
 }
 
 /// The members of words. What the library refuses is said of its member.

@@ -1,0 +1,12 @@
+//! What speaks of numbers. It is compiled by bits64.rs for words of 64 bits and by bits32.rs for words of 32: the one
+//! above says what a `Word` is, and which part of the library is meant.
+
+use super::{library, NonZeroWord, Word};
+
+mod described;
+mod member;
+mod placed;
+mod types;
+
+pub mod describe;
+pub mod layout;
