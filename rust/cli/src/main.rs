@@ -57,7 +57,7 @@ macro_rules! command {
     };
 }
 
-const COMMANDS: &[Command] = &[command!(layout), command!(describe)];
+const COMMANDS: &[Command] = &[command!(layout), command!(cast), command!(describe)];
 
 fn main() -> ExitCode {
     let (status, said) = match begin(std::env::args_os().skip(1).collect()) {

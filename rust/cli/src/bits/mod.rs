@@ -6,7 +6,9 @@ use super::{library, NonZeroWord, Word};
 mod described;
 mod member;
 mod placed;
+mod sizes;
 mod types;
 
+pub mod cast;
 pub mod describe;
 pub mod layout;
