@@ -8,6 +8,7 @@ mod bits32;
 mod bits64;
 mod description;
 mod files;
+mod formula;
 mod record;
 mod scalars;
 mod scale;
@@ -57,7 +58,7 @@ macro_rules! command {
     };
 }
 
-const COMMANDS: &[Command] = &[command!(layout), command!(cast), command!(describe)];
+const COMMANDS: &[Command] = &[command!(layout), command!(cast), command!(convert), command!(describe)];
 
 fn main() -> ExitCode {
     let (status, said) = match begin(std::env::args_os().skip(1).collect()) {

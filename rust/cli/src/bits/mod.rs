@@ -10,5 +10,6 @@ mod sizes;
 mod types;
 
 pub mod cast;
+pub mod convert;
 pub mod describe;
 pub mod layout;
