@@ -4,12 +4,15 @@
 use super::{library, NonZeroWord, Word};
 
 mod described;
+mod form;
 mod member;
 mod placed;
 mod sizes;
 mod types;
 
+pub mod agree;
 pub mod cast;
 pub mod convert;
 pub mod describe;
 pub mod layout;
+pub mod normal;
