@@ -9,7 +9,7 @@ from trial import HOME, LIBRARY, M, ROOT, TREE, Trial, line, make_tree
 
 CLI = "target/tools/lukaripe"
 FIRST = "u64 u8 '[u8]'"
-COMMANDS = "layout cast convert normal agree describe".split()
+COMMANDS = "layout cast convert normal agree share describe".split()
 # As `members` says it of the same words.
 SIGNED = "signed integers have no code; use {}, which has the same size and alignment"
 

@@ -58,8 +58,15 @@ macro_rules! command {
     };
 }
 
-const COMMANDS: &[Command] =
-    &[command!(layout), command!(cast), command!(convert), command!(normal), command!(agree), command!(describe)];
+const COMMANDS: &[Command] = &[
+    command!(layout),
+    command!(cast),
+    command!(convert),
+    command!(normal),
+    command!(agree),
+    command!(share),
+    command!(describe),
+];
 
 fn main() -> ExitCode {
     let (status, said) = match begin(std::env::args_os().skip(1).collect()) {

@@ -16,3 +16,4 @@ pub mod convert;
 pub mod describe;
 pub mod layout;
 pub mod normal;
+pub mod share;
