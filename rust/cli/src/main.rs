@@ -9,6 +9,7 @@ mod bits64;
 mod description;
 mod files;
 mod formula;
+mod moves;
 mod record;
 mod scalars;
 mod scale;
@@ -65,7 +66,10 @@ const COMMANDS: &[Command] = &[
     command!(normal),
     command!(agree),
     command!(share),
+    // Moves choose no width.
+    Command { name: "move", help: include_str!("../help/move.txt"), at64: moves::run, at32: moves::run },
     command!(describe),
+    command!(rewrite),
 ];
 
 fn main() -> ExitCode {

@@ -16,4 +16,5 @@ pub mod convert;
 pub mod describe;
 pub mod layout;
 pub mod normal;
+pub mod rewrite;
 pub mod share;
