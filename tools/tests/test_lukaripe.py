@@ -9,7 +9,7 @@ from trial import HOME, LIBRARY, M, ROOT, TREE, Trial, line, make_tree
 
 CLI = "target/tools/lukaripe"
 FIRST = "u64 u8 '[u8]'"
-COMMANDS = "layout cast convert normal agree share move describe rewrite".split()
+COMMANDS = "layout cast convert normal agree share move describe rewrite cases".split()
 # As `members` says it of the same words.
 SIGNED = "signed integers have no code; use {}, which has the same size and alignment"
 
@@ -393,7 +393,7 @@ class Words(WithProgram):
                 self.assertEqual(ran.returncode, status, (example, ran.stderr))
                 self.assertEqual(ran.stderr != b"", status > 0, example)
         made = {path.name for path in folder.iterdir()}
-        self.assertLessEqual({"record.svg", "type", "short", "list"}, made)
+        self.assertLessEqual({"record.svg", "type", "short", "list", "cases"}, made)
 
 
 class Places(WithProgram):

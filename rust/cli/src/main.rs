@@ -70,6 +70,7 @@ const COMMANDS: &[Command] = &[
     Command { name: "move", help: include_str!("../help/move.txt"), at64: moves::run, at32: moves::run },
     command!(describe),
     command!(rewrite),
+    command!(cases),
 ];
 
 fn main() -> ExitCode {

@@ -11,6 +11,7 @@ mod sizes;
 mod types;
 
 pub mod agree;
+pub mod cases;
 pub mod cast;
 pub mod convert;
 pub mod describe;
