@@ -62,6 +62,9 @@ REFUSED = [
     # up(1 + n, 131072) and up(2 + n, 131072), of which the first 131071 are equal.
     ("struct(align 131072) { u8, [u8] }", "struct(align 131072) { u8, u8, [u8] }", "--full", 32,
      "0 elements of the source and 131070 of the target have size 131072, but 1 and 131071 have 131072 and 262144"),
+    # 2^18 + up(3n, 2^18) and up(2 + 3n, 2^18), which differ at 87382, later than is looked for.
+    ("struct(align 262144) { [u8; 262144], [[u8; 3]] }", "struct(align 262144) { u16, [[u8; 3]] }", "--full", 32,
+     "0 elements of the source and 87380 of the target have size 262144, but further on the sizes differ"),
     (PHASED, PLAIN, "", 32,
      "the sizes are equal, but rounded to 4 from phase 3 and to 4 from phase 0; --full converts"),
     (NO_SIZE, "[[u8; 2]]", "", 32, "the source: the size without elements overflows (refusal 39)"),

@@ -245,9 +245,11 @@ class Texts(WithProgram):
 
 
 class Random(WithProgram):
-    """Random types of a fixed size, by the plain rule of repr(C)."""
+    """Random types of a fixed size, by the plain rule of repr(C), at either width."""
 
     SIZES = {"u8": 1, "u16": 2, "u32": 4, "u64": 8, "f32": 4, "f64": 8, "char": 4, "bool": 1, "usize": 8}
+    # Of each width the size of usize, and the greatest alignment of a scalar.
+    width, pointer, most = 64, 8, 8
 
     def any_type(self, depth):
         """The text of a type, its bytes, size and alignment, and the lines of what it holds, from its own start."""
@@ -255,7 +257,8 @@ class Random(WithProgram):
         if sort == "scalar":
             code = random.randrange(9)
             name = list(self.SIZES)[code]
-            return name, bytes([code]), self.SIZES[name], self.SIZES[name], []
+            size = self.pointer if name == "usize" else self.SIZES[name]
+            return name, bytes([code]), size, min(size, self.most), []
         if sort == "array":
             text, described, size, align, rows = self.any_type(depth - 1)
             count = random.choice([0, 1, 3, 300])
@@ -287,13 +290,21 @@ class Random(WithProgram):
 
     def test_bytes_and_tables(self):
         random.seed(4)
-        for _ in range(150):
+        self.bytes_and_tables(150)
+
+    def test_bytes_and_tables_at_32_bits(self):
+        random.seed(5)
+        self.width, self.pointer, self.most = 32, 4, 4
+        self.bytes_and_tables(75)
+
+    def bytes_and_tables(self, count):
+        for _ in range(count):
             text, described, size, align, rows = self.any_struct(random.randrange(1, 5))
-            self.says(f"{CLI} describe {quote(text)}", 0, described)
-            said = self.shows(quote(text))
+            self.says(f"{CLI} describe {quote(text)} --width {self.width}", 0, described)
+            said = self.shows(f"{quote(text)} --width {self.width}")
             self.assertIn(f"\nwhole: alignment {align}, size {size}, ", said, text)
             whole = re.search("whole: .*\n", said)[0]
-            self.says(f"{CLI} describe --read -", 0, whole, input=described)
+            self.says(f"{CLI} describe --read - --width {self.width}", 0, whole, input=described)
             # That of the whole stands in its line.
             closing = re.search(r"closing padding (\d+);", whole)[1]
             if closing != "0":

@@ -1,43 +1,15 @@
 //! The bar of bytes, in letters: a member begins with its index, and gaps, closing padding and an open end have each a
 //! letter of their own.
 
+use crate::columns::Columns;
 use crate::record::{notes, Part, Record, Sort};
 use crate::scale::{fold, share, Fragment, Room};
-use crate::words::{quoted, Words};
-use crate::{End, Result};
 use lukaripe::Fraction;
-use std::ops::RangeInclusive;
 
 const GAP: char = '.';
 const CLOSING: char = 'x';
 const REST: char = '-';
 const OPEN: char = '>';
-
-/// The letters of a line.
-#[derive(Clone, Copy)]
-pub struct Columns(pub usize);
-
-impl Default for Columns {
-    fn default() -> Columns {
-        Columns(80)
-    }
-}
-
-impl Columns {
-    const TAKEN: RangeInclusive<u64> = 40..=1000;
-
-    /// The value of an option.
-    pub fn read(words: &mut Words, option: &str) -> Result<Columns> {
-        let columns = words.count(option)?;
-        match Columns::TAKEN.contains(&columns) {
-            true => Ok(Columns(columns as usize)),
-            false => {
-                let takes = format!("a number from {} to {}", Columns::TAKEN.start(), Columns::TAKEN.end());
-                Err(End::Wrong(format!("{option} takes {takes}, not {}; see --help", quoted(&columns.to_string()))))
-            }
-        }
-    }
-}
 
 /// What the letters of a bar of a share mean.
 pub const SHARE_LEGEND: &str = "- used   x padding";

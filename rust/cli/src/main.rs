@@ -6,6 +6,7 @@
 mod bar;
 mod bits32;
 mod bits64;
+mod columns;
 mod description;
 mod files;
 mod formula;

@@ -2,7 +2,7 @@
 
 use super::form::{table, Form};
 use super::member::refused;
-use super::sizes::first_difference;
+use super::sizes::{first_difference, Difference};
 use super::types::run_of;
 use crate::words::{types, unknown, Given, Words};
 use crate::{print, End, Result};
@@ -21,7 +21,9 @@ pub fn run(mut words: Words) -> Result<()> {
     let answer = match agree {
         true => "yes: the sizes are equal at every count".to_string(),
         false => match first_difference(one, other, Some) {
-            Some((count, _, [one, other])) => format!("no: at count {count} the sizes are {one} and {other}"),
+            Some(Difference { counts: [count, _], sizes: [one, other] }) => {
+                format!("no: at count {count} the sizes are {one} and {other}")
+            }
             None => "no: the sizes are not equal at every count".to_string(),
         },
     };

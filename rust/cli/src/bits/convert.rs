@@ -2,7 +2,7 @@
 
 use super::library::{CastParams, Layout, Mode, NoSize, Refusal, Trailing};
 use super::member::refused;
-use super::sizes::{first_difference, nearest, size_at};
+use super::sizes::{first_difference, nearest, size_at, Difference};
 use super::types::type_of;
 use super::Word;
 use crate::formula::sum;
@@ -121,8 +121,10 @@ impl Pair {
         };
         let same = format!("0 elements of the source and {shift} of the target have size {size}");
         match difference(from, to, shift) {
-            Some((count, others, [one, other])) => format!("{same}, but {count} and {others} have {one} and {other}"),
-            None => format!("{same}, but not as many more of each"),
+            Some(Difference { counts: [count, others], sizes: [one, other] }) => {
+                format!("{same}, but {count} and {others} have {one} and {other}")
+            }
+            None => format!("{same}, but further on the sizes differ"),
         }
     }
 }
@@ -134,7 +136,7 @@ fn rounding(run: Trailing) -> String {
 }
 
 /// Where the sizes differ with this shift.
-fn difference(from: Trailing, to: Trailing, shift: Word) -> Option<(Word, Word, [String; 2])> {
+fn difference(from: Trailing, to: Trailing, shift: Word) -> Option<Difference> {
     let params = CastParams::UnsizedToUnsized { offset_delta_elems: shift, elem_multiple: multiple(from, to)? };
     first_difference(from, to, |count| params.cast_metadata(count).ok())
 }

@@ -5,7 +5,8 @@ use super::library::{for_repr_c_struct_places_records, Layout, Refusal, Refused,
 use super::member::{from_records, member_at, members, refused, Member, Named, CLOSING};
 use super::placed::{compose, fitting, record};
 use super::types::accepted;
-use crate::bar::{bar, Columns};
+use crate::bar::bar;
+use crate::columns::Columns;
 use crate::record::{Asked, Record};
 use crate::table::Table;
 use crate::text::is_text;

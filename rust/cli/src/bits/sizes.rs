@@ -41,23 +41,28 @@ fn of_none(what: &str, layout: Layout) -> String {
 /// As many counts are tried where a difference is looked for.
 const TRIED: Word = 1 << 16;
 
-/// The first count at which two runs differ, and both sizes in words. The other has the count that `other_count` gives.
+/// Where two runs differ: the counts, and the sizes in words.
+pub struct Difference {
+    pub counts: [Word; 2],
+    pub sizes: [String; 2],
+}
+
+/// The first count at which two runs are found to differ, where the other has the count that `converted` gives.
 pub fn first_difference(
     one: Trailing,
     other: Trailing,
-    other_count: impl Fn(Word) -> Option<Word>,
-) -> Option<(Word, Word, [String; 2])> {
+    converted: impl Fn(Word) -> Option<Word>,
+) -> Option<Difference> {
     let said = |size: Result<Word, NoSize>| match size {
         Ok(size) => size.to_string(),
         Err(_) => format!("more than {}", most::<Word>()),
     };
     for count in 0..TRIED {
-        let others = other_count(count)?;
-        let sizes = [one.size_for_elems(count), other.size_for_elems(others)];
-        match sizes {
+        let counts = [count, converted(count)?];
+        match [one.size_for_elems(counts[0]), other.size_for_elems(counts[1])] {
             // What is above the greatest number is not compared.
             [Err(_), Err(_)] => return None,
-            [one, other] if one.ok() != other.ok() => return Some((count, others, [said(one), said(other)])),
+            sizes if sizes[0].ok() != sizes[1].ok() => return Some(Difference { counts, sizes: sizes.map(said) }),
             _ => {}
         }
     }
