@@ -202,7 +202,7 @@ build_end() {
 prove() {
     if ! rt "$@" >"target/tools/$tool.log" 2>&1 </dev/null; then
         cat "target/tools/$tool.log" >&2
-        fail "rt $* failed"
+        fail "rt $1 failed"
     fi
 }
 
