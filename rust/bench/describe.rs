@@ -1,10 +1,8 @@
 //! The reader of descriptions as one would write it in Rust, with the export's refusals and the same answer: a slice
 //! and a place, and a function for each form, which call each other; and the rewriting, a pass over the heads for their
-//! number and one that writes. Beside them the descriptions to read.
+//! number and one that writes.
 
-use super::cases::Set;
 use super::exports::Told;
-use super::random::Random;
 use super::tested::{told_at, SCALARS};
 use crate::*;
 use core::slice;
@@ -158,57 +156,4 @@ pub unsafe extern "C" fn lengthen_counts(description: *const u8, len: usize, out
 pub unsafe extern "C" fn shorten_counts(description: *const u8, len: usize, out: *mut u8, out_len: usize) -> Told<2> {
     let description = unsafe { slice::from_raw_parts(description, len) };
     told_written(rewritten(false, description, unsafe { slice::from_raw_parts_mut(out, out_len) }))
-}
-
-// ---- descriptions ----
-
-/// A struct of as many members, each at least one byte, the last of them a slice.
-pub fn wide(random: &mut Random, set: Set, tag: u8, members: u8) -> Vec<u8> {
-    let mut out = head(random, set, tag, members);
-    for _ in 1..members {
-        match random.below(8) {
-            0 => {
-                out.extend(head(random, set, tag, 3));
-                out.extend((0..3).map(|_| scalar(random)));
-            }
-            1 => {
-                out.push(16);
-                out.extend((random.below(1 << 16) as u32).to_le_bytes());
-                out.push(scalar(random));
-            }
-            _ => out.push(scalar(random)),
-        }
-    }
-    out.extend([18, scalar(random)]);
-    out
-}
-
-/// Structs of two members, each in the one before: with the slice in the last there are 15 parts open.
-pub fn deep(random: &mut Random, set: Set, tag: u8) -> Vec<u8> {
-    let mut out = Vec::new();
-    for _ in 0..14 {
-        out.extend(head(random, set, tag, 2));
-        out.push(scalar(random));
-    }
-    out.extend([18, scalar(random)]);
-    out
-}
-
-fn scalar(random: &mut Random) -> u8 {
-    random.below(9) as u8
-}
-
-/// The head of a struct with this tag, typically without alignment and packing.
-fn head(random: &mut Random, set: Set, tag: u8, members: u8) -> Vec<u8> {
-    let power = |random: &mut Random| match set {
-        Set::Typical | Set::Refused if random.one_in(8) => 1 + random.below(6),
-        Set::Typical | Set::Refused => 0,
-        Set::Random => random.below(31),
-        Set::Worst => 20 + random.below(11),
-    };
-    let mut out = vec![tag, power(random) as u8, power(random) as u8, members];
-    if tag == 19 {
-        out.push(0);
-    }
-    out
 }

@@ -2,18 +2,13 @@
 
 use super::cases::{bytes, short_bytes, Case};
 use super::exports::Words;
+use super::Word;
+use crate::bench::row;
 
-/// The number, and what makes the case one that is refused by it.
-pub type Spoil = (u64, fn(&mut Case));
+type Spoil = row::Spoil<Case>;
 
-/// Cases as they are, spoilt in turn.
-pub fn spoilt(cases: Vec<Case>, spoils: &[Spoil]) -> Vec<Case> {
-    let mut cases = cases;
-    for ((_, spoil), case) in spoils.iter().cycle().zip(&mut cases) {
-        spoil(case);
-    }
-    cases
-}
+/// The greatest number of the width, so that a sum overflows at either.
+const M: Word = Word::MAX;
 
 /// The refusals of each of the layouts, and more.
 macro_rules! layouts {
@@ -41,17 +36,13 @@ pub const ROUNDING: &[Spoil] = &[(1, |c| c.align = 0), (1, |c| c.align *= 3), (3
 pub const TAIL: &[Spoil] = &[(2, |c| c.tail.0[3] = 0)];
 pub const TAILS: &[Spoil] = &[(2, |c| c.tail.0[3] = 0), (2, |c| c.other_tail.0[3] = 0)];
 /// The base of the second is the size at 0, since the alignment 2 divides the element size.
-pub const FORM: &[Spoil] =
-    &[(2, |c| c.tail.0[3] = 0), (46, |c| c.tail.0 = [u64::MAX, c.tail.0[1], 2 * c.tail.0[2], 3])];
+pub const FORM: &[Spoil] = &[(2, |c| c.tail.0[3] = 0), (46, |c| c.tail.0 = [M, c.tail.0[1], 2 * c.tail.0[2], 3])];
 pub const ROOM: &[Spoil] = &[(2, |c| c.tail.0[3] = 0), (16, |c| c.len = c.tail.0[0] - 1)];
-pub const COUNT: &[Spoil] = &[
-    (2, |c| c.tail.0[3] = 0),
-    (15, |c| c.count = u64::MAX),
-    (39, |c| c.tail.0 = [u64::MAX, c.tail.0[1], c.tail.0[2], 3]),
-];
+pub const COUNT: &[Spoil] =
+    &[(2, |c| c.tail.0[3] = 0), (15, |c| c.count = M), (39, |c| c.tail.0 = [M, c.tail.0[1], c.tail.0[2], 3])];
 
 /// Another layout, with this count at all places but the last, and that one there.
-fn put_counts(case: &mut Case, tail: [u64; 4], count: u64, last: u64) {
+fn put_counts(case: &mut Case, tail: [Word; 4], count: Word, last: Word) {
     let at = case.counts.len() - 1;
     case.tail = Words(tail);
     case.counts[..at].fill(count);
@@ -62,17 +53,17 @@ fn put_counts(case: &mut Case, tail: [u64; 4], count: u64, last: u64) {
 pub const COUNTS: &[Spoil] = &[
     (2, |c| c.tail.0[3] = 0),
     (51, |c| c.counts.clear()),
-    (39, |c| c.tail.0 = [u64::MAX, c.tail.0[1], c.tail.0[2], 3]),
-    (52, |c| c.tail.0[1] = u64::MAX),
-    (15, |c| *c.counts.last_mut().unwrap() = u64::MAX),
+    (39, |c| c.tail.0 = [M, c.tail.0[1], c.tail.0[2], 3]),
+    (52, |c| c.tail.0[1] = M),
+    (15, |c| *c.counts.last_mut().unwrap() = M),
     (52, |c| put_counts(c, [8, 10, 1, 5], 2, 3)),
-    (53, |c| put_counts(c, [0, 0, 1, 1], 1, u64::MAX)),
+    (53, |c| put_counts(c, [0, 0, 1, 1], 1, M)),
 ];
 pub const ADVANCE: &[Spoil] = &[
     (2, |c| c.tail.0[3] = 0),
     (17, |c| {
         c.tail.0[0] += c.tail.0[3];
-        c.size = u64::MAX;
+        c.size = M;
     }),
 ];
 pub const ASKED: &[Spoil] = &[(1, |c| c.packing = 3 * c.align)];
@@ -91,19 +82,19 @@ pub const EXTEND: &[Spoil] = layouts![fixed, field;
     (6, |c| c.packing = 1 << 30),
     (7, |c| c.fixed = c.whole),
     (8, |c| {
-        c.fixed.0[2] = u64::MAX;
+        c.fixed.0[2] = M;
         c.field.0[0] = 2 * c.align;
         c.packing = 0;
     }),
     (9, |c| {
-        c.fixed.0[2] = u64::MAX - 7;
+        c.fixed.0[2] = M - 7;
         c.field.0[2] = 8;
     })
 ];
 pub const WHOLE: &[Spoil] = layouts![whole;];
 pub const PAD: &[Spoil] = layouts![whole;
-    (8, |c| c.whole.0 = [2 * c.align, 1, u64::MAX, 0, 0, 0]),
-    (8, |c| c.whole.0 = [2 * c.align, 3, u64::MAX, 0, 1, 2 * c.align])
+    (8, |c| c.whole.0 = [2 * c.align, 1, M, 0, 0, 0]),
+    (8, |c| c.whole.0 = [2 * c.align, 3, M, 0, 1, 2 * c.align])
 ];
 pub const ENCODE: &[Spoil] = layouts![whole; (20, |c| c.room = 47)];
 pub const SCALAR: &[Spoil] = &[(23, |c| c.code += 9)];
@@ -117,7 +108,7 @@ pub const SERVING: &[Spoil] = layouts![whole;
 ];
 pub const CAST: &[Spoil] = layouts![whole;
     (10, |c| c.whole.0[4] = 0),
-    (11, |c| c.addr = u64::MAX - c.len + 1),
+    (11, |c| c.addr = M - c.len + 1),
     (12, |c| {
         c.whole.0[0] *= 2;
         c.addr |= 1;
@@ -159,10 +150,10 @@ pub const APART: &[Spoil] = &[(32, |c| c.whole.0[2] += 1)];
 pub const CONVERTED: &[Spoil] = &[
     (19, |c| {
         c.params.0[2] = 2;
-        c.code = u64::MAX;
+        c.code = M;
     }),
     (19, |c| {
-        c.params.0[1] = u64::MAX;
+        c.params.0[1] = M;
         c.code += 1;
     }),
 ];
@@ -213,7 +204,7 @@ pub const ADD_RECORD: &[Spoil] = &[
 ];
 
 /// Puts a record where the last one of the list is, or before that one, and by value too.
-fn put(case: &mut Case, from_end: usize, record: [u64; 6]) {
+fn put(case: &mut Case, from_end: usize, record: [Word; 6]) {
     let at = case.list.len() - 48 * (1 + from_end);
     case.list[at..at + 48].copy_from_slice(&bytes(&record));
     let at = case.members.len() - 1 - from_end;
@@ -221,11 +212,10 @@ fn put(case: &mut Case, from_end: usize, record: [u64; 6]) {
 }
 
 /// The size of the members before the last ones.
-fn size_before(case: &Case, from_end: usize) -> u64 {
-    let mut before = case.list_n.clone();
-    before.truncate(before.len() - 1 - from_end);
-    let whole = super::plain::compose(None, case.packing_n, &before);
-    crate::layout_numbers(whole).unwrap()[2]
+fn size_before(case: &Case, from_end: usize) -> Word {
+    let before = &case.members[..case.members.len() - 1 - from_end];
+    let before: Vec<[u64; 6]> = before.iter().map(|member| member.0.map(u64::from)).collect();
+    crate::compose(0, case.packing.into(), &before).unwrap()[2].try_into().unwrap()
 }
 
 const LAST_21: Spoil = (21, |c| put(c, 0, [1, 8, 0, 0, 0, 0]));
@@ -238,14 +228,14 @@ const PACKING: Spoil = (5, |c| c.packing = 3 * c.align);
 const LAST_6: Spoil = (6, |c| put(c, 0, [1 << 30, 1, 1 << 30, 0, 0, 0]));
 const LAST_7: Spoil = (7, |c| put(c, 1, [1, 3, 0, 0, 1, 1]));
 const LAST_8: Spoil = (8, |c| {
-    (c.packing, c.packing_n) = (0, None);
-    let size = u64::MAX - size_before(c, 1);
+    c.packing = 0;
+    let size = M - size_before(c, 1);
     put(c, 1, [1, 1, size, 0, 0, 0]);
     put(c, 0, [2, 1, 2, 0, 0, 0]);
 });
-const LAST_9: Spoil = (9, |c| put(c, 0, [1, 1, u64::MAX, 0, 0, 0]));
+const LAST_9: Spoil = (9, |c| put(c, 0, [1, 1, M, 0, 0, 0]));
 const FINAL_8: Spoil = (8, |c| {
-    let size = u64::MAX - size_before(c, 0);
+    let size = M - size_before(c, 0);
     put(c, 0, [1, 1, size, 0, 0, 0]);
     c.own_align = 2 * c.align;
 });
@@ -278,7 +268,7 @@ const LAST_50: Spoil = (50, |c| {
     put(c, 0, [4, 5, 4, 0, 0, 0]);
 });
 const ALIGNED_FINAL_8: Spoil = (8, |c| {
-    (c.packing, c.packing_n) = (0, None);
+    c.packing = 0;
     (FINAL_8.1)(c);
 });
 pub const STRICT: &[Spoil] = &[
@@ -307,7 +297,7 @@ pub const ARRAY: &[Spoil] = layouts![fixed;
         c.fixed.0[5] = 1;
     }),
     (37, |c| {
-        c.fixed.0[2] = u64::MAX;
+        c.fixed.0[2] = M;
         c.code = 2;
     })
 ];
@@ -373,10 +363,14 @@ pub const DECODE_SHORT: &[Spoil] = &[
     (22, |c| c.short[29] &= 1),
     (2, |c| c.short[24..28].fill(0)),
 ];
+#[cfg(not(bits32))]
 pub const ENCODE_SHORT: &[Spoil] = layouts![whole;
     (20, |c| c.short_room = 31),
     (40, |c| c.whole.0[5] += 1 << 32)
 ];
+/// A rounding word of 32 bits always fits.
+#[cfg(bits32)]
+pub const ENCODE_SHORT: &[Spoil] = layouts![whole; (20, |c| c.short_room = 31)];
 
 /// Puts a record where the last one is.
 fn put_record(case: &mut Case, record: [u64; 6]) {

@@ -1,114 +1,146 @@
 //! The table of functions: how each side of one is called on a case.
 
-use super::cases::{cases, counts, descriptions, gained, lists, moves, to_lengthen, to_shorten, Case, Set};
+use super::cases::*;
 use super::exports::*;
 use super::refused::*;
-use super::{describe, full, go_through, plain, tested};
+use super::Word;
+use crate::bench::go_through;
+use crate::bench::row::{Answer, Row, Side, Spoil};
+use crate::bench::sets::Set;
+#[cfg(not(bits32))]
+use crate::bench::{describe, full, plain, tested};
+#[cfg(not(bits32))]
 use crate::RoundingAlignAndPhase;
 use core::cell::Cell;
+use std::rc::Rc;
 
-/// Goes through the cases as often as said.
-pub type Side = Box<dyn Fn(&[Case], u64)>;
+/// Of a row: its name, the cases of a set, and how they are spoilt.
+type Head = (&'static str, fn(Set) -> Vec<Case>, &'static [Spoil<Case>]);
 
-pub struct Row {
-    pub name: &'static str,
-    pub cases: fn(Set) -> Vec<Case>,
-    /// How a case is spoilt for it.
-    pub spoils: &'static [Spoil],
-    /// The export, the Rust as it is, and the Rust with the refusals tested; None where the Rust has nothing like it.
-    pub sides: [Option<Side>; 3],
-    /// What the first and the last of them give, as the refusal or 0; None where they differ, or what was lent does.
-    pub refusal: Box<dyn Fn(&Case) -> Option<u64>>,
+fn side<F: Copy + 'static, T: Answer>(function: F, call: impl Fn(F, &Case) -> T + Copy + 'static) -> Side<Case> {
+    Side {
+        go: Rc::new(move |cases, times| go_through(cases, times, function, call)),
+        given: Some(Rc::new(move |case| case.given(|case| call(function, case)))),
+    }
 }
 
-impl Row {
+/// At 64 bits: the export, the Rust as it is, and the Rust with the refusals tested.
+#[cfg(not(bits32))]
+impl Row<Case> {
     /// A row by the export and the tested Rust, which are of one type and are called by the same code.
-    fn new<F: Copy + 'static, T: Refusal>(
-        (name, cases, spoils): (&'static str, fn(Set) -> Vec<Case>, &'static [Spoil]),
+    fn new<F: Copy + 'static, T: Answer>(
+        (name, cases, spoils): Head,
         [export, tested]: [F; 2],
         call: impl Fn(F, &Case) -> T + Copy + 'static,
-    ) -> Row {
-        let side =
-            |function| Some(Box::new(move |cases: &[Case], times| go_through(cases, times, function, call)) as Side);
-        Row {
-            name,
-            cases,
-            spoils,
-            sides: [side(export), None, side(tested)],
-            refusal: Box::new(move |case| {
-                let given = case.with_lent(|case| call(export, case));
-                (given == case.with_lent(|case| call(tested, case))).then(|| given.0.refusal())
-            }),
-        }
+    ) -> Row<Case> {
+        Row { name, cases, spoils, sides: vec![Some(side(export, call)), None, Some(side(tested, call))] }
     }
 
-    fn rust<F: Copy + 'static, T>(mut self, function: F, call: impl Fn(F, &Case) -> T + Copy + 'static) -> Row {
-        self.sides[1] = Some(Box::new(move |cases, times| go_through(cases, times, function, call)));
+    fn rust<F: Copy + 'static, T>(mut self, function: F, call: impl Fn(F, &Case) -> T + Copy + 'static) -> Row<Case> {
+        let go = Rc::new(move |cases: &[Case], times| go_through(cases, times, function, call));
+        self.sides[1] = Some(Side { go, given: None });
         self
     }
 }
 
 /// A row: the two functions, how they are called on a case, and the same for the Rust as it is, where it has the like.
+#[cfg(not(bits32))]
 macro_rules! row {
     ($name:literal, $cases:expr, $spoils:expr, $f:ident, $c:ident =>
         $functions:expr, $call:expr; $($rust:expr, $rust_call:expr)?) => {{
         // Pointers to functions, each of which has a type of its own.
         let functions = $functions;
-        Row::new(($name, $cases, $spoils), functions, |$f, $c| $call)$(.rust($rust, |$f, $c| $rust_call))?
+        Some(Row::new(($name, $cases, $spoils), functions, |$f, $c| $call)$(.rust($rust, |$f, $c| $rust_call))?)
     }};
 }
 
-/// An answer that may be a refusal.
-pub trait Refusal: PartialEq {
-    /// Its number, or 0.
-    fn refusal(&self) -> u64;
+/// The same where two widths are compared: the export of this one alone, and nothing of the Rust.
+#[cfg(bits32)]
+macro_rules! row {
+    ($name:literal, $cases:expr, $spoils:expr, $f:ident, $c:ident =>
+        [$export:ident $(, $tested:expr)?], $call:expr; $($rust:expr, $rust_call:expr)?) => {{
+        let (name, cases, spoils): Head = ($name, $cases, $spoils);
+        Some(Row { name, cases, spoils, sides: vec![Some(side($export, |$f, $c| $call))] })
+    }};
 }
 
-impl<const N: usize> Refusal for Told<N> {
+/// A row of what has no width, and so is not compared by it.
+macro_rules! row64 {
+    ($($row:tt)*) => {{
+        #[cfg(not(bits32))]
+        let row = row!($($row)*);
+        #[cfg(bits32)]
+        let row = None;
+        row
+    }};
+}
+
+/// A row of what is set beside nothing but the other width.
+macro_rules! row32 {
+    ($($row:tt)*) => {{
+        #[cfg(bits32)]
+        let row = row!($($row)*);
+        #[cfg(not(bits32))]
+        let row = None;
+        row
+    }};
+}
+
+impl<const N: usize> Answer for Told<N> {
     fn refusal(&self) -> u64 {
         self.refusal
     }
-}
 
-impl Refusal for u8 {
-    fn refusal(&self) -> u64 {
-        0
+    fn values(&self) -> Vec<u64> {
+        self.values.map(u64::from).to_vec()
     }
 }
 
-impl<const N: usize> Refusal for (u64, [u8; N]) {
-    fn refusal(&self) -> u64 {
-        self.0
-    }
-}
-
-impl Refusal for (u64, [u64; 6]) {
+/// What is given, and what a lent layout holds afterwards.
+impl Answer for (u64, [Word; 6]) {
     fn refusal(&self) -> u64 {
         self.0
     }
+
+    fn values(&self) -> Vec<u64> {
+        self.1.map(u64::from).to_vec()
+    }
 }
 
-pub fn rows() -> Vec<Row> {
-    vec![
+/// The refusal of the conversion, or else of what comes after it.
+impl Answer for Carried {
+    fn refusal(&self) -> u64 {
+        let refusals = [self.computed.refusal, self.count.refusal, self.first.refusal, self.second.refusal];
+        refusals.into_iter().find(|refusal| *refusal != 0).unwrap_or(0)
+    }
+
+    fn values(&self) -> Vec<u64> {
+        let casts = [self.first.values(), self.second.values()].concat();
+        [self.computed.values(), self.count.values(), casts].concat()
+    }
+}
+
+pub fn rows() -> Vec<Row<Case>> {
+    let rows = vec![
         row!("is_power_of_two", cases, &[], f, c =>
             [lukaripe_is_power_of_two, tested::is_power_of_two], f(c.align);
             plain::is_power_of_two as fn(_) -> _, f(c.align as usize)),
         row!("padding_needed_for", cases, ALIGN, f, c =>
             [lukaripe_padding_needed_for, tested::padding_needed_for], f(c.len, c.align);
-            plain::padding_needed_for as fn(_, _) -> _, f(c.len as usize, c.align_n)),
+            plain::padding_needed_for as fn(_, _) -> _, f(c.len as usize, c.n.align)),
         row!("round_down_to_next_multiple_of_alignment", cases, ALIGN, f, c =>
             [lukaripe_round_down_to_next_multiple_of_alignment, tested::round_down_to_next_multiple_of_alignment],
             f(c.len, c.align);
-            plain::round_down_to_next_multiple_of_alignment as fn(_, _) -> _, f(c.len as usize, c.align_n)),
+            plain::round_down_to_next_multiple_of_alignment as fn(_, _) -> _, f(c.len as usize, c.n.align)),
         row!("max", cases, ALIGNS, f, c =>
             [lukaripe_max, tested::max], f(c.align, c.other_align);
-            plain::max as fn(_, _) -> _, f(c.align_n, c.other_align_n)),
+            plain::max as fn(_, _) -> _, f(c.n.align, c.n.other_align)),
         row!("min", cases, ALIGNS, f, c =>
             [lukaripe_min, tested::min], f(c.align, c.other_align);
-            plain::min as fn(_, _) -> _, f(c.align_n, c.other_align_n)),
+            plain::min as fn(_, _) -> _, f(c.n.align, c.n.other_align)),
         row!("rounding_new", cases, ROUNDING, f, c =>
             [lukaripe_rounding_new, tested::rounding_new], f(c.align, c.phase);
-            plain::rounding_new as fn(_, _) -> _, f(c.align_n, c.phase as usize)),
+            plain::rounding_new as fn(_, _) -> _, f(c.n.align, c.phase as usize)),
         row!("rounding_components", cases, TAIL, f, c =>
             [lukaripe_rounding_components, tested::rounding_components], f(c.tail.0[3]);
             plain::rounding_components as fn(_) -> _, f(word(c))),
@@ -117,22 +149,22 @@ pub fn rows() -> Vec<Row> {
             plain::rounding_align as fn(_) -> _, f(word(c))),
         row!("size_offset", cases, TAIL, f, c =>
             [lukaripe_size_offset, tested::size_offset], f(c.tail);
-            plain::size_offset as fn(_) -> _, f(c.tail_n)),
+            plain::size_offset as fn(_) -> _, f(c.n.tail)),
         row!("max_trailing_bytes", cases, ROOM, f, c =>
             [lukaripe_max_trailing_bytes, tested::max_trailing_bytes], f(c.tail, c.len);
-            plain::max_trailing_bytes as fn(_, _) -> _, f(c.tail_n, c.len as usize)),
+            plain::max_trailing_bytes as fn(_, _) -> _, f(c.n.tail, c.len as usize)),
         row!("padding_for_elems", cases, TAIL, f, c =>
             [lukaripe_padding_for_elems, tested::padding_for_elems], f(c.tail, c.count);
-            plain::padding_for_elems as fn(_, _) -> _, f(c.tail_n, c.count as usize)),
+            plain::padding_for_elems as fn(_, _) -> _, f(c.n.tail, c.count as usize)),
         row!("size_for_elems", cases, COUNT, f, c =>
             [lukaripe_size_for_elems, tested::size_for_elems], f(c.tail, c.count);
-            plain::size_for_elems as fn(_, _) -> _, f(c.tail_n, c.count as usize)),
+            plain::size_for_elems as fn(_, _) -> _, f(c.n.tail, c.count as usize)),
         row!("advance", cases, ADVANCE, f, c =>
             [lukaripe_advance, tested::advance], f(c.tail, c.size, c.align);
-            plain::advance as fn(_, _, _) -> _, f(c.tail_n, c.size as usize, c.align as usize)),
+            plain::advance as fn(_, _, _) -> _, f(c.n.tail, c.size as usize, c.align as usize)),
         row!("has_same_size_sequence", cases, TAILS, f, c =>
             [lukaripe_has_same_size_sequence, tested::has_same_size_sequence], f(c.tail, c.other_tail);
-            plain::has_same_size_sequence as fn(_, _) -> _, f(c.tail_n, c.other_tail_n)),
+            plain::has_same_size_sequence as fn(_, _) -> _, f(c.n.tail, c.n.other_tail)),
         row!("sizes_agree", cases, TAILS, f, c =>
             [lukaripe_sizes_agree, full::sizes_agree], f(c.tail, c.other_tail);),
         row!("normal_form", cases, FORM, f, c =>
@@ -151,7 +183,7 @@ pub fn rows() -> Vec<Row> {
             unsafe { f(c.tail, c.counts.as_ptr(), c.counts.len()) };),
         row!("new_zst", cases, ASKED, f, c =>
             [lukaripe_new_zst, tested::new_zst], f(c.packing);
-            plain::new_zst as fn(_) -> _, f(c.packing_n)),
+            plain::new_zst as fn(_) -> _, f(c.n.packing)),
         row!("for_type", cases, TYPE, f, c =>
             [lukaripe_for_type, tested::for_type], f(c.size, c.align);
             plain::for_type as fn(_, _) -> _, f(c.size as usize, c.align as usize)),
@@ -163,16 +195,16 @@ pub fn rows() -> Vec<Row> {
             plain::for_slice as fn(_, _) -> _, f(c.size as usize, c.align as usize)),
         row!("extend", cases, EXTEND, f, c =>
             [lukaripe_extend, tested::extend], f(c.fixed, c.field, c.packing);
-            plain::extend as fn(_, _, _) -> _, f(c.fixed_n, c.field_n, c.packing_n)),
+            plain::extend as fn(_, _, _) -> _, f(c.n.fixed, c.n.field, c.n.packing)),
         row!("pad_to_align", cases, PAD, f, c =>
             [lukaripe_pad_to_align, tested::pad_to_align], f(c.whole);
-            plain::pad_to_align as fn(_) -> _, f(c.whole_n)),
+            plain::pad_to_align as fn(_) -> _, f(c.n.whole)),
         row!("requires_static_padding", cases, WHOLE, f, c =>
             [lukaripe_requires_static_padding, tested::requires_static_padding], f(c.whole);
-            plain::requires_static_padding as fn(_) -> _, f(c.whole_n)),
+            plain::requires_static_padding as fn(_) -> _, f(c.n.whole)),
         row!("requires_dynamic_padding", cases, WHOLE, f, c =>
             [lukaripe_requires_dynamic_padding, tested::requires_dynamic_padding], f(c.whole);
-            plain::requires_dynamic_padding as fn(_) -> _, f(c.whole_n)),
+            plain::requires_dynamic_padding as fn(_) -> _, f(c.n.whole)),
         row!("decode", cases, DECODE, f, c =>
             [lukaripe_decode, tested::decode], unsafe { f(c.record.as_ptr(), c.record.len()) };),
         row!("encode", cases, ENCODE, f, c =>
@@ -183,23 +215,23 @@ pub fn rows() -> Vec<Row> {
             plain::scalar as fn(_) -> _, f(c.code)),
         row!("compose, 10 members", |set| lists(set, 10), COMPOSE, f, c =>
             [lukaripe_compose, tested::compose], unsafe { f(c.own_align, c.packing, c.list.as_ptr(), c.list.len()) };
-            plain::compose as fn(_, _, &[_]) -> _, f(None, c.packing_n, &c.list_n)),
+            plain::compose as fn(_, _, &[_]) -> _, f(None, c.n.packing, &c.n.list)),
         row!("for_repr_c_struct, 1 member", |set| lists(set, 1), STRUCT_OF_ONE, f, c =>
             [lukaripe_for_repr_c_struct, tested::for_repr_c_struct],
             unsafe { f(c.own_align, c.packing, c.list.as_ptr(), c.list.len()) };
-            plain::for_repr_c_struct as fn(_, _, &[_]) -> _, f(None, c.packing_n, &c.list_n)),
+            plain::for_repr_c_struct as fn(_, _, &[_]) -> _, f(None, c.n.packing, &c.n.list)),
         row!("for_repr_c_struct, 10 members", |set| lists(set, 10), STRUCT, f, c =>
             [lukaripe_for_repr_c_struct, tested::for_repr_c_struct],
             unsafe { f(c.own_align, c.packing, c.list.as_ptr(), c.list.len()) };
-            plain::for_repr_c_struct as fn(_, _, &[_]) -> _, f(None, c.packing_n, &c.list_n)),
+            plain::for_repr_c_struct as fn(_, _, &[_]) -> _, f(None, c.n.packing, &c.n.list)),
         row!("for_repr_c_struct, 100 members", |set| lists(set, 100), STRUCT, f, c =>
             [lukaripe_for_repr_c_struct, tested::for_repr_c_struct],
             unsafe { f(c.own_align, c.packing, c.list.as_ptr(), c.list.len()) };
-            plain::for_repr_c_struct as fn(_, _, &[_]) -> _, f(None, c.packing_n, &c.list_n)),
+            plain::for_repr_c_struct as fn(_, _, &[_]) -> _, f(None, c.n.packing, &c.n.list)),
         row!("for_repr_c_struct, 1365 members", |set| lists(set, 1365), STRUCT, f, c =>
             [lukaripe_for_repr_c_struct, tested::for_repr_c_struct],
             unsafe { f(c.own_align, c.packing, c.list.as_ptr(), c.list.len()) };
-            plain::for_repr_c_struct as fn(_, _, &[_]) -> _, f(None, c.packing_n, &c.list_n)),
+            plain::for_repr_c_struct as fn(_, _, &[_]) -> _, f(None, c.n.packing, &c.n.list)),
         row!("for_repr_c_struct_strict, 10 members", |set| lists(set, 10), STRICT, f, c =>
             [lukaripe_for_repr_c_struct_strict, tested::for_repr_c_struct_strict],
             unsafe { f(c.own_align, c.packing, c.list.as_ptr(), c.list.len()) };),
@@ -212,24 +244,24 @@ pub fn rows() -> Vec<Row> {
             [lukaripe_for_repr_c_struct_places, tested::for_repr_c_struct_places], placed(c, f);),
         row!("working_begin", cases, ASKED, f, c =>
             [lukaripe_working_begin, tested::new_zst], f(c.packing);
-            plain::new_zst as fn(_) -> _, f(c.packing_n)),
+            plain::new_zst as fn(_) -> _, f(c.n.packing)),
         row!("working_add", cases, EXTEND, f, c =>
             [lukaripe_working_add, tested::working_add], altered(c.fixed, |lent| f(lent, c.field, c.packing));
-            plain::extend as fn(_, _, _) -> _, f(c.fixed_n, c.field_n, c.packing_n)),
+            plain::extend as fn(_, _, _) -> _, f(c.n.fixed, c.n.field, c.n.packing)),
         row!("working_add_record", cases, ADD_RECORD, f, c =>
             [lukaripe_working_add_record, tested::working_add_record],
             altered(c.fixed, |lent| unsafe { f(lent, c.member.as_ptr(), c.member.len(), c.packing) });
-            plain::extend as fn(_, _, _) -> _, f(c.fixed_n, c.field_n, c.packing_n)),
+            plain::extend as fn(_, _, _) -> _, f(c.n.fixed, c.n.field, c.n.packing)),
         row!("working_add, 10 members", |set| lists(set, 10), ADDITIONS, f, c =>
             [lukaripe_working_add, tested::working_add],
             altered(EMPTY, |lent| each(&c.members, |member| f(lent, *member, c.packing)));
-            plain::compose as fn(_, _, &[_]) -> _, f(None, c.packing_n, &c.list_n)),
+            plain::compose as fn(_, _, &[_]) -> _, f(None, c.n.packing, &c.n.list)),
         row!("working_add_record, 10 members", |set| lists(set, 10), ADDITIONS, f, c =>
             [lukaripe_working_add_record, tested::working_add_record],
             altered(EMPTY, |lent| each(c.list.chunks_exact(48), |record| unsafe {
                 f(lent, record.as_ptr(), record.len(), c.packing)
             }));
-            plain::compose as fn(_, _, &[_]) -> _, f(None, c.packing_n, &c.list_n)),
+            plain::compose as fn(_, _, &[_]) -> _, f(None, c.n.packing, &c.n.list)),
         row!("read, 10 members", |set| descriptions(set, 10), READ, f, c =>
             [lukaripe_read, describe::read], unsafe { f(c.description.as_ptr(), c.description.len()) };),
         row!("read, 254 members", |set| descriptions(set, 254), READ, f, c =>
@@ -245,13 +277,13 @@ pub fn rows() -> Vec<Row> {
         row!("encode_short", cases, ENCODE_SHORT, f, c =>
             [lukaripe_encode_short, tested::encode_short],
             written::<32>(c.short_room, |out| unsafe { f(c.whole, out.as_mut_ptr(), out.len()) });),
-        row!("records_to_short, 10 records", |set| moves(set, 10), TO_SHORT, f, c =>
+        row64!("records_to_short, 10 records", |set| moves(set, 10), TO_SHORT, f, c =>
             [lukaripe_records_to_short, tested::records_to_short], moved(&c.records, &c.shorts_room, f);),
-        row!("records_to_short, 100000 records", |set| moves(set, 100_000), TO_SHORT, f, c =>
+        row64!("records_to_short, 100000 records", |set| moves(set, 100_000), TO_SHORT, f, c =>
             [lukaripe_records_to_short, tested::records_to_short], moved(&c.records, &c.shorts_room, f);),
-        row!("records_from_short, 10 records", |set| moves(set, 10), FROM_SHORT, f, c =>
+        row64!("records_from_short, 10 records", |set| moves(set, 10), FROM_SHORT, f, c =>
             [lukaripe_records_from_short, tested::records_from_short], moved(&c.shorts, &c.records_room, f);),
-        row!("records_from_short, 100000 records", |set| moves(set, 100_000), FROM_SHORT, f, c =>
+        row64!("records_from_short, 100000 records", |set| moves(set, 100_000), FROM_SHORT, f, c =>
             [lukaripe_records_from_short, tested::records_from_short], moved(&c.shorts, &c.records_room, f);),
         row!("lengthen_counts, 10 members", |set| to_lengthen(set, 10), LENGTHEN, f, c =>
             [lukaripe_lengthen_counts, describe::lengthen_counts], moved(&c.description, &c.shorts_room, f);),
@@ -265,26 +297,26 @@ pub fn rows() -> Vec<Row> {
             [lukaripe_shorten_counts, describe::shorten_counts], moved(&c.description, &c.shorts_room, f);),
         row!("shorten_counts, 15 deep", |set| to_shorten(set, 0), SHORTEN, f, c =>
             [lukaripe_shorten_counts, describe::shorten_counts], moved(&c.description, &c.shorts_room, f);),
-        row!("write_cases, up to 3 members", |set| moves(set, 107), CASES, f, c =>
+        row64!("write_cases, up to 3 members", |set| moves(set, 107), CASES, f, c =>
             [lukaripe_write_cases, tested::write_cases], wrote(3, &c.shorts_room, f);),
-        row!("write_cases, up to 6 members", |set| moves(set, 6_827), CASES, f, c =>
+        row64!("write_cases, up to 6 members", |set| moves(set, 6_827), CASES, f, c =>
             [lukaripe_write_cases, tested::write_cases], wrote(6, &c.shorts_room, f);),
         row!("validate_cast_and_convert_metadata", cases, CAST, f, c =>
             [lukaripe_validate_cast_and_convert_metadata, tested::validate_cast_and_convert_metadata],
             f(c.whole, c.addr, c.len, c.suffix);
             plain::validate_cast_and_convert_metadata as fn(&_, _, _, _) -> _,
-            f(&c.whole_n, c.addr as usize, c.len as usize, c.side_n)),
+            f(&c.n.whole, c.addr as usize, c.len as usize, c.n.side)),
         row!("metadata_for_exact_size", cases, EXACT, f, c =>
             [lukaripe_metadata_for_exact_size, tested::metadata_for_exact_size], f(c.whole, c.exact);
-            plain::metadata_for_exact_size as fn(&_, _) -> _, f(&c.whole_n, c.exact as usize)),
+            plain::metadata_for_exact_size as fn(&_, _) -> _, f(&c.n.whole, c.exact as usize)),
         row!("which_serves", cases, SERVING, f, c =>
-            [lukaripe_which_serves, tested::which_serves], f(c.whole, 0, c.len, c.align, c.len);),
+            [lukaripe_which_serves, tested::which_serves], f(c.whole, 0, c.len.into(), c.align, c.len.into());),
         row!("size_sequences_match", cases, SOURCE_TAIL, f, c =>
             [lukaripe_size_sequences_match, tested::size_sequences_match], f(c.source_tail, c.tail, c.shift);
-            plain::size_sequences_match as fn(_, _, _) -> _, f(c.source_tail_n, c.tail_n, c.shift as usize)),
+            plain::size_sequences_match as fn(_, _, _) -> _, f(c.n.source_tail, c.n.tail, c.shift as usize)),
         row!("try_compute", cases, CONVERT, f, c =>
             [lukaripe_try_compute, tested::try_compute], f(c.source, c.whole);
-            plain::try_compute as fn(&_, &_) -> _, f(&c.source_n, &c.whole_n)),
+            plain::try_compute as fn(&_, &_) -> _, f(&c.n.source, &c.n.whole)),
         row!("size_sequences_match_full", cases, SOURCE_TAIL, f, c =>
             [lukaripe_size_sequences_match_full, full::size_sequences_match], f(c.source_tail, c.tail, c.shift);),
         row!("try_compute_full", cases, CONVERT, f, c =>
@@ -293,12 +325,18 @@ pub fn rows() -> Vec<Row> {
             [lukaripe_try_compute_full, full::try_compute], f(c.source, c.whole);),
         row!("cast_metadata", cases, CONVERTED, f, c =>
             [lukaripe_cast_metadata, tested::cast_metadata], f(c.params, c.code);
-            plain::cast_metadata as fn(_, _) -> _, f(c.params(), c.code as usize)),
-    ]
+            plain::cast_metadata as fn(_, _) -> _, f(c.n.params(), c.code as usize)),
+        row32!("convert_and_cast", cases, CONVERT, f, c =>
+            [lukaripe_convert_and_cast], f(c.source, c.whole, c.code, 0, c.exact, c.len);),
+        row32!("convert_and_cast_full", cases, CONVERT, f, c =>
+            [lukaripe_convert_and_cast_full], f(c.source, c.whole, c.code, 0, c.exact, c.len);),
+    ];
+    rows.into_iter().flatten().collect()
 }
 
+#[cfg(not(bits32))]
 fn word(case: &Case) -> RoundingAlignAndPhase {
-    case.tail_n.size_rounding_align_and_phase
+    case.n.tail.size_rounding_align_and_phase
 }
 
 /// What is given and what is written.
@@ -308,28 +346,30 @@ fn written<const N: usize>(room: usize, write: impl FnOnce(&mut [u8]) -> u64) ->
     (write(&mut out[..room]), out)
 }
 
-type Move = unsafe extern "C" fn(*const u8, usize, *mut u8, usize) -> Told<2>;
+type Move<T> = unsafe extern "C" fn(*const u8, usize, *mut u8, usize) -> T;
 
 #[inline(always)]
-fn moved(records: &[u8], room: &[Cell<u8>], by: Move) -> Told<2> {
+fn moved<T>(records: &[u8], room: &[Cell<u8>], by: Move<T>) -> T {
     // SAFETY: the bytes are as many as said, and cells may be written.
     unsafe { by(records.as_ptr(), records.len(), room.as_ptr() as *mut u8, room.len()) }
 }
 
+#[cfg(not(bits32))]
 type Write = unsafe extern "C" fn(u64, *mut u8, usize) -> Told<1>;
 
+#[cfg(not(bits32))]
 #[inline(always)]
 fn wrote(longest: u64, room: &[Cell<u8>], by: Write) -> Told<1> {
     // SAFETY: the bytes are as many as said, and cells may be written.
     unsafe { by(longest, room.as_ptr() as *mut u8, room.len()) }
 }
 
-type Places = unsafe extern "C" fn(u64, u64, *const u8, usize, *mut u64, usize, *mut u64, usize) -> Told<7>;
+type Places<T> = unsafe extern "C" fn(Word, Word, *const u8, usize, *mut Word, usize, *mut Word, usize) -> T;
 
 /// The numbers are written to the case's own.
 #[inline(always)]
-fn placed(case: &Case, by: Places) -> Told<7> {
-    let numbers = |lent: &[Cell<u64>]| (lent.as_ptr() as *mut u64, lent.len());
+fn placed<T>(case: &Case, by: Places<T>) -> T {
+    let numbers = |lent: &[Cell<Word>]| (lent.as_ptr() as *mut Word, lent.len());
     let ((places, places_len), (gaps, gaps_len)) = (numbers(&case.places), numbers(&case.gaps));
     let list = &case.list;
     // SAFETY: bytes and numbers are as many as said, and cells may be written.
@@ -341,7 +381,7 @@ const EMPTY: Layout = Words([1, 1, 0, 0, 0, 0]);
 
 /// What is given, and what a lent layout holds afterwards.
 #[inline(always)]
-fn altered(lent: Layout, add: impl FnOnce(&mut Layout) -> u64) -> (u64, [u64; 6]) {
+fn altered(lent: Layout, add: impl FnOnce(&mut Layout) -> u64) -> (u64, [Word; 6]) {
     let mut lent = lent;
     (add(&mut lent), lent.0)
 }
