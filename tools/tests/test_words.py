@@ -72,13 +72,16 @@ class Words(Trial):
         for tool in "differential", "descriptions", "bench", "record", "check":
             self.says(f"tools/{tool} --source", 2, err=line(tool, "--source takes a word"))
             self.says(f"tools/{tool} --source=", 2, err=line(tool, "--source takes a word"))
-        for tool in "differential", "rustc-types", "record":
+        for tool in "differential", "rustc-types", "record", "bench":
             for width in 0, 16, 65, "x", "' 32'":
                 self.says(f"tools/{tool} --width {width}", 2, err=line(tool, "--width takes 64 or 32, not"))
         for tool in "differential", "bench":
             self.says(f"tools/{tool} --only", 2, err=line(tool, "--only takes a word"))
             for name in "nope", "size_for", "'.*'":
                 self.says(f"tools/{tool} --only {name} --source '{SOURCE}'", 2, err=line(tool, "no function"))
+        # What has no width, and what is set beside nothing but the other one.
+        for width, name in (32, "records_to_short"), (32, "write_cases"), (64, "convert_and_cast"):
+            self.says(f"tools/bench --width {width} --only {name}", 2, err=line("bench", "no function"))
         self.assertNothingBuilt()
 
 
