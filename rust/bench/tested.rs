@@ -27,6 +27,12 @@ fn asked_alignment(number: u64) -> Result<Option<NonZeroUsize>, u64> {
     alignment(number).map(Some)
 }
 
+/// Not the oracle's, which tests the width and so is inlined otherwise.
+#[inline]
+fn asked(number: u64) -> Option<NonZeroUsize> {
+    NonZeroUsize::new(number as usize)
+}
+
 #[inline]
 fn rounding(word: u64) -> Result<RoundingAlignAndPhase, u64> {
     NonZeroUsize::new(word as usize).map(RoundingAlignAndPhase).ok_or(2)
