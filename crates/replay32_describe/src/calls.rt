@@ -3,10 +3,10 @@
 // bytes stand in a line, their length and then words.
 ghost use Prim.Native.Nat.{_≤_};
 ghost use lib.ListN.{length};
+use exports_short::MovedOut;
 use exports32_layouts::Layout32;
 use exports32_layouts::LayoutOut32;
 use exports32_lists::ComposedOut32;
-use exports_short::MovedOut;
 use numbers32::low_word;
 use recorded::LENGTH;
 use recorded::Told;
