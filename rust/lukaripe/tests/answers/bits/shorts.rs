@@ -1,16 +1,16 @@
 //! Short records, moves, and descriptions rewritten, which are told as a move is.
 
 use super::layouts::words_of;
+use super::library::*;
 use super::{told, Inputs};
-use lukaripe::*;
 
 /// The output is the front of these bytes.
 const AREA: usize = 512;
 const BEFORE: u8 = 0xa5;
 
 /// Words of the area.
-fn seen<const N: usize>(area: &[u8], from: u64) -> [u64; N] {
-    let mut words = area.chunks(8).skip(from as usize).map(|word| u64::from_le_bytes(word.try_into().unwrap()));
+fn seen<const N: usize>(area: &[u8], from: usize) -> [u64; N] {
+    let mut words = area.chunks(8).skip(from).map(|word| u64::from_le_bytes(word.try_into().unwrap()));
     std::array::from_fn(|_| words.next().unwrap())
 }
 
@@ -40,7 +40,7 @@ type MoveToVec = fn(&[u8]) -> Result<Vec<u8>, Refused>;
 /// The place, the bytes written, and words of the area. Where the output is long enough, the function that allocates
 /// gives the same.
 fn moved(i: &mut Inputs, into: Move, to_vec: MoveToVec) -> Vec<u64> {
-    let (len, from, records) = (i.number() as usize, i.number(), i.bytes());
+    let (len, from, records) = (i.length(), i.length(), i.bytes());
     let mut area = [BEFORE; AREA];
     let answer = into(&records, &mut area[..len]);
     let written = answer.unwrap_or(0);
@@ -59,7 +59,7 @@ fn moved(i: &mut Inputs, into: Move, to_vec: MoveToVec) -> Vec<u64> {
 pub fn call(function: u64, i: &mut Inputs) -> Option<Vec<u64>> {
     Some(match function {
         39 => decoded(&i.bytes()),
-        40 => encoded(i.layout()?, i.number() as usize),
+        40 => encoded(i.layout()?, i.length()),
         41 => moved(i, records_to_short, records_to_short_vec),
         42 => moved(i, records_from_short, records_from_short_vec),
         54 => moved(i, lengthen_counts, lengthen_counts_vec),

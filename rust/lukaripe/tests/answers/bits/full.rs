@@ -1,8 +1,8 @@
 //! The full comparison of sizes, normal forms, and conversions in the full mode.
 
 use super::layouts::{carried, cast_params};
+use super::library::*;
 use super::{decision, told, Inputs};
-use lukaripe::*;
 
 /// A form gives the layouts that have it, and itself again.
 fn form(layout: Trailing) -> Vec<u64> {

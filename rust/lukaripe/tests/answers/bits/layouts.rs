@@ -1,11 +1,10 @@
 //! Whole layouts, records, casts and conversions.
 
-use super::{cases, decision, full, number, shorts, told, Inputs};
-use lukaripe::*;
-use std::num::NonZeroU64;
+use super::library::*;
+use super::{cases, decision, full, number, shorts, told, Inputs, NonZeroWord, Word, OTHER};
 
 /// None where the six words are those of no layout, whatever its numbers are.
-fn layout_of([align, kind, size_base, offset, elem_size, word]: [u64; 6]) -> Option<Layout> {
+fn layout_of([align, kind, size_base, offset, elem_size, word]: [Word; 6]) -> Option<Layout> {
     let size_rounding_align_and_phase = RoundingAlignAndPhase(word);
     let size_info = match (kind, offset, elem_size, word) {
         (0 | 1 | 4 | 5, 0, 0, 0) => SizeInfo::Sized { size: size_base },
@@ -18,20 +17,27 @@ fn layout_of([align, kind, size_base, offset, elem_size, word]: [u64; 6]) -> Opt
 }
 
 pub fn words_of(layout: Layout) -> [u64; 6] {
-    let marks = u64::from(layout.statically_shallow_unpadded) + 4 * u64::from(layout.has_align_modifier());
-    match layout.size_info {
+    let marks = Word::from(layout.statically_shallow_unpadded) + 4 * Word::from(layout.has_align_modifier());
+    let words = match layout.size_info {
         SizeInfo::Sized { size } => [layout.align, marks, size, 0, 0, 0],
         SizeInfo::SliceDst(t) => {
             let word = t.size_rounding_align_and_phase.0;
             [layout.align, 2 + marks, t.size_base, t.offset, t.elem_size, word]
         }
-    }
+    };
+    words.map(u64::from)
 }
 
-/// The six words of a record.
+/// The six words of a record, which have 64 bits at either width.
 fn words_in(record: &[u8]) -> [u64; 6] {
     let mut words = record.chunks(8).map(|word| u64::from_le_bytes(word.try_into().unwrap()));
     std::array::from_fn(|_| words.next().unwrap())
+}
+
+/// The layout of a record; None also where a number does not fit the width.
+fn layout_in(record: &[u8]) -> Option<Layout> {
+    let words: Option<Vec<Word>> = words_in(record).into_iter().map(|word| word.try_into().ok()).collect();
+    layout_of(words?.try_into().unwrap())
 }
 
 /// The members of a list of records, where each is a layout, whatever its numbers are.
@@ -40,7 +46,7 @@ fn members(list: &[u8]) -> Option<Vec<Layout>> {
     if !records.remainder().is_empty() {
         return None;
     }
-    records.map(|record| layout_of(words_in(record))).collect()
+    records.map(layout_in).collect()
 }
 
 impl Inputs<'_> {
@@ -48,14 +54,14 @@ impl Inputs<'_> {
         layout_of(std::array::from_fn(|_| self.number()))
     }
 
-    fn asked(&mut self) -> Option<NonZeroU64> {
-        NonZeroU64::new(self.number())
+    fn asked(&mut self) -> Option<NonZeroWord> {
+        NonZeroWord::new(self.number())
     }
 
     /// The length, and then words of 8 bytes, the last one of what is left.
     pub fn bytes(&mut self) -> Vec<u8> {
-        let len = self.number() as usize;
-        let words: Vec<[u8; 8]> = (0..len.div_ceil(8)).map(|_| self.number().to_le_bytes()).collect();
+        let len = self.length();
+        let words: Vec<[u8; 8]> = (0..len.div_ceil(8)).map(|_| self.long().to_le_bytes()).collect();
         words.concat()[..len].to_vec()
     }
 
@@ -102,13 +108,13 @@ fn encoded(layout: Layout, len: usize) -> Vec<u64> {
     told(answer.map(|()| words_in(&out)))
 }
 
-fn scalar(code: u64) -> Vec<u64> {
+fn scalar(code: Word) -> Vec<u64> {
     let answer = Layout::scalar_by_code(code);
     assert_eq!(Scalar::try_from(code).map(Layout::scalar), answer);
     layout(answer)
 }
 
-type Composition<T> = fn(Option<NonZeroU64>, Option<NonZeroU64>, &[T]) -> Result<Layout, Refused>;
+type Composition<T> = fn(Option<NonZeroWord>, Option<NonZeroWord>, &[T]) -> Result<Layout, Refused>;
 
 /// The place comes before the words, and stays on a refusal. Members give what their records give.
 fn composed(i: &mut Inputs, of_layouts: Composition<Layout>, of_records: Composition<u8>) -> Vec<u64> {
@@ -146,10 +152,9 @@ fn read(description: &[u8]) -> Vec<u64> {
 /// Behind the words come the place and the gap of one member. A refusal writes nothing, and where the lent slices are
 /// as long as the list, the functions that allocate give the same.
 fn placed(i: &mut Inputs) -> Vec<u64> {
-    const BEFORE: u64 = 0xa5a5_a5a5_a5a5_a5a5;
     let (align, packed) = (i.asked(), i.asked());
-    let [mut places, mut gaps] = std::array::from_fn(|_| vec![BEFORE; i.number() as usize]);
-    let (at, list) = (i.number(), i.bytes());
+    let [mut places, mut gaps] = std::array::from_fn(|_| vec![OTHER; i.length()]);
+    let (at, list) = (i.length(), i.bytes());
     let answer = for_repr_c_struct_places_into(align, packed, &list, &mut places, &mut gaps);
     let count = list.len() / RECORD_LENGTH;
     if (places.len(), gaps.len()) == (count, count) {
@@ -161,11 +166,11 @@ fn placed(i: &mut Inputs) -> Vec<u64> {
     }
     match answer {
         Ok(layout) => {
-            let of_one = |numbers: &[u64]| at.checked_rem(count as u64).map_or(0, |at| numbers[at as usize]);
+            let of_one = |numbers: &[Word]| at.checked_rem(count).map_or(0, |at| numbers[at].into());
             [&[0, 0], &words_of(layout)[..], &[of_one(&places), of_one(&gaps)]].concat()
         }
         Err(refused) => {
-            assert!(places.iter().chain(&gaps).all(|number| *number == BEFORE));
+            assert!(places.iter().chain(&gaps).all(|number| *number == OTHER));
             [&[refused.refusal.number(), refused.place], &[0; 8][..]].concat()
         }
     }
@@ -197,8 +202,8 @@ fn worked_by_record(i: &mut Inputs) -> Option<Vec<u64>> {
     Some(by_record)
 }
 
-fn begun(repr_align: Option<NonZeroU64>) -> Vec<u64> {
-    let under = |packing| Working::begin(repr_align, NonZeroU64::new(packing)).map(|working| working.layout());
+fn begun(repr_align: Option<NonZeroWord>) -> Vec<u64> {
+    let under = |packing| Working::begin(repr_align, NonZeroWord::new(packing)).map(|working| working.layout());
     assert_eq!(under(3), under(0));
     layout(under(0))
 }
@@ -209,8 +214,8 @@ fn cast(answer: Result<Cast>) -> Vec<u64> {
 
 fn serving(serving: Serving) -> Vec<u64> {
     match serving {
-        Serving::Map(cast) => vec![0, 0, 1, cast.count, cast.split],
-        Serving::Spare { map, cast } => vec![map.number(), 0, 2, cast.count, cast.split],
+        Serving::Map(cast) => vec![0, 0, 1, cast.count.into(), cast.split.into()],
+        Serving::Spare { map, cast } => vec![map.number(), 0, 2, cast.count.into(), cast.split.into()],
         Serving::Neither { map, spare } => vec![map.number(), spare.number(), 0, 0, 0],
     }
 }
@@ -238,7 +243,7 @@ pub fn call(function: u64, i: &mut Inputs) -> Option<Vec<u64>> {
         21 => decision(i.layout()?.requires_static_padding()),
         22 => decision(i.layout()?.requires_dynamic_padding()),
         23 => decoded(&i.bytes()),
-        24 => encoded(i.layout()?, i.number() as usize),
+        24 => encoded(i.layout()?, i.length()),
         25 => scalar(i.number()),
         26 => composed(i, compose, compose_records),
         27 => composed(i, for_repr_c_struct, for_repr_c_struct_records),
@@ -259,7 +264,7 @@ pub fn call(function: u64, i: &mut Inputs) -> Option<Vec<u64>> {
         39..=42 => shorts::call(function, i)?,
         43..=47 => full::call(function, i)?,
         49 => cases::call(i),
-        50 => serving(i.layout()?.which_serves(i.number(), i.number(), i.number(), i.number())),
+        50 => serving(i.layout()?.which_serves(i.number(), i.long(), i.number(), i.long())),
         51 => read(&i.bytes()),
         52 => layout(Layout::for_array(i.layout()?, i.number())),
         53 => layout(Layout::for_slice_of(i.layout()?)),
