@@ -1,12 +1,14 @@
-//! The C header and this crate agree on the sizes of the structs, the numbers of the constants, the words of the
+//! The C headers and this crate agree on the sizes of the structs, the numbers of the constants, the words of the
 //! refusals and the version.
 //!
-//! tools/wrapper-test runs this: LUKARIPE_HEADER_SAYS names the file that its C program writes.
+//! tools/wrapper-test runs this: LUKARIPE_HEADER_SAYS names the file that its C program writes, and
+//! LUKARIPE_HEADER_SAYS32 that of the program of 32 bits.
 
 #[path = "../src/exports.rs"]
 mod exports;
+#[path = "../src/exports32.rs"]
+mod exports32;
 
-use exports::{Told, Trailing};
 use lukaripe::{Refusal, Scalar, CASES_LENGTH, CASE_LENGTH, RECORD_LENGTH, SHORT_RECORD_LENGTH};
 use lukaripe::{DESCRIPTION_DEPTH, TAG_ARRAY, TAG_LONG_STRUCT, TAG_SLICE, TAG_STRUCT};
 use std::collections::BTreeSet;
@@ -15,7 +17,7 @@ use std::mem::{align_of, size_of};
 use std::{env, fs};
 
 fn of_struct<T>(name: &str) -> String {
-    format!("struct lukaripe_{name} {} {}", size_of::<T>(), align_of::<T>())
+    format!("struct {name} {} {}", size_of::<T>(), align_of::<T>())
 }
 
 fn of_constant(name: &str, number: u64) -> String {
@@ -34,24 +36,41 @@ fn of_case(group: &str, case: impl Debug, number: u64) -> String {
     of_constant(&name, number)
 }
 
-fn structs() -> Vec<String> {
-    vec![
-        of_struct::<Told<1>>("number"),
-        of_struct::<Told<2>>("components"),
-        of_struct::<Trailing>("trailing"),
-        of_struct::<Told<4>>("trailing_answer"),
-        of_struct::<Told<3>>("normal_form_answer"),
-        of_struct::<Told<7>>("padding_share"),
-        of_struct::<exports::Layout>("layout"),
-        of_struct::<Told<6>>("layout_answer"),
-        of_struct::<Told<7>>("composed"),
-        of_struct::<Told<2>>("moved"),
-        of_struct::<Told<2>>("cast"),
-        of_struct::<exports::CastParams>("cast_params"),
-        of_struct::<Told<4>>("cast_params_answer"),
-        of_struct::<exports::Carried>("carried"),
-        of_struct::<Told<4>>("serving"),
-    ]
+/// What exports32.rs has structs of its own for.
+mod exports64 {
+    pub use super::exports::*;
+
+    pub type Share = Told<7>;
+    pub type Placed = Told<7>;
+    pub type Serving = Told<4>;
+}
+
+/// The structs that both headers have: the types of a module of exports, by their names in C behind the prefix.
+macro_rules! structs {
+    ($exports:ident, $prefix:literal) => {{
+        use $exports::*;
+        vec![
+            of_struct::<Told<1>>(concat!($prefix, "number")),
+            of_struct::<Told<2>>(concat!($prefix, "components")),
+            of_struct::<Trailing>(concat!($prefix, "trailing")),
+            of_struct::<Told<4>>(concat!($prefix, "trailing_answer")),
+            of_struct::<Told<3>>(concat!($prefix, "normal_form_answer")),
+            of_struct::<Share>(concat!($prefix, "padding_share")),
+            of_struct::<Layout>(concat!($prefix, "layout")),
+            of_struct::<Told<6>>(concat!($prefix, "layout_answer")),
+            of_struct::<Placed>(concat!($prefix, "composed")),
+            of_struct::<Told<2>>(concat!($prefix, "cast")),
+            of_struct::<CastParams>(concat!($prefix, "cast_params")),
+            of_struct::<Told<4>>(concat!($prefix, "cast_params_answer")),
+            of_struct::<Carried>(concat!($prefix, "carried")),
+            of_struct::<Serving>(concat!($prefix, "serving")),
+        ]
+    }};
+}
+
+/// The one that has no width, and so stands in lukaripe.h alone; each of the exports declares it.
+fn moved() -> Vec<String> {
+    vec![of_struct::<exports::Told<2>>("lukaripe_moved"), of_struct::<exports32::Moved>("lukaripe_moved")]
 }
 
 /// The kinds have no names in this crate.
@@ -83,20 +102,29 @@ fn constants() -> Vec<String> {
     constants
 }
 
-/// The words of the refusals, and the version.
 fn texts() -> Vec<String> {
-    let mut texts: Vec<String> = Refusal::all().map(|refusal| format!("text {} {refusal}", refusal.number())).collect();
-    texts.push(format!("version {}", env!("CARGO_PKG_VERSION")));
-    texts
+    Refusal::all().map(|refusal| format!("text {} {refusal}", refusal.number())).collect()
+}
+
+/// Either header has the version, and beside it the lines that are given.
+fn compare(variable: &str, lines: &[Vec<String>]) {
+    let file = env::var(variable).expect(variable);
+    let header: BTreeSet<String> = fs::read_to_string(file).unwrap().lines().map(String::from).collect();
+    let version = format!("version {}", env!("CARGO_PKG_VERSION"));
+    let rust: BTreeSet<String> = lines.concat().into_iter().chain([version]).collect();
+    let of_header: Vec<_> = header.difference(&rust).collect();
+    let of_rust: Vec<_> = rust.difference(&header).collect();
+    assert_eq!(of_header, of_rust, "only of the header, and only of this crate");
 }
 
 #[test]
 #[ignore = "tools/wrapper-test runs it"]
 fn agrees_with_the_header() {
-    let file = env::var("LUKARIPE_HEADER_SAYS").expect("LUKARIPE_HEADER_SAYS");
-    let header: BTreeSet<String> = fs::read_to_string(file).unwrap().lines().map(String::from).collect();
-    let rust: BTreeSet<String> = structs().into_iter().chain(constants()).chain(texts()).collect();
-    let of_header: Vec<_> = header.difference(&rust).collect();
-    let of_rust: Vec<_> = rust.difference(&header).collect();
-    assert_eq!(of_header, of_rust, "only of the header, and only of this crate");
+    compare("LUKARIPE_HEADER_SAYS", &[structs!(exports64, "lukaripe_"), moved(), constants(), texts()]);
+}
+
+#[test]
+#[ignore = "tools/wrapper-test runs it"]
+fn agrees_with_the_header_of_32_bits() {
+    compare("LUKARIPE_HEADER_SAYS32", &[structs!(exports32, "lukaripe32_")]);
 }
