@@ -9,8 +9,8 @@
                                       rust/differential/rows, which give each function its number. Where HEADER is
                                       that of 32 bits, lukaripe.h stands beside it
 
-    PROGRAM says                      prints each struct with its size and alignment, each constant, the words of the
-                                      refusals, and the version
+    PROGRAM says                      prints each struct with its size, its alignment and the places and widths of its
+                                      numbers, each constant, the words of the refusals, and the version
     PROGRAM replay <ANSWERS           every line must be what the function of its number says
     PROGRAM wrong <LINES              no line may be; how a line reads is written in rust/differential/recorded.rs
 """
@@ -491,6 +491,15 @@ def statements(function, result, parameters, structs):
     yield "return same(answer, sizeof answer / sizeof *answer);"
 
 
+def says_struct(name, structs):
+    """The statement that prints a struct."""
+    numbers = [number.removeprefix(".") for number in numbers_of(name, "", structs)]
+    told = [f"sizeof({name})", f"_Alignof({name})"]
+    for number in numbers:
+        told += [f"offsetof({name}, {number})", f"sizeof((({name} *)0)->{number})"]
+    return f'printf("struct {name} %zu %zu{" %zu+%zu" * len(numbers)}\\n", {", ".join(told)});'
+
+
 def program(header, rows):
     c, prefix, lent_number, structs = declared_in_c(header), "lukaripe_", "uint64_t", {}
     if any(name.startswith("lukaripe32_") for name in c.functions):
@@ -512,7 +521,7 @@ def program(header, rows):
 
     print("static int says(void) {")
     for name in c.structs:
-        print(f'    printf("struct {name} %zu %zu\\n", sizeof({name}), _Alignof({name}));')
+        print(f"    {says_struct(name, structs)}")
     for name in c.constants:
         print(f'    printf("constant {name} %d\\n", {name});')
     for name in c.refusals():

@@ -1,5 +1,5 @@
-//! The C headers and this crate agree on the sizes of the structs, the numbers of the constants, the words of the
-//! refusals and the version.
+//! The C headers and this crate agree on the sizes of the structs and the places of their numbers, the numbers of the
+//! constants, the words of the refusals and the version.
 //!
 //! tools/wrapper-test runs this: LUKARIPE_HEADER_SAYS names the file that its C program writes, and
 //! LUKARIPE_HEADER_SAYS32 that of the program of 32 bits.
@@ -13,11 +13,75 @@ use lukaripe::{Refusal, Scalar, CASES_LENGTH, CASE_LENGTH, RECORD_LENGTH, SHORT_
 use lukaripe::{DESCRIPTION_DEPTH, TAG_ARRAY, TAG_LONG_STRUCT, TAG_SLICE, TAG_STRUCT};
 use std::collections::BTreeSet;
 use std::fmt::Debug;
-use std::mem::{align_of, size_of};
+use std::mem::{align_of, offset_of, size_of};
 use std::{env, fs};
 
-fn of_struct<T>(name: &str) -> String {
-    format!("struct {name} {} {}", size_of::<T>(), align_of::<T>())
+/// Where each number stands, and how wide it is: the size alone hides what padding makes up for.
+type Places = Vec<(usize, usize)>;
+
+trait Numbers {
+    fn numbers() -> Places;
+}
+
+impl Numbers for u32 {
+    fn numbers() -> Places {
+        vec![(0, size_of::<u32>())]
+    }
+}
+
+impl Numbers for u64 {
+    fn numbers() -> Places {
+        vec![(0, size_of::<u64>())]
+    }
+}
+
+impl<T: Numbers, const N: usize> Numbers for [T; N] {
+    fn numbers() -> Places {
+        (0..N).flat_map(|index| numbers_at::<T>(index * size_of::<T>())).collect()
+    }
+}
+
+fn numbers_at<T: Numbers>(start: usize) -> Places {
+    T::numbers().into_iter().map(|(place, width)| (start + place, width)).collect()
+}
+
+/// Those of a field, which says of what type it is.
+fn numbers_in<S, T: Numbers>(start: usize, _: fn(&S) -> &T) -> Places {
+    numbers_at::<T>(start)
+}
+
+/// The fields, in the order that they have in C.
+macro_rules! fields {
+    ($(<$($parameter:ident: $of:ty)?> $struct:ty { $($field:tt),* })*) => {
+        $(impl<$(const $parameter: $of)?> Numbers for $struct {
+            fn numbers() -> Places {
+                [$(numbers_in(offset_of!($struct, $field), |of: &$struct| &of.$field)),*].concat()
+            }
+        })*
+    };
+}
+
+fields! {
+    <N: usize> exports::Told<N> { refusal, values }
+    <N: usize> exports::Words<N> { 0 }
+    <> exports::Carried { computed, count, first, second }
+    <N: usize> exports32::Told<N> { refusal, values }
+    <N: usize> exports32::Words<N> { 0 }
+    <> exports32::Carried { computed, count, first, second }
+    <> exports32::Placed { refusal, place, layout }
+    <> exports32::Moved { refusal, place, written }
+    <> exports32::Share {
+        refusal, place, padding_numerator, padding_denominator, mean_numerator, mean_denominator, greatest, index
+    }
+    <> exports32::Serving { map_refusal, spare_refusal, serves, count, split }
+}
+
+fn of_struct<T: Numbers>(name: &str) -> String {
+    let mut line = format!("struct {name} {} {}", size_of::<T>(), align_of::<T>());
+    for (place, width) in T::numbers() {
+        line += &format!(" {place}+{width}");
+    }
+    line
 }
 
 fn of_constant(name: &str, number: u64) -> String {
