@@ -1,5 +1,7 @@
 // A trailing layout advanced by bytes, after zerocopy's method advance of TrailingSliceLayout. A method stands in the crate of
 // its type; this is a function in a crate of its own, since an edit of it then proves none of the layout's other functions again.
+#![tactic(auto)]
+
 ghost use Rattle.std.specs.Prelude.{◌≡◌};
 ghost use Rattle.util_defs.specs.Refusal.{Meets};
 ghost use Rattle.rounding.specs.Word.{IsWord};

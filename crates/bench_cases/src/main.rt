@@ -1,6 +1,8 @@
 // The test bench: every list of up to six members under every packing (cases) is composed, and compared with the Reference's
 // rule for repr(C), written out plainly. Beside it stands the rule without closing padding, which is wrong: a bench that misses
 // a difference writes another count.
+#![tactic(auto)]
+
 use compose::ComposeAnswer;
 use layout::{DstLayout, LayoutAnswer, SizeInfo};
 use libc::STDOUT_FILENO;
@@ -10,7 +12,7 @@ use util::Answer;
 const CASES: usize = 27305;
 
 // A struct as the rule has it, and whether no padding was needed so far.
-#[derive(Drop)]
+#[derive(Clone, Copy)]
 struct Rule {
     align: u64,
     size: u64,
@@ -18,7 +20,7 @@ struct Rule {
 }
 
 // How many cases there were, and how many differ from the rule, and from the wrong one.
-#[derive(Drop)]
+#[derive(Clone, Copy)]
 struct Tally {
     cases: u64,
     differ: u64,

@@ -1,5 +1,7 @@
 // The count that a count of the source becomes in a conversion, after zerocopy's method cast_metadata of CastParams. A function
 // in a crate of its own, since an edit of it then proves none of the conversion's functions again.
+#![tactic(auto)]
+
 ghost use Rattle.std.specs.Prelude.{◌≡◌};
 ghost use Rattle.util_defs.specs.Refusal.{Meets};
 ghost use Rattle.util.specs.View.{number_says};

@@ -1,6 +1,6 @@
 -- The bytes of the recursion are the records of the cases. Assumes nothing.
 use mathlib.Core.Path.{◌≡◌, refl, sym, ap, subst, ◌∙◌}
-use mathlib.Core.List.{List, [], ◌∷◌, ◌++◌, map, flat_map, append_assoc, append_nil}
+use mathlib.Core.List.{List, [], ◌∷◌, ◌++◌, map, flat_map, append_assoc, append-nil}
 use Prim.Native.Nat.{ℕ, zero, suc, ◌+◌, ◌-◌, ◌*◌, ◌^◌, ◌≤◌, ◌<◌}
 use lib.ListN.{length, replicate, take, length-append, length-replicate}
 use lib.Dec.{lit<}
@@ -113,10 +113,10 @@ word_case p q h a g =
 -- ---- the recursion ----
 
 four : (a b c d : List ℕ) → a ++ b ++ c ++ d ≡ a ++ (b ++ (c ++ (d ++ [])))
-four a b c d = rw (append_nil d, append_assoc (a ++ b) c d, append_assoc a b (c ++ d)) refl
+four a b c d = rw (append-nil d, append_assoc (a ++ b) c d, append_assoc a b (c ++ d)) refl
 
 five : (a b c d e : List ℕ) → a ++ b ++ c ++ d ++ e ≡ a ++ (b ++ (c ++ (d ++ (e ++ []))))
-five a b c d e = rw (append_nil e, append_assoc (a ++ b ++ c) d e, append_assoc (a ++ b) c (d ++ e), append_assoc a b (c ++ (d ++ e))) refl
+five a b c d e = rw (append-nil e, append_assoc (a ++ b ++ c) d e, append_assoc (a ++ b) c (d ++ e), append_assoc a b (c ++ (d ++ e))) refl
 
 -- a list under each packing
 list_records_lem : (p : List ℕ) → length p ≤ greatest_length → AllBytes p → list_bytes (value_of (so_far (length p) p)) ≡ list_records p
@@ -135,8 +135,8 @@ grown_records zero n p e h a =
     let m : n ≡ length p = omega arith in
     ap (λ (t : ℕ). list_bytes (value_of (so_far t p))) m
     ∙ list_records_lem p (omega arith) a
-    ∙ ap list_records (sym (append_nil p))
-    ∙ sym (append_nil (list_records (p ++ [])))
+    ∙ ap list_records (sym (append-nil p))
+    ∙ sym (append-nil (list_records (p ++ [])))
 grown_records (suc k) n p e h a =
     let v = value_of (so_far n p) in
     let u = 256 ^ (2 + length p) in

@@ -1,5 +1,7 @@
 // All short member lists, for a test bench (document 02, request 10): every list of up to a chosen length of u8, u16, u32 and
 // u64, each under packing none, 1, 2, 4 and 8, as records of 8 bytes in a lent buffer.
+#![tactic(auto)]
+
 ghost use Rattle.std.specs.Prelude.{◌≡◌, ◌+◌, ◌*◌, ◌^◌, ◌≤◌, ◌<◌, length};
 ghost use Rattle.std.proofs.lemmas.List.Edits.{sets};
 ghost use Rattle.util.specs.View.{number_says};

@@ -1,5 +1,7 @@
 // Casts, after zerocopy's validate_cast_and_convert_metadata: how many elements the bytes at an address hold, and where they
 // split.
+#![tactic(auto)]
+
 ghost use Rattle.std.specs.Prelude.{◌≡◌, [], ◌∷◌, ◌+◌, ◌^◌, ◌≤◌, ◌<◌};
 ghost use Rattle.util_defs.specs.Refusal.{answered, unless, None, Meets};
 ghost use Rattle.util.specs.View.{number_says};
@@ -19,14 +21,14 @@ use trailing::TrailingSliceLayout;
 use util::{Answer, refusal};
 
 // Whether the bytes of a cast are those in front, or those at the end.
-#[derive(Drop)]
+#[derive(Clone, Copy)]
 pub enum CastType {
     Prefix,
     Suffix,
 }
 
 // The count of elements and where the bytes split, or the number of the refusal.
-#[derive(Drop)]
+#[derive(Clone, Copy)]
 pub enum CastAnswer {
     Granted { elems: u64, split_at: u64 },
     Refused(u64),

@@ -1,1 +1,2 @@
 // No code: the definitions of casts and of exact counts, and their laws over any width.
+#![tactic(auto)]

@@ -1,5 +1,7 @@
 // Casts at 32 bits, by those at 64. An address that passes 32 bits with the length is given to them as one that passes 64, so
 // that it is refused in its turn.
+#![tactic(auto)]
+
 ghost use Rattle.std.specs.Prelude.{◌≡◌};
 ghost use Rattle.util_defs.specs.Refusal.{Meets};
 ghost use Rattle.cast_defs.specs.Cast.{cast_causes, cast_for, GrantMeans};
@@ -17,7 +19,7 @@ use layouts32::DstLayout32;
 use numbers32::Answer32;
 
 // The count of elements and where the bytes split, or the number of the refusal.
-#[derive(Drop)]
+#[derive(Clone, Copy)]
 pub enum CastAnswer32 {
     Granted { elems: u32, split_at: u32 },
     Refused(u64),

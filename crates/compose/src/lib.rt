@@ -1,5 +1,7 @@
 // The composition of a list of member records, after zerocopy's for_repr_c_struct, and a strict one beside it. Both are one: the
 // strict one heeds alignment modifiers. What the ported one is called with, false, the compiler carries into its loop.
+#![tactic(auto)]
+
 ghost use Rattle.std.specs.Prelude.{◌≡◌, true, ◌&&◌, ◌/◌, length};
 ghost use Rattle.util_defs.specs.Power.{power_of_two};
 ghost use Rattle.util_defs.specs.Refusal.{answered};
@@ -16,7 +18,7 @@ use record::RECORD_BYTES;
 use util::refusal;
 
 // A composed layout, or the number of the refusal and its place.
-#[derive(Drop)]
+#[derive(Clone, Copy)]
 pub enum ComposeAnswer {
     Layout(DstLayout),
     Refused { number: u64, place: u64 },

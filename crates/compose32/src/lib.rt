@@ -1,5 +1,7 @@
 // The composition of a list of member records at 32 bits, the ported one and the strict one by one loop. The loop at 64 bits
 // keeps what a member with a size needs in registers and tests no width, so that it stands apart.
+#![tactic(auto)]
+
 ghost use Rattle.std.specs.Prelude.{◌≡◌, ◌/◌, length};
 ghost use Rattle.padding_defs.specs.Pad.{pad_for};
 ghost use Rattle.record_defs.specs.Record.{decode_for};
@@ -14,7 +16,7 @@ use record::RECORD_BYTES;
 use util::refusal;
 
 // A composed layout, or the number of the refusal and its place.
-#[derive(Drop)]
+#[derive(Clone, Copy)]
 pub enum ComposeAnswer32 {
     Layout(DstLayout32),
     Refused { number: u64, place: u64 },

@@ -1,1 +1,2 @@
 // No code: the definitions of compositions and their laws, at any width.
+#![tactic(auto)]

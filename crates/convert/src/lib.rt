@@ -1,5 +1,7 @@
 // Conversions, after zerocopy's CastParams: whether a value of one layout may be read as another, and how its count is
 // converted.
+#![tactic(auto)]
+
 ghost use Rattle.std.specs.Prelude.{◌≡◌};
 ghost use Rattle.util_defs.specs.Refusal.{answered, None, Meets, unless};
 ghost use Rattle.trailing.specs.View.{trailing_of};
@@ -19,7 +21,7 @@ use trailing::TrailingSliceLayout;
 use util::{Answer, refusal};
 
 // How a count is converted.
-#[derive(Drop)]
+#[derive(Clone, Copy)]
 pub enum CastParamsInner {
     // A trailing source: offset_delta_elems and elem_multiple for each of its elements.
     UnsizedToUnsized {
@@ -34,7 +36,7 @@ pub enum CastParamsInner {
 }
 
 // Why there is no conversion, in the order tested.
-#[derive(Drop)]
+#[derive(Clone, Copy)]
 enum Reason {
     SourceAlignLower,
     FixedSizesDiffer,
@@ -47,14 +49,14 @@ enum Reason {
 }
 
 // A conversion, or why there is none. A reason is no number yet, which would share a word with the kind of a conversion.
-#[derive(Drop)]
+#[derive(Clone, Copy)]
 enum Computed {
     Accepted(CastParamsInner),
     None(Reason),
 }
 
 // A conversion, or the number of the refusal.
-#[derive(Drop)]
+#[derive(Clone, Copy)]
 pub enum ComputeAnswer {
     Params(CastParamsInner),
     Refused(u64),

@@ -1,1 +1,2 @@
 // No code: the definitions of conversions and their laws, at any width and for any comparison of sequences.
+#![tactic(auto)]

@@ -1,4 +1,6 @@
 // Conversions at 32 bits, by those at 64, in every mode.
+#![tactic(auto)]
+
 ghost use Rattle.std.specs.Prelude.{◌≡◌};
 ghost use Rattle.util_defs.specs.Width.{M};
 ghost use Rattle.util_defs.specs.Refusal.{answered, Meets};
@@ -22,7 +24,7 @@ use shift::Mode;
 use util::{Answer, refusal};
 
 // How a count is converted; its cases are those of CastParamsInner.
-#[derive(Drop)]
+#[derive(Clone, Copy)]
 pub enum CastParamsInner32 {
     UnsizedToUnsized {
         offset_delta_elems: u32,
@@ -35,7 +37,7 @@ pub enum CastParamsInner32 {
 }
 
 // A conversion, or the number of the refusal.
-#[derive(Drop)]
+#[derive(Clone, Copy)]
 pub enum ComputeAnswer32 {
     Params(CastParamsInner32),
     Refused(u64),

@@ -1,5 +1,7 @@
 // Nested type descriptions, read into layouts, at either width by one body (narrow: words of 32 bits). The stack of open parts
 // is that of the calls.
+#![tactic(auto)]
+
 ghost use Rattle.std.specs.Prelude.{◌≡◌, ◌^◌, ◌<◌};
 ghost use Rattle.util_defs.specs.Placed.{reached, at_place, go_on};
 ghost use Rattle.layout.specs.View.{layout_of, layout_says};
@@ -19,14 +21,14 @@ use util::refusal;
 pub const MAX_DEPTH: usize = 16;
 
 // The layout of a part and the place behind its last byte, or the number of the refusal and its place.
-#[derive(Drop)]
+#[derive(Clone, Copy)]
 pub enum PartAnswer {
     Part { layout: DstLayout, next: usize },
     Refused { number: u64, place: usize },
 }
 
 // The layout of a description, or the number of the refusal and its place.
-#[derive(Drop)]
+#[derive(Clone, Copy)]
 pub enum ReadAnswer {
     Layout(DstLayout),
     Refused { number: u64, place: u64 },

@@ -1,4 +1,6 @@
 // Nested type descriptions at 32 bits: the reader of both widths, whose layouts 32 bits then hold.
+#![tactic(auto)]
+
 ghost use Rattle.std.specs.Prelude.{◌≡◌};
 ghost use Rattle.describe_defs.specs.Describe.{part_for, described_for};
 ghost use Rattle.describe_defs.specs.Faults.{PartMeans, ReadMeans};
@@ -11,14 +13,14 @@ use layout::{DstLayout, LayoutAnswer, SizeInfo};
 use layouts32::{DstLayout32, LayoutAnswer32};
 
 // The layout of a part and the place behind its last byte, or the number of the refusal and its place.
-#[derive(Drop)]
+#[derive(Clone, Copy)]
 pub enum PartAnswer32 {
     Part { layout: DstLayout32, next: usize },
     Refused { number: u64, place: usize },
 }
 
 // The layout of a description, or the number of the refusal and its place.
-#[derive(Drop)]
+#[derive(Clone, Copy)]
 pub enum ReadAnswer32 {
     Layout(DstLayout32),
     Refused { number: u64, place: u64 },

@@ -1,4 +1,6 @@
 // The description reader, which keeps its width, its bytes and its place together.
+#![tactic(auto)]
+
 ghost use Rattle.std.specs.Prelude.{◌≡◌};
 ghost use Rattle.describe.specs.View.{part_says};
 ghost use Rattle.describe_reader.specs.At.{read_at};
@@ -8,7 +10,7 @@ use layout::{DstLayout, SizeInfo};
 use width::Width;
 
 // In the order in which `part_at` takes them.
-#[derive(Drop)]
+#[derive(Clone, Copy)]
 pub struct Reader<'a> {
     pub width: Width,
     pub description: &'a [u8],

@@ -1,4 +1,6 @@
 // Arrays and slices of a layout at 32 bits, by those at 64.
+#![tactic(auto)]
+
 ghost use Rattle.std.specs.Prelude.{◌≡◌};
 ghost use Rattle.util_defs.specs.Refusal.{Meets};
 ghost use Rattle.layout.specs.View.{info_of, layout_of, layout_says};

@@ -1,4 +1,6 @@
 // The functions of casts and conversions at 32 bits for C and Rust: no logic of their own. include/lukaripe32.h is their C side.
+#![tactic(auto)]
+
 ghost use Rattle.std.specs.Prelude.{◌≡◌};
 ghost use Rattle.trailing_defs.specs.Sequence.{same_sequence};
 ghost use Rattle.cast_defs.specs.Cast.{cast_for};
@@ -25,7 +27,7 @@ use numbers32::Answer32;
 use shift::Mode;
 
 #[repr(C)]
-#[derive(Drop)]
+#[derive(Clone, Copy)]
 pub struct CastOut32 {
     pub refusal: u64,
     pub count: u32,
@@ -33,7 +35,7 @@ pub struct CastOut32 {
 }
 
 #[repr(C)]
-#[derive(Drop)]
+#[derive(Clone, Copy)]
 pub struct CastParams32 {
     pub kind: u32,
     pub offset_delta_elems: u32,
@@ -42,7 +44,7 @@ pub struct CastParams32 {
 }
 
 #[repr(C)]
-#[derive(Drop)]
+#[derive(Clone, Copy)]
 pub struct CastParamsOut32 {
     pub refusal: u64,
     pub params: CastParams32,

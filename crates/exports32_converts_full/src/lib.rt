@@ -1,5 +1,7 @@
 // Conversions by the full comparison at 32 bits, for C and Rust: no logic of their own. include/lukaripe32.h is their C side.
 // They stand apart, so that the conversion of each mode is called once in its unit, and inlined.
+#![tactic(auto)]
+
 ghost use Rattle.std.specs.Prelude.{◌≡◌};
 ghost use Rattle.full_defs.specs.Full.{sizes_agree};
 ghost use Rattle.convert_defs.specs.Convert.{compute_for};

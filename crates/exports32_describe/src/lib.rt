@@ -1,5 +1,7 @@
 // The reader of type descriptions at 32 bits, and their rewriting, for C and Rust: no logic of their own. include/lukaripe32.h is
 // their C side.
+#![tactic(auto)]
+
 ghost use Rattle.std.specs.Prelude.{◌≡◌, length};
 ghost use Rattle.describe_defs.specs.Describe.{described_for};
 ghost use Rattle.rewrite_defs.specs.Rewrite.{longer, shorter, rewrite_for, bytes_for, filled};

@@ -1,6 +1,8 @@
 // Which of two buffers serves at 32 bits, for C and Rust: no logic of its own. include/lukaripe32.h is its C side. A part of a
 // buffer does not cross as a slice: what crosses is which buffer it is of, and how long it is. The buffers may have more bytes
 // than 32 bits number.
+#![tactic(auto)]
+
 ghost use Rattle.std.specs.Prelude.{◌≡◌};
 ghost use Rattle.util_defs.specs.Refusal.{answered};
 ghost use Rattle.front_defs.specs.Front.{serving_for};
@@ -13,7 +15,7 @@ use front32::Serving32;
 use layouts32::LayoutAnswer32;
 
 #[repr(C)]
-#[derive(Drop)]
+#[derive(Clone, Copy)]
 pub struct ServingOut32 {
     pub map_refusal: u64,
     pub spare_refusal: u64,

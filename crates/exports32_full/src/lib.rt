@@ -1,5 +1,7 @@
 // The full comparison of sizes and the normal form at 32 bits for C and Rust: no logic of their own. include/lukaripe32.h is
 // their C side.
+#![tactic(auto)]
+
 ghost use Rattle.std.specs.Prelude.{◌≡◌};
 ghost use Rattle.full_defs.specs.Full.{agree_for};
 ghost use Rattle.full_defs.specs.Form.{form_for};
@@ -12,7 +14,7 @@ use sequence32::FormAnswer32;
 
 // A normal form has no offset and no alignment.
 #[repr(C)]
-#[derive(Drop)]
+#[derive(Clone, Copy)]
 pub struct NormalFormOut32 {
     pub refusal: u64,
     pub size_base: u32,

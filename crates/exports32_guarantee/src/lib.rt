@@ -1,5 +1,7 @@
 // The conversion guarantee at 32 bits for C and Rust: no logic of its own. include/lukaripe32.h is its C side. It stands apart,
 // so that in the exports of casts and conversions each of these functions is called once, and inlined.
+#![tactic(auto)]
+
 ghost use Rattle.std.specs.Prelude.{◌≡◌};
 ghost use Rattle.util_defs.specs.Refusal.{answered, refused};
 ghost use Rattle.trailing_defs.specs.Sequence.{same_sequence};
@@ -21,7 +23,7 @@ use numbers32::Answer32;
 use shift::Mode;
 
 #[repr(C)]
-#[derive(Drop)]
+#[derive(Clone, Copy)]
 pub struct CarriedOut32 {
     pub computed: CastParamsOut32,
     pub count: Number32,

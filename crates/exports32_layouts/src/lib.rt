@@ -1,4 +1,6 @@
 // The functions of layouts and of scalars at 32 bits for C and Rust: no logic of their own. include/lukaripe32.h is their C side.
+#![tactic(auto)]
+
 ghost use Rattle.std.specs.Prelude.{◌≡◌, true, false};
 ghost use Rattle.make.specs.Make.{new_zst_for, type_for, slice_for};
 ghost use Rattle.layout_defs.specs.Extend.{extend_for};
@@ -20,7 +22,7 @@ use util::Decision;
 
 // A layout, as the six words of its record.
 #[repr(C)]
-#[derive(Drop)]
+#[derive(Clone, Copy)]
 pub struct Layout32 {
     pub align: u32,
     pub kind: u32,
@@ -32,7 +34,7 @@ pub struct Layout32 {
 }
 
 #[repr(C)]
-#[derive(Drop)]
+#[derive(Clone, Copy)]
 pub struct LayoutOut32 {
     pub refusal: u64,
     pub layout: Layout32,

@@ -1,4 +1,6 @@
 // The compositions of member lists at 32 bits for C and Rust: no logic of their own. include/lukaripe32.h is their C side.
+#![tactic(auto)]
+
 ghost use Rattle.std.specs.Prelude.{◌≡◌, length};
 ghost use Rattle.make.specs.Make.{empty_layout};
 ghost use Rattle.compose_defs.specs.Compose.{ported, strict, compose_for, struct_for};
@@ -12,7 +14,7 @@ use layouts32::LayoutAnswer32;
 
 // A composed layout, or its refusal and where.
 #[repr(C)]
-#[derive(Drop)]
+#[derive(Clone, Copy)]
 pub struct ComposedOut32 {
     pub refusal: u64,
     pub place: u64,

@@ -1,5 +1,7 @@
 // The functions of numbers and of trailing layouts at 32 bits for C and Rust: no logic of their own. include/lukaripe32.h is
 // their C side.
+#![tactic(auto)]
+
 ghost use Rattle.std.specs.Prelude.{◌≡◌};
 ghost use Rattle.util_defs.specs.Power.{power_of_two};
 ghost use Rattle.util_defs.specs.Helpers.{padding_for, round_down_for, max_for, min_for};
@@ -17,14 +19,14 @@ use trailing32::{AdvanceAnswer32, SizeAnswer32, TrailingSliceLayout32};
 use util::{Decision, refusal};
 
 #[repr(C)]
-#[derive(Drop)]
+#[derive(Clone, Copy)]
 pub struct Number32 {
     pub refusal: u64,
     pub value: u32,
 }
 
 #[repr(C)]
-#[derive(Drop)]
+#[derive(Clone, Copy)]
 pub struct Components32 {
     pub refusal: u64,
     pub align: u32,
@@ -33,7 +35,7 @@ pub struct Components32 {
 
 // A trailing layout: the last four words of its record.
 #[repr(C)]
-#[derive(Drop)]
+#[derive(Clone, Copy)]
 pub struct Trailing32 {
     pub size_base: u32,
     pub offset: u32,
@@ -42,7 +44,7 @@ pub struct Trailing32 {
 }
 
 #[repr(C)]
-#[derive(Drop)]
+#[derive(Clone, Copy)]
 pub struct TrailingAnswer32 {
     pub refusal: u64,
     pub layout: Trailing32,

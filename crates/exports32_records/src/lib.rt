@@ -1,5 +1,7 @@
 // Records of both forms at 32 bits for C and Rust: no logic of their own. include/lukaripe32.h is their C side. The moves of
 // lists between the forms have no width.
+#![tactic(auto)]
+
 ghost use Rattle.std.specs.Prelude.{◌≡◌, length};
 ghost use Rattle.record_defs.specs.Record.{decode_for, fitted, encode_words_for, encoded_words_into};
 ghost use Rattle.short_defs.specs.Short.{decode_short_for, encode_short_words_for, encoded_short_words_into};

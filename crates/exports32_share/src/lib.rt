@@ -1,5 +1,7 @@
 // The padding over a list of counts at 32 bits for C and Rust: no logic of its own. include/lukaripe32.h is its C side. It stands
 // apart, so that what it calls is called once here, and inlined.
+#![tactic(auto)]
+
 ghost use Rattle.std.specs.Prelude.{◌≡◌};
 ghost use Rattle.share_defs.specs.Share.{share_for};
 ghost use Rattle.share.specs.View.{share_says32};
@@ -12,7 +14,7 @@ use share::ShareAnswer32;
 // Total padding over total size and the mean size as fractions in lowest terms, the greatest padding and its first index; or the
 // refusal and where. There may be more counts than 32 bits number: how many there are and an index have 64 bits.
 #[repr(C)]
-#[derive(Drop)]
+#[derive(Clone, Copy)]
 pub struct PaddingOut32 {
     pub refusal: u64,
     pub place: u64,

@@ -1,5 +1,7 @@
 // The match of two trailing layouts by the full comparison at 32 bits, for C and Rust: no logic of its own. include/lukaripe32.h
 // is its C side. It stands apart, so that what it calls is called once here, and inlined.
+#![tactic(auto)]
+
 ghost use Rattle.std.specs.Prelude.{◌≡◌};
 ghost use Rattle.full_defs.specs.Full.{sizes_agree};
 ghost use Rattle.shift_defs.specs.Match.{match_for};

@@ -1,6 +1,8 @@
 // The working layout at 32 bits for C and Rust: no logic of its own. include/lukaripe32.h is its C side. A layout crosses as six
 // words, so the caller keeps those and lends them: a `DstLayout32` holds an enum, which does not cross. The addition of a record
 // stands apart, in exports32_working_record, so that what an export calls is called once, and inlined.
+#![tactic(auto)]
+
 ghost use Rattle.std.specs.Prelude.{◌≡◌};
 ghost use Rattle.make.specs.Make.{new_zst_for};
 ghost use Rattle.record_defs.specs.Record.{words_for};
@@ -15,7 +17,7 @@ use layouts32::LayoutAnswer32;
 use working32::Addition32;
 
 // What an addition gives: the refusal, or 0, and the words of the working layout after it.
-#[derive(Drop)]
+#[derive(Clone, Copy)]
 pub struct Worked32 {
     pub refusal: u64,
     pub layout: Layout32,

@@ -1,5 +1,7 @@
 // The addition of a record to a working layout at 32 bits for C and Rust: no logic of its own. include/lukaripe32.h is its C
 // side.
+#![tactic(auto)]
+
 ghost use Rattle.std.specs.Prelude.{◌≡◌};
 ghost use Rattle.record_defs.specs.Record.{decode_for};
 ghost use Rattle.exports_working.specs.Working.{working_for};

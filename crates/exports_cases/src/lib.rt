@@ -1,4 +1,6 @@
 // All short member lists for C and Rust: no logic of its own. include/lukaripe.h is its C side.
+#![tactic(auto)]
+
 ghost use Rattle.std.specs.Prelude.{◌≡◌, length};
 ghost use Rattle.cases_defs.specs.Write.{cases_for, count_written, filled_with};
 ghost use Rattle.exports_numbers.specs.Numbers.{number_out};

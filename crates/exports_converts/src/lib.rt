@@ -1,4 +1,6 @@
 // The functions of casts and conversions for C and Rust: no logic of their own. include/lukaripe.h is their C side.
+#![tactic(auto)]
+
 ghost use Rattle.std.specs.Prelude.{◌≡◌};
 ghost use Rattle.trailing_defs.specs.Sequence.{same_sequence};
 ghost use Rattle.cast_defs.specs.Cast.{cast_for};
@@ -22,7 +24,7 @@ use shift::Mode;
 use util::Answer;
 
 #[repr(C)]
-#[derive(Drop)]
+#[derive(Clone, Copy)]
 pub struct CastOut {
     pub refusal: u64,
     pub count: u64,
@@ -30,7 +32,7 @@ pub struct CastOut {
 }
 
 #[repr(C)]
-#[derive(Drop)]
+#[derive(Clone, Copy)]
 pub struct CastParams {
     pub kind: u64,
     pub offset_delta_elems: u64,
@@ -39,7 +41,7 @@ pub struct CastParams {
 }
 
 #[repr(C)]
-#[derive(Drop)]
+#[derive(Clone, Copy)]
 pub struct CastParamsOut {
     pub refusal: u64,
     pub params: CastParams,

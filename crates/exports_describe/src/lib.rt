@@ -1,5 +1,7 @@
 // The reader of type descriptions for C and Rust: no logic of its own. include/lukaripe.h is its C side. It stands apart, so that
 // what it calls is called once here, and inlined.
+#![tactic(auto)]
+
 ghost use Rattle.std.specs.Prelude.{◌≡◌};
 ghost use Rattle.scalar.specs.Scalar.{target64};
 ghost use Rattle.compose.specs.View.{compose_says};

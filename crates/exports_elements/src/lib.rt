@@ -1,5 +1,7 @@
 // Arrays and slices of a layout for C and Rust: no logic of their own. include/lukaripe.h is their C side. They stand apart, so
 // that what they call is called once here, and inlined.
+#![tactic(auto)]
+
 ghost use Rattle.std.specs.Prelude.{◌≡◌};
 ghost use Rattle.describe_defs.specs.Elements.{array_for, slice_of_for};
 ghost use Rattle.exports_layouts.specs.Layouts.{layout_out, with_layout};

@@ -1,4 +1,6 @@
 // The move of a list of records from short ones for C and Rust: no logic of its own. include/lukaripe.h is its C side.
+#![tactic(auto)]
+
 ghost use Rattle.std.specs.Prelude.{◌≡◌, length};
 ghost use Rattle.short_defs.specs.Moves.{from_short, move_for, moved_for, filled};
 ghost use Rattle.exports_short.specs.Shorts.{moved_out};

@@ -1,5 +1,7 @@
 // Which of two buffers serves, for C and Rust: no logic of its own. include/lukaripe.h is its C side. A part of a buffer does not
 // cross as a slice: what crosses is which buffer it is of, and how long it is.
+#![tactic(auto)]
+
 ghost use Rattle.std.specs.Prelude.{◌≡◌};
 ghost use Rattle.util_defs.specs.Refusal.{answered};
 ghost use Rattle.front_defs.specs.Front.{serving_for};
@@ -12,7 +14,7 @@ use front::Serving;
 use layout::LayoutAnswer;
 
 #[repr(C)]
-#[derive(Drop)]
+#[derive(Clone, Copy)]
 pub struct ServingOut {
     pub map_refusal: u64,
     pub spare_refusal: u64,

@@ -1,4 +1,6 @@
 // The full comparison of sizes and the normal form for C and Rust: no logic of their own. include/lukaripe.h is their C side.
+#![tactic(auto)]
+
 ghost use Rattle.std.specs.Prelude.{◌≡◌};
 ghost use Rattle.full_defs.specs.Full.{agree_for};
 ghost use Rattle.full_defs.specs.Form.{form_for};
@@ -11,7 +13,7 @@ use full::FormAnswer;
 
 // A normal form has no offset and no alignment.
 #[repr(C)]
-#[derive(Drop)]
+#[derive(Clone, Copy)]
 pub struct NormalFormOut {
     pub refusal: u64,
     pub size_base: u64,

@@ -1,5 +1,7 @@
 // The conversion guarantee for C and Rust: no logic of its own. include/lukaripe.h is its C side. It stands apart, so that in the
 // exports of casts and conversions each of these functions is called once, and inlined.
+#![tactic(auto)]
+
 ghost use Rattle.std.specs.Prelude.{◌≡◌};
 ghost use Rattle.util_defs.specs.Refusal.{answered, refused};
 ghost use Rattle.trailing_defs.specs.Sequence.{same_sequence};
@@ -21,7 +23,7 @@ use shift::Mode;
 use util::Answer;
 
 #[repr(C)]
-#[derive(Drop)]
+#[derive(Clone, Copy)]
 pub struct CarriedOut {
     pub computed: CastParamsOut,
     pub count: Number,

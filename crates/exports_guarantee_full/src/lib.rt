@@ -1,5 +1,7 @@
 // The conversion guarantee of the full mode, for C and Rust: no logic of its own. include/lukaripe.h is its C side. It stands
 // apart, so that the conversion of each mode is called once in its unit, and inlined.
+#![tactic(auto)]
+
 ghost use Rattle.std.specs.Prelude.{◌≡◌};
 ghost use Rattle.util_defs.specs.Refusal.{answered};
 ghost use Rattle.full_defs.specs.Full.{sizes_agree};

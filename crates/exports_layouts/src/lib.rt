@@ -1,4 +1,6 @@
 // The functions of layouts, records and member lists for C and Rust: no logic of their own. include/lukaripe.h is their C side.
+#![tactic(auto)]
+
 ghost use Rattle.std.specs.Prelude.{◌≡◌, true, false, length};
 ghost use Rattle.make.specs.Make.{new_zst_for, type_for, slice_for};
 ghost use Rattle.layout_defs.specs.Extend.{extend_for};
@@ -21,7 +23,7 @@ use util::Decision;
 
 // A layout, as the six words of its record.
 #[repr(C)]
-#[derive(Drop)]
+#[derive(Clone, Copy)]
 pub struct Layout {
     pub align: u64,
     pub kind: u64,
@@ -33,14 +35,14 @@ pub struct Layout {
 }
 
 #[repr(C)]
-#[derive(Drop)]
+#[derive(Clone, Copy)]
 pub struct LayoutOut {
     pub refusal: u64,
     pub layout: Layout,
 }
 
 #[repr(C)]
-#[derive(Drop)]
+#[derive(Clone, Copy)]
 pub struct ComposedOut {
     pub refusal: u64,
     pub place: u64,

@@ -1,4 +1,6 @@
 // The functions of numbers and of trailing layouts for C and Rust: no logic of their own. include/lukaripe.h is their C side.
+#![tactic(auto)]
+
 ghost use Rattle.std.specs.Prelude.{◌≡◌};
 ghost use Rattle.util_defs.specs.Power.{power_of_two};
 ghost use Rattle.util_defs.specs.Helpers.{padding_for, round_down_for, max_for, min_for};
@@ -15,14 +17,14 @@ use trailing::{AdvanceAnswer, SizeAnswer, TrailingSliceLayout};
 use util::{Answer, Decision, refusal};
 
 #[repr(C)]
-#[derive(Drop)]
+#[derive(Clone, Copy)]
 pub struct Number {
     pub refusal: u64,
     pub value: u64,
 }
 
 #[repr(C)]
-#[derive(Drop)]
+#[derive(Clone, Copy)]
 pub struct Components {
     pub refusal: u64,
     pub align: u64,
@@ -31,7 +33,7 @@ pub struct Components {
 
 // A trailing layout: the last four words of its record.
 #[repr(C)]
-#[derive(Drop)]
+#[derive(Clone, Copy)]
 pub struct Trailing {
     pub size_base: u64,
     pub offset: u64,
@@ -40,7 +42,7 @@ pub struct Trailing {
 }
 
 #[repr(C)]
-#[derive(Drop)]
+#[derive(Clone, Copy)]
 pub struct TrailingAnswer {
     pub refusal: u64,
     pub layout: Trailing,

@@ -1,5 +1,7 @@
 // The composition with places for C and Rust: no logic of its own. include/lukaripe.h is its C side. It stands apart, so that
 // what it calls is called once here, and inlined.
+#![tactic(auto)]
+
 ghost use Rattle.std.specs.Prelude.{◌≡◌, length};
 ghost use Rattle.make.specs.Make.{empty_layout};
 ghost use Rattle.compose_defs.specs.Places.{listed, places_of, gaps_of, places_for, written};

@@ -1,4 +1,6 @@
 // The rewriting of descriptions for C and Rust: no logic of its own. include/lukaripe.h is its C side.
+#![tactic(auto)]
+
 ghost use Rattle.std.specs.Prelude.{◌≡◌, length};
 ghost use Rattle.scalar.specs.Scalar.{target64};
 ghost use Rattle.rewrite_defs.specs.Rewrite.{longer, shorter, rewrite_for, bytes_for, filled};

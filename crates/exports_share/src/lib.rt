@@ -1,5 +1,7 @@
 // The padding over a list of counts for C and Rust: no logic of its own. include/lukaripe.h is its C side. It stands apart, so
 // that what it calls is called once here, and inlined.
+#![tactic(auto)]
+
 ghost use Rattle.std.specs.Prelude.{◌≡◌};
 ghost use Rattle.share_defs.specs.Share.{share_for};
 ghost use Rattle.share.specs.View.{share_says};
@@ -12,7 +14,7 @@ use share::ShareAnswer;
 // Total padding over total size and the mean size as fractions in lowest terms, the greatest padding and its first index; or the
 // refusal and where.
 #[repr(C)]
-#[derive(Drop)]
+#[derive(Clone, Copy)]
 pub struct PaddingOut {
     pub refusal: u64,
     pub place: u64,

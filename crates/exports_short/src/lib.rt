@@ -1,5 +1,7 @@
 // Short records for C and Rust, one by one, and how the moves of lists cross: no logic of their own. include/lukaripe.h is their
 // C side. Each move stands in a crate of its own, so that what it calls is called there alone, and inlined.
+#![tactic(auto)]
+
 ghost use Rattle.std.specs.Prelude.{◌≡◌, length};
 ghost use Rattle.short_defs.specs.Short.{decode_short_for, encode_short_words_for, encoded_short_words_into};
 ghost use Rattle.exports_layouts.specs.Layouts.{words_given, layout_out, refusal_out};
@@ -12,7 +14,7 @@ use record::{EncodeAnswer, Words};
 
 // The number of bytes that a move wrote, or its refusal and where.
 #[repr(C)]
-#[derive(Drop)]
+#[derive(Clone, Copy)]
 pub struct MovedOut {
     pub refusal: u64,
     pub place: u64,

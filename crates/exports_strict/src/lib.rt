@@ -1,5 +1,7 @@
 // The strict composition for C and Rust: no logic of its own. include/lukaripe.h is its C side. It stands apart, so that the
 // ported composition does not test what this one heeds.
+#![tactic(auto)]
+
 ghost use Rattle.std.specs.Prelude.{◌≡◌};
 ghost use Rattle.compose_defs.specs.Compose.{strict, struct_for};
 ghost use Rattle.exports_layouts.specs.Layouts.{composed_out};

@@ -1,6 +1,8 @@
 // The working layout for C and Rust: no logic of its own. include/lukaripe.h is its C side. A layout crosses as six words, so the
 // caller keeps those and lends them: a `DstLayout` holds an enum, which does not cross. The addition of a record stands apart, in
 // exports_working_record, so that what an export calls is called once, and inlined.
+#![tactic(auto)]
+
 ghost use Rattle.std.specs.Prelude.{◌≡◌};
 ghost use Rattle.make.specs.Make.{new_zst_for};
 ghost use Rattle.record_defs.specs.Record.{words_for};
@@ -13,7 +15,7 @@ use layout::{Check, LayoutAnswer};
 use working::Addition;
 
 // What an addition gives: the refusal, or 0, and the words of the working layout after it.
-#[derive(Drop)]
+#[derive(Clone, Copy)]
 pub struct Worked {
     pub refusal: u64,
     pub layout: Layout,

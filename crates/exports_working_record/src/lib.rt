@@ -1,4 +1,6 @@
 // The addition of a record to a working layout for C and Rust: no logic of its own. include/lukaripe.h is its C side.
+#![tactic(auto)]
+
 ghost use Rattle.std.specs.Prelude.{◌≡◌};
 ghost use Rattle.record_defs.specs.Record.{decode_for};
 ghost use Rattle.exports_layouts.specs.Layouts.{words_given};

@@ -1,5 +1,7 @@
 // The member step, after zerocopy's method extend of DstLayout. A method stands in the crate of its type; the step and what it
 // calls are functions in a crate of their own, since an edit of them then proves no other function of layouts again.
+#![tactic(auto)]
+
 ghost use Rattle.std.specs.Prelude.{◌≡◌, ℕ};
 ghost use Rattle.util_defs.specs.Round.{padding};
 ghost use Rattle.util_defs.specs.Power.{PowerOfTwo};

@@ -1,5 +1,7 @@
 // A page read in place: the front part of the map where its prefix cast is granted, else of the spare copy where that one's is
 // (document 02, request 13). Both are only read, and no byte is copied.
+#![tactic(auto)]
+
 ghost use Rattle.std.specs.Prelude.{◌≡◌, length};
 ghost use Rattle.layout.specs.View.{layout_of};
 ghost use Rattle.front_defs.specs.Front.{serving_for, Serves, front_for, FrontMeans};
@@ -9,7 +11,7 @@ use cast::{CastAnswer, CastType};
 use layout::DstLayout;
 
 // Which of two buffers serves, and what its cast granted; beside it the number of each cast that was refused before.
-#[derive(Drop)]
+#[derive(Clone, Copy)]
 pub enum Serving {
     Map {
         elems: u64,

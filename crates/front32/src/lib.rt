@@ -1,6 +1,8 @@
 // A page read in place, at 32 bits: the front part of the map where its prefix cast is granted, else of the spare copy where that
 // one's is (document 02, request 13). Both are only read, and no byte is copied. A buffer may have more bytes than 32 bits
 // number: its cast is then refused, by 11 where nothing comes before it, and its length is never cut off.
+#![tactic(auto)]
+
 ghost use Rattle.std.specs.Prelude.{◌≡◌, length};
 ghost use Rattle.layouts32.specs.View.{layout_of32};
 ghost use Rattle.front_defs.specs.Front.{serving_for, Serves, front_for, FrontMeans};
@@ -11,7 +13,7 @@ use casts32::CastAnswer32;
 use layouts32::DstLayout32;
 
 // Which of two buffers serves, and what its cast granted; beside it the number of each cast that was refused before.
-#[derive(Drop)]
+#[derive(Clone, Copy)]
 pub enum Serving32 {
     Map {
         elems: u32,

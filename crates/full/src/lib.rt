@@ -1,6 +1,8 @@
 // The full comparison of the sizes of two trailing layouts, and the normal form of one (document 02, request 9). zerocopy has
 // neither. Both take a phase as the sizes see it: elements step by multiples of the lowest one bit of their size, so that
 // phases between two such multiples give the same sizes.
+#![tactic(auto)]
+
 ghost use Rattle.std.specs.Prelude.{◌≡◌, ◌+◌, ◌-◌, ◌%◌, ◌^◌, ◌<◌};
 ghost use Rattle.util_defs.specs.Power.{PowerOfTwo};
 ghost use Rattle.util_defs.specs.Round.{up};
@@ -20,7 +22,7 @@ use trailing::{SizeAnswer, TrailingSliceLayout};
 use util::{Decision, refusal};
 
 // What of a trailing layout its sizes show. It has neither an offset nor an alignment.
-#[derive(Drop)]
+#[derive(Clone, Copy)]
 pub struct NormalForm {
     pub size_base: u64,
     pub size_rounding_align_and_phase: RoundingAlignAndPhase,
@@ -28,7 +30,7 @@ pub struct NormalForm {
 }
 
 // A normal form, or the number of the refusal.
-#[derive(Drop)]
+#[derive(Clone, Copy)]
 pub enum FormAnswer {
     Form(NormalForm),
     Refused(u64),

@@ -1,4 +1,6 @@
 // The greatest common divisor of two numbers.
+#![tactic(auto)]
+
 ghost use Rattle.std.specs.Prelude.{◌≡◌};
 ghost use Rattle.gcd_defs.specs.Gcd.{GreatestDivisor, gcd};
 

@@ -1,1 +1,2 @@
 // No code: the definitions of the greatest common divisor and of fractions, and their laws.
+#![tactic(auto)]

@@ -1,4 +1,6 @@
 // The conversion guarantee, of what the calls of a conversion and of the casts after it return.
+#![tactic(auto)]
+
 ghost use Rattle.std.specs.Prelude.{◌≡◌};
 ghost use Rattle.util.specs.View.{number_says};
 ghost use Rattle.layout.specs.View.{layout_of};
@@ -15,7 +17,7 @@ use shift::Mode;
 use util::Answer;
 
 // The answers of a conversion of src_meta elements and of two prefix casts of its target.
-#[derive(Drop)]
+#[derive(Clone, Copy)]
 pub struct Carried {
     pub computed: ComputeAnswer,
     pub count: Answer,

@@ -1,4 +1,6 @@
 // The conversion guarantee at 32 bits, of what the calls of a conversion and of the casts after it return.
+#![tactic(auto)]
+
 ghost use Rattle.std.specs.Prelude.{◌≡◌};
 ghost use Rattle.shift_defs.specs.Mode.{comparison_of};
 ghost use Rattle.shift.specs.View.{mode_of};
@@ -16,7 +18,7 @@ use numbers32::Answer32;
 use shift::Mode;
 
 // The answers of a conversion of src_meta elements and of two prefix casts of its target.
-#[derive(Drop)]
+#[derive(Clone, Copy)]
 pub struct Carried32 {
     pub computed: ComputeAnswer32,
     pub count: Answer32,

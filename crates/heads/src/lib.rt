@@ -1,5 +1,7 @@
 // The heads of the parts of a description: a tag, and what stands between that and the parts in it. Of words of so many bits: an
 // alignment or a packing that they do not hold is refused.
+#![tactic(auto)]
+
 ghost use Rattle.std.specs.Prelude.{◌≡◌, ◌+◌, ◌≤◌, ◌<◌, length, take, drop};
 ghost use Rattle.util_defs.specs.Placed.{reached, go_on};
 ghost use Rattle.words.specs.Bytes.{value_of};
@@ -31,14 +33,14 @@ pub const COUNT_BYTES: usize = 4;
 const LONG_COUNT_BYTES: usize = 2;
 
 // A number that was read, or the number of the refusal and its place.
-#[derive(Drop)]
+#[derive(Clone, Copy)]
 pub enum NumberAnswer {
     Number(u64),
     Refused { number: u64, place: usize },
 }
 
 // The head of a part, of a struct with the place of its first member; or the number of the refusal and its place.
-#[derive(Drop)]
+#[derive(Clone, Copy)]
 pub enum HeadAnswer {
     Scalar(u64),
     Array {

@@ -1,4 +1,6 @@
 // Whole layouts, after zerocopy's DstLayout.
+#![tactic(auto)]
+
 ghost use Rattle.std.specs.Prelude.{◌≡◌};
 ghost use Rattle.util_defs.specs.Refusal.{Meets};
 ghost use Rattle.util.specs.View.{number_says};
@@ -10,13 +12,13 @@ use trailing::TrailingSliceLayout;
 use util::{Answer, refusal};
 
 // How large a layout is: a size, or a size at each count.
-#[derive(Drop)]
+#[derive(Clone, Copy)]
 pub enum SizeInfo {
     Sized { size: u64 },
     SliceDst(TrailingSliceLayout),
 }
 
-#[derive(Drop)]
+#[derive(Clone, Copy)]
 pub struct DstLayout {
     pub align: u64,
     pub size_info: SizeInfo,
@@ -27,7 +29,7 @@ pub struct DstLayout {
 }
 
 // A layout with a size: no member of it is trailing.
-#[derive(Drop)]
+#[derive(Clone, Copy)]
 pub struct SizedLayout {
     pub align: u64,
     pub size: u64,
@@ -36,21 +38,21 @@ pub struct SizedLayout {
 }
 
 // A layout, or the number of the refusal.
-#[derive(Drop)]
+#[derive(Clone, Copy)]
 pub enum LayoutAnswer {
     Layout(DstLayout),
     Refused(u64),
 }
 
 // How large a layout is, or the number of the refusal.
-#[derive(Drop)]
+#[derive(Clone, Copy)]
 pub enum SizeInfoAnswer {
     Info(SizeInfo),
     Refused(u64),
 }
 
 // Whether a layout is accepted, or the number of the refusal.
-#[derive(Drop)]
+#[derive(Clone, Copy)]
 pub enum Check {
     Accepted,
     Refused(u64),

@@ -1,4 +1,6 @@
 // Whole layouts at 32 bits, by those at 64: made of numbers, checked, and asked for their padding.
+#![tactic(auto)]
+
 ghost use Rattle.std.specs.Prelude.{◌≡◌, true, false};
 ghost use Rattle.util_defs.specs.Refusal.{Tells, Meets};
 ghost use Rattle.util_defs.specs.Helpers.{align_causes};
@@ -17,14 +19,14 @@ use trailing32::TrailingSliceLayout32;
 use util::Decision;
 
 // How large a layout is: a size, or a size at each count.
-#[derive(Drop)]
+#[derive(Clone, Copy)]
 pub enum SizeInfo32 {
     Sized { size: u32 },
     SliceDst(TrailingSliceLayout32),
 }
 
 // Its fields are those of DstLayout.
-#[derive(Drop)]
+#[derive(Clone, Copy)]
 pub struct DstLayout32 {
     pub align: u32,
     pub size_info: SizeInfo32,
@@ -33,7 +35,7 @@ pub struct DstLayout32 {
 }
 
 // A layout, or the number of the refusal.
-#[derive(Drop)]
+#[derive(Clone, Copy)]
 pub enum LayoutAnswer32 {
     Layout(DstLayout32),
     Refused(u64),

@@ -1,4 +1,6 @@
 // Reads a member list from standard input and prints the line of what it composes to.
+#![tactic(auto)]
+
 use libc::{STDIN_FILENO, STDOUT_FILENO};
 
 // Whether the input went on to its end, or filled the buffer. A read that failed has stopped read_full as the end does; at

@@ -1,4 +1,6 @@
 // Prints the line of each list of data/: the scope's own cases, and the edges of the listing, at both widths.
+#![tactic(auto)]
+
 use libc::STDOUT_FILENO;
 
 // The name of a list and its line at a width.

@@ -1,4 +1,6 @@
 // Layouts made of numbers, after zerocopy's constructors of DstLayout.
+#![tactic(auto)]
+
 ghost use Rattle.std.specs.Prelude.{◌≡◌, true, false};
 ghost use Rattle.util_defs.specs.Refusal.{unless, Meets};
 ghost use Rattle.util_defs.specs.Helpers.{align_causes};

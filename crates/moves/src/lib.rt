@@ -1,5 +1,7 @@
 // Lists of records of 48 bytes moved to short ones of 32, between two lent buffers (document 02, request 6). The whole list is
 // tested first, so that nothing is written where it is refused.
+#![tactic(auto)]
+
 ghost use Rattle.std.specs.Prelude.{◌≡◌, ◌*◌, ◌/◌, ◌%◌, ◌≤◌, length};
 ghost use Rattle.util_defs.specs.Refusal.{answered};
 ghost use Rattle.util_defs.specs.Placed.{reached, judged};
@@ -14,14 +16,14 @@ use short::SHORT_BYTES;
 use util::refusal;
 
 // The number of bytes written, or the number of the refusal and its place.
-#[derive(Drop)]
+#[derive(Clone, Copy)]
 pub enum MoveAnswer {
     Written(u64),
     Refused { number: u64, place: u64 },
 }
 
 // Whether every record is accepted, or the first refusal and the index of its record.
-#[derive(Drop)]
+#[derive(Clone, Copy)]
 pub enum TestAnswer {
     Accepted,
     Refused { number: u64, place: u64 },

@@ -1,5 +1,7 @@
 // Lists of short records moved back to those of 48 bytes, between two lent buffers (document 02, request 6). The whole list is
 // tested first, so that nothing is written where it is refused.
+#![tactic(auto)]
+
 ghost use Rattle.std.specs.Prelude.{◌≡◌, ◌*◌, ◌/◌, ◌%◌, ◌≤◌, length};
 ghost use Rattle.util_defs.specs.Refusal.{answered};
 ghost use Rattle.util_defs.specs.Placed.{reached, judged};

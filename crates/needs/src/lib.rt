@@ -1,4 +1,6 @@
 // What padding a layout needs, after zerocopy's DstLayout.
+#![tactic(auto)]
+
 ghost use Rattle.std.specs.Prelude.{◌≡◌, false, ◌<◌};
 ghost use Rattle.util_defs.specs.Refusal.{answered, Meets, Tells};
 ghost use Rattle.util.specs.View.{decision_says};

@@ -1,5 +1,7 @@
 // Rounding helpers and rounding words at 32 bits, by those at 64: the numbers are widened, and the lower half of what comes back
 // is the answer, since 32 bits hold it.
+#![tactic(auto)]
+
 ghost use Rattle.std.specs.Prelude.{◌≡◌};
 ghost use Rattle.util_defs.specs.Power.{PowerOfTwo, power_of_two};
 ghost use Rattle.util_defs.specs.Round.{GreatestMultiple, LeastPadding};
@@ -18,25 +20,25 @@ use util::Answer;
 pub const MAX: u64 = 0xffff_ffff;
 
 // A number, or the number of the refusal.
-#[derive(Drop)]
+#[derive(Clone, Copy)]
 pub enum Answer32 {
     Number(u32),
     Refused(u64),
 }
 
 // The word, kept apart from every other number. Its highest one bit is the alignment, the rest the phase.
-#[derive(Drop)]
+#[derive(Clone, Copy)]
 pub struct RoundingAlignAndPhase32(pub u32);
 
 // A word, or the number of the refusal.
-#[derive(Drop)]
+#[derive(Clone, Copy)]
 pub enum NewAnswer32 {
     Word(RoundingAlignAndPhase32),
     Refused(u64),
 }
 
 // The parts of a word, or the number of the refusal.
-#[derive(Drop)]
+#[derive(Clone, Copy)]
 pub enum ComponentsAnswer32 {
     Components { align: u32, phase: u32 },
     Refused(u64),

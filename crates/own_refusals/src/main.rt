@@ -1,6 +1,8 @@
 // The functions' own 1 and 2. Across the C boundary a layout is tested before the function that takes it is called, so these are
 // called here directly, with an alignment of 0, one of 3, a rounding word of 0, and, where there are two layouts, with a bad
 // second one and with two bad ones.
+#![tactic(auto)]
+
 use cast::{CastAnswer, CastType};
 use convert::ComputeAnswer;
 use layout::{Check, DstLayout, LayoutAnswer, SizeInfo};

@@ -1,5 +1,7 @@
 // The composition of a list of member records that also writes where each member landed. The members are composed first, so that
 // nothing is written where they are refused; then their places are worked out once more, in the same order.
+#![tactic(auto)]
+
 ghost use Rattle.std.specs.Prelude.{◌≡◌, ◌/◌, ◌%◌, ◌&&◌, length, ◌==◌};
 ghost use Rattle.util_defs.specs.Refusal.{answered};
 ghost use Rattle.layout_defs.specs.Layout.{Layout};
@@ -17,7 +19,7 @@ use record::RECORD_BYTES;
 use util::{Answer, refusal};
 
 // Where a member lands, the gap before it, and where it ends.
-#[derive(Drop)]
+#[derive(Clone, Copy)]
 struct Spot {
     place: u64,
     gap: u64,

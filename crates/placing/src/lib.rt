@@ -1,5 +1,7 @@
 // The last part of the member step, after zerocopy's method extend of DstLayout: a member put at its place. It stands in a crate
 // of its own, since an edit of it then proves none of the step's other functions again.
+#![tactic(auto)]
+
 ghost use Rattle.std.specs.Prelude.{◌≡◌, max, ◌&&◌, ◌||◌, [], ◌∷◌, ◌==◌, nat_eq};
 ghost use Rattle.util_defs.specs.Refusal.{unless};
 ghost use Rattle.trailing.specs.View.{trailing_of};

@@ -1,4 +1,6 @@
 // Records of layouts.
+#![tactic(auto)]
+
 ghost use Rattle.std.specs.Prelude.{◌≡◌, cond, ◌&&◌, ◌+◌, ◌≤◌, ◌<◌, eqb, length};
 ghost use Rattle.std.proofs.lemmas.List.Edits.{sets};
 ghost use Rattle.util_defs.specs.Refusal.{Meets};
@@ -14,7 +16,7 @@ use trailing::TrailingSliceLayout;
 use util::refusal;
 
 // The six words of a record.
-#[derive(Drop)]
+#[derive(Clone, Copy)]
 pub struct Words {
     pub align: u64,
     pub kind: u64,
@@ -27,7 +29,7 @@ pub struct Words {
 }
 
 // Whether a record was written, or the number of the refusal.
-#[derive(Drop)]
+#[derive(Clone, Copy)]
 pub enum EncodeAnswer {
     Encoded,
     Refused(u64),

@@ -1,5 +1,7 @@
 // Records of layouts at 32 bits, by those at 64: a record keeps 64-bit fields, and a number that 32 bits do not hold is refused
 // after the record's own tests.
+#![tactic(auto)]
+
 ghost use Rattle.std.specs.Prelude.{◌≡◌, length};
 ghost use Rattle.util_defs.specs.Refusal.{Meets};
 ghost use Rattle.layout.specs.View.{layout_says};

@@ -1,5 +1,7 @@
 // Recorded answers: lines of decimal numbers with single spaces between, and whether a line has what a call told.
 // rust/differential/recorded.rs says what the numbers of a line are; tools/record writes them.
+#![tactic(auto)]
+
 ghost use Rattle.std.specs.Prelude.{◌≡◌, false, ◌+◌, ◌≤◌, length, drop, replicate};
 ghost use Rattle.io.specs.Counts.{IsPrefixLen};
 ghost use Rattle.recorded_defs.specs.Lines.{digit_of, end_of, number_from, unread, line_at, Ahead, same_from, agrees_with, one_more};
@@ -12,7 +14,7 @@ pub const WIDTH: usize = 64;
 pub const LENGTH: usize = 13;
 
 // A number of a line, or none where it does not read as one.
-#[derive(Drop)]
+#[derive(Clone, Copy)]
 enum Number {
     At {
         value: u64,
@@ -24,7 +26,7 @@ enum Number {
     Nothing,
 }
 
-#[derive(Drop)]
+#[derive(Clone, Copy)]
 pub struct Line {
     // The numbers of the line, and 0 after them.
     pub numbers: [u64; WIDTH],
@@ -35,7 +37,7 @@ pub struct Line {
 }
 
 // What a call tells: how many inputs it took from the line, and the numbers of its answer, which the line has behind them.
-#[derive(Drop)]
+#[derive(Clone, Copy)]
 pub struct Told {
     pub inputs: usize,
     pub length: usize,
@@ -43,7 +45,7 @@ pub struct Told {
 }
 
 // Lines, and how many of them differ from what was told.
-#[derive(Drop)]
+#[derive(Clone, Copy)]
 pub struct Tally {
     pub lines: u64,
     pub differ: u64,

@@ -1,4 +1,6 @@
 // Replays recorded answers at 32 bits of the functions of casts and conversions.
+#![tactic(auto)]
+
 mod calls;
 
 use calls::call;

@@ -1,4 +1,6 @@
 // Replays recorded answers at 32 bits of the functions of numbers, of trailing layouts and of the padding over counts.
+#![tactic(auto)]
+
 mod calls;
 
 use calls::call;

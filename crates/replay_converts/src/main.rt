@@ -1,4 +1,6 @@
 // Replays recorded answers of the functions of casts and conversions.
+#![tactic(auto)]
+
 mod calls;
 
 use calls::call;

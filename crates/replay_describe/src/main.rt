@@ -1,4 +1,6 @@
 // Replays recorded answers of the reader of descriptions, of arrays and slices, and of descriptions rewritten.
+#![tactic(auto)]
+
 mod calls;
 
 use calls::call;

@@ -1,4 +1,6 @@
 // Replays recorded answers of the functions of layouts, records and member lists.
+#![tactic(auto)]
+
 mod calls;
 
 use calls::call;

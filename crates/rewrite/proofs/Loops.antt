@@ -1,7 +1,7 @@
 -- The loops over the heads of a description. Assumes nothing.
 use mathlib.Core.Path.{◌≡◌, refl, sym, ap, ◌∙◌}
 use mathlib.Core.Bool.{Bool, true, false, cond}
-use mathlib.Core.List.{List, [], ◌∷◌, ◌++◌, map, append_nil, append_assoc}
+use mathlib.Core.List.{List, [], ◌∷◌, ◌++◌, map, append-nil, append_assoc}
 use Prim.Native.Nat.{ℕ, ◌+◌, ◌-◌, ◌≤◌, ◌<◌}
 use native.Mathlib.Omega.{arith}
 use lib.Dec.{eqb}
@@ -178,5 +178,5 @@ module _ (way : Way) (s out₀ : List ℕ) where
     pub write-ends : length s ≤ at → out ≡ filled (reached (rewritten way s)) out₀
     write-ends h =
         let n = no_more s at x.heads x.whole x.is h in
-        let e : x.front ≡ rewritten way s = sym (append_nil x.front) ∙ ap (λ (hs : List (List ℕ)). x.front ++ joined (map (turned_head way) hs)) (sym n) ∙ x.all in
+        let e : x.front ≡ rewritten way s = sym (append-nil x.front) ∙ ap (λ (hs : List (List ℕ)). x.front ++ joined (map (turned_head way) hs)) (sym n) ∙ x.all in
         x.bytes ∙ ap (λ (i : ℕ). x.front ++ drop i out₀) x.so_far ∙ ap (λ (u : List ℕ). u ++ drop (length u) out₀) e

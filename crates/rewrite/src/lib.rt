@@ -1,5 +1,7 @@
 // Descriptions rewritten into a lent output: each struct's member count in two bytes, or in one (document 02, request 8). What is
 // read at a width is rewritten alike.
+#![tactic(auto)]
+
 ghost use Rattle.std.specs.Prelude.{◌≡◌, true, ◌+◌, ◌≤◌, eqb, leb, length, take, drop, get_or};
 ghost use Rattle.std.proofs.lemmas.List.Edits.{sets};
 ghost use Rattle.util_defs.specs.Placed.{reached, go_on};
@@ -17,14 +19,14 @@ use heads::{ARRAY_TAG, LONG_STRUCT_TAG, STRUCT_TAG};
 use util::refusal;
 
 // The number of bytes written, or the number of the refusal and its place.
-#[derive(Drop)]
+#[derive(Clone, Copy)]
 pub enum RewriteAnswer {
     Written(u64),
     Refused { number: u64, place: u64 },
 }
 
 // How many heads are turned, or the place of the first whose count does not fit one byte.
-#[derive(Drop)]
+#[derive(Clone, Copy)]
 enum TurnedAnswer {
     Turned(usize),
     Above(usize),

@@ -1,4 +1,6 @@
 // The rounding word, after zerocopy's RoundingAlignAndPhase: an alignment and a phase below it, packed as their sum.
+#![tactic(auto)]
+
 ghost use Rattle.std.specs.Prelude.{◌≡◌};
 ghost use Rattle.util_defs.specs.Refusal.{Meets};
 ghost use Rattle.util.specs.View.{number_says};
@@ -8,18 +10,18 @@ ghost use Rattle.rounding.specs.View.{word_of, new_says, components_says};
 use util::{Answer, refusal};
 
 // The word, kept apart from every other number. Its highest one bit is the alignment, the rest the phase.
-#[derive(Drop)]
+#[derive(Clone, Copy)]
 pub struct RoundingAlignAndPhase(pub u64);
 
 // A word, or the number of the refusal.
-#[derive(Drop)]
+#[derive(Clone, Copy)]
 pub enum NewAnswer {
     Word(RoundingAlignAndPhase),
     Refused(u64),
 }
 
 // The parts of a word, or the number of the refusal.
-#[derive(Drop)]
+#[derive(Clone, Copy)]
 pub enum ComponentsAnswer {
     Components { align: u64, phase: u64 },
     Refused(u64),

@@ -1,4 +1,6 @@
 // Scalars by code on the 32-bit target.
+#![tactic(auto)]
+
 ghost use Rattle.std.specs.Prelude.{◌≡◌, ◌<◌, min, get_or};
 ghost use Rattle.util_defs.specs.Refusal.{Meets};
 ghost use Rattle.scalar.specs.Scalar.{scalar_causes, scalar_layout, scalar_for};

@@ -1,6 +1,8 @@
 // The comparison of the sizes of two trailing layouts at every count, after zerocopy's method has_same_size_sequence of
 // TrailingSliceLayout. A method stands in the crate of its type; this is a function in a crate of its own, since an edit of it
 // then proves none of the layout's other functions again.
+#![tactic(auto)]
+
 ghost use Rattle.std.specs.Prelude.{◌≡◌, ◌<◌};
 ghost use Rattle.util_defs.specs.Power.{PowerOfTwo};
 ghost use Rattle.util_defs.specs.Refusal.{Meets};

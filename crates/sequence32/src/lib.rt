@@ -1,4 +1,6 @@
 // The sizes of two trailing layouts compared, and the normal form of one, at 32 bits, by those at 64.
+#![tactic(auto)]
+
 ghost use Rattle.std.specs.Prelude.{◌≡◌};
 ghost use Rattle.util_defs.specs.Width.{M};
 ghost use Rattle.util_defs.specs.Refusal.{Meets};
@@ -19,7 +21,7 @@ use trailing32::{SizeAnswer32, TrailingSliceLayout32};
 use util::{Decision, refusal};
 
 // What of a trailing layout its sizes show. It has neither an offset nor an alignment.
-#[derive(Drop)]
+#[derive(Clone, Copy)]
 pub struct NormalForm32 {
     pub size_base: u32,
     pub size_rounding_align_and_phase: RoundingAlignAndPhase32,
@@ -27,7 +29,7 @@ pub struct NormalForm32 {
 }
 
 // A normal form, or the number of the refusal.
-#[derive(Drop)]
+#[derive(Clone, Copy)]
 pub enum FormAnswer32 {
     Form(NormalForm32),
     Refused(u64),

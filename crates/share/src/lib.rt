@@ -1,5 +1,7 @@
 // How much of the sizes of a trailing layout at a list of counts is padding (document 02, request 12), at 64 bits and at 32. The
 // counts are summed up in one pass (the crate sums); the two fractions are brought to lowest terms at the end.
+#![tactic(auto)]
+
 ghost use Rattle.std.specs.Prelude.{◌≡◌, cond, ◌<◌, eqb};
 ghost use Rattle.util_defs.specs.Placed.{reached, go_on};
 ghost use Rattle.trailing.specs.View.{trailing_of};
@@ -16,14 +18,14 @@ use trailing::TrailingSliceLayout;
 use trailing32::TrailingSliceLayout32;
 
 // One number over another.
-#[derive(Drop)]
+#[derive(Clone, Copy)]
 pub struct Fraction {
     pub numerator: u64,
     pub denominator: u64,
 }
 
 // Total padding over total size and the mean size, in lowest terms; the greatest padding and its first index.
-#[derive(Drop)]
+#[derive(Clone, Copy)]
 pub struct Share {
     pub padding: Fraction,
     pub mean: Fraction,
@@ -32,26 +34,26 @@ pub struct Share {
 }
 
 // Those, or the number of the refusal and its place.
-#[derive(Drop)]
+#[derive(Clone, Copy)]
 pub enum ShareAnswer {
     Share(Share),
     Refused { number: u64, place: u64 },
 }
 
 // The same at 32 bits. There may be more counts than 32 bits number: how many there are, and an index, have 64 bits.
-#[derive(Drop)]
+#[derive(Clone, Copy)]
 pub struct Fraction32 {
     pub numerator: u32,
     pub denominator: u32,
 }
 
-#[derive(Drop)]
+#[derive(Clone, Copy)]
 pub struct Mean32 {
     pub numerator: u32,
     pub denominator: u64,
 }
 
-#[derive(Drop)]
+#[derive(Clone, Copy)]
 pub struct Share32 {
     pub padding: Fraction32,
     pub mean: Mean32,
@@ -59,7 +61,7 @@ pub struct Share32 {
     pub index: u64,
 }
 
-#[derive(Drop)]
+#[derive(Clone, Copy)]
 pub enum ShareAnswer32 {
     Share(Share32),
     Refused { number: u64, place: u64 },

@@ -54,6 +54,7 @@ padding_size w t (n ∷ ns) = omega (arith, padding_size w t ns)
 
 -- the number at an index of a list that was mapped
 map_at : (f : ℕ → ℕ) (ns : List ℕ) (j : ℕ) → j < length ns → get_or (map f ns) j 0 ≡ f (get_or ns j 0)
+map_at f [] j l = elim l [ ]
 map_at f (n ∷ ns) zero l = refl
 map_at f (n ∷ ns) (suc j) l = map_at f ns j (omega arith)
 

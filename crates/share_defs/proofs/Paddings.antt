@@ -13,11 +13,17 @@ use Rattle.share_defs.specs.Meaning.{Paddings, PaddingWithin}
 
 -- the total padding is at most the total size
 pub padding_within : (w : ℕ) → PaddingWithin w
+padding_within w t (n ∷ ns) [] x = elim x [ ]
+padding_within w t [] (q ∷ qs) x = elim x [ ]
 padding_within w t [] [] x = omega arith
 padding_within w t (n ∷ ns) (q ∷ qs) x = omega (arith, x.0, padding_within w t ns qs x.1)
 
 -- the paddings are one list
 pub one_paddings : (w : ℕ) (t : Trailing) (ns qs rs : List ℕ) → Paddings w t ns qs → Paddings w t ns rs → qs ≡ rs
+one_paddings w t (n ∷ ns) (q ∷ qs) [] x y = elim y [ ]
+one_paddings w t (n ∷ ns) [] rs x y = elim x [ ]
+one_paddings w t [] (q ∷ qs) rs x y = elim x [ ]
+one_paddings w t [] [] (r ∷ rs) x y = elim y [ ]
 one_paddings w t [] [] [] x y = refl
 one_paddings w t (n ∷ ns) (q ∷ qs) (r ∷ rs) x y =
     ap₂ (λ (z : ℕ) (zs : List ℕ). z ∷ zs) (omega (arith, x.0, y.0)) (one_paddings w t ns qs rs x.1 y.1)
@@ -32,6 +38,7 @@ all_from P [] f = tt
 all_from P (n ∷ ns) f = (f 0 (omega arith), all_from P ns (λ j l. f (suc j) (omega arith)))
 
 pub all_at : (P : ℕ → Type 0) (ns : List ℕ) → All P ns → (j : ℕ) → j < length ns → P (get_or ns j 0)
+all_at P [] a j l = elim l [ ]
 all_at P (n ∷ ns) a zero l = a.0
 all_at P (n ∷ ns) a (suc j) l = all_at P ns a.1 j (omega arith)
 

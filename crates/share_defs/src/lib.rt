@@ -1,1 +1,2 @@
 // No code: the definitions of the padding over a list of counts, and their laws over any width.
+#![tactic(auto)]

@@ -1,5 +1,7 @@
 // The shift of a conversion, after zerocopy's CastParams: whether the sizes of a target, shifted, are those of a source, and the
 // count of the target at which they are. Each is found by the comparison of a mode.
+#![tactic(auto)]
+
 ghost use Rattle.std.specs.Prelude.{◌≡◌, ◌<◌};
 ghost use Rattle.util_defs.specs.Refusal.{Meets};
 ghost use Rattle.util.specs.View.{decision_says};
@@ -20,21 +22,21 @@ use trailing::{AdvanceAnswer, SizeAnswer, TrailingSliceLayout};
 use util::{Answer, Decision, Product, refusal};
 
 // What compares the sizes of two layouts: the ported comparison, of which a no does not mean that they differ, or the full one.
-#[derive(Drop)]
+#[derive(Clone, Copy)]
 pub enum Mode {
     Ported,
     Full,
 }
 
 // A shift in whole target elements, or none.
-#[derive(Drop)]
+#[derive(Clone, Copy)]
 pub enum Shift {
     By(u64),
     Missing,
 }
 
 // A shift, or the number of the refusal.
-#[derive(Drop)]
+#[derive(Clone, Copy)]
 pub enum ShiftAnswer {
     Shift(Shift),
     Refused(u64),

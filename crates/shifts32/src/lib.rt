@@ -1,4 +1,6 @@
 // The shift of a conversion at 32 bits, by that at 64.
+#![tactic(auto)]
+
 ghost use Rattle.std.specs.Prelude.{◌≡◌};
 ghost use Rattle.util_defs.specs.Refusal.{Meets};
 ghost use Rattle.util.specs.View.{decision_says};
@@ -19,14 +21,14 @@ use trailing32::TrailingSliceLayout32;
 use util::Decision;
 
 // A shift in whole target elements, or none.
-#[derive(Drop)]
+#[derive(Clone, Copy)]
 pub enum Shift32 {
     By(u32),
     Missing,
 }
 
 // A shift, or the number of the refusal.
-#[derive(Drop)]
+#[derive(Clone, Copy)]
 pub enum ShiftAnswer32 {
     Shift(Shift32),
     Refused(u64),

@@ -1,4 +1,6 @@
 // Records of 32 bytes, short ones (document 02, request 6): the form of a layout's record without the bytes that are always 0.
+#![tactic(auto)]
+
 ghost use Rattle.std.specs.Prelude.{◌≡◌, true, ◌≤◌, ◌<◌, ◌^◌, leb, length};
 ghost use Rattle.std.proofs.lemmas.List.Edits.{sets};
 ghost use Rattle.util_defs.specs.Power.{power_of_two};
@@ -18,7 +20,7 @@ use record::{EncodeAnswer, GREATEST_KIND, Words};
 use util::refusal;
 
 // The fields of a short record. The last four share its last eight bytes.
-#[derive(Drop)]
+#[derive(Clone, Copy)]
 struct Short {
     size: u64,
     offset: u64,

@@ -1,6 +1,6 @@
 -- Lists of records moved one way: what stops them, what they become, and how the code's loops go. Assumes nothing.
 use mathlib.Core.Path.{◌≡◌, refl, sym, ap, ◌∙◌}
-use mathlib.Core.List.{List, ◌++◌, append_nil, append_assoc}
+use mathlib.Core.List.{List, ◌++◌, append-nil, append_assoc}
 use Prim.Native.Nat.{ℕ, zero, suc, ◌+◌, ◌-◌, ◌*◌, ◌≤◌, ◌<◌}
 use native.Mathlib.Nat.{suc-mul, mul-le-mul_right}
 use native.Mathlib.Omega.{arith}
@@ -145,7 +145,7 @@ module _ (v : Way) where
     -- one record more
     pub moved_more : (n : ℕ) (s : List ℕ) → moved_all v (suc n) s ≡ moved_all v n s ++ v.moved (record_of v.from s n)
     unfolding moved_all
-    moved_more zero s = append_nil (v.moved (take v.from s)) ∙ ap v.moved (sym (first_record v.from s))
+    moved_more zero s = append-nil (v.moved (take v.from s)) ∙ ap v.moved (sym (first_record v.from s))
     moved_more (suc n) s =
         ap (λ (x : List ℕ). v.moved (take v.from s) ++ x) (moved_more n (drop v.from s) ∙ ap (λ (x : List ℕ). moved_all v n (drop v.from s) ++ v.moved x) (sym (next_record v.from s n)))
         ∙ sym (append_assoc (v.moved (take v.from s)) (moved_all v n (drop v.from s)) (v.moved (record_of v.from s (suc n))))

@@ -1,6 +1,8 @@
 // The sums of the sizes and the paddings of a trailing layout at a list of counts (document 02, request 12), at 64 bits and at
 // 32: one pass over the counts, which divides nowhere. Both widths go by the same functions: the greatest number stands beside
 // the layout that was tested. Only the loop over the counts stands twice, since a slice of counts is of one type.
+#![tactic(auto)]
+
 ghost use Rattle.std.specs.Prelude.{◌≡◌, [], ◌∷◌, ℕ, ◌+◌, ◌*◌, ◌^◌, ◌≤◌, ◌<◌};
 ghost use Rattle.util_defs.specs.Width.{M};
 ghost use Rattle.util_defs.specs.Refusal.{unless};
@@ -18,7 +20,7 @@ use trailing32::TrailingSliceLayout32;
 use util::{Answer, Product, refusal};
 
 // The sums over the counts so far, the greatest padding and its first index.
-#[derive(Drop)]
+#[derive(Clone, Copy)]
 pub struct Sums {
     pub sizes: u64,
     pub paddings: u64,
@@ -27,14 +29,14 @@ pub struct Sums {
 }
 
 // The sums with one count more, or the number of the refusal.
-#[derive(Drop)]
+#[derive(Clone, Copy)]
 enum AddAnswer {
     Sums(Sums),
     Refused(u64),
 }
 
 // The sums over all counts, or the number of the first refusal and its place.
-#[derive(Drop)]
+#[derive(Clone, Copy)]
 pub enum SumsAnswer {
     Sums(Sums),
     Refused { number: u64, place: u64 },
@@ -42,7 +44,7 @@ pub enum SumsAnswer {
 
 // A layout whose word was tested, with what each count needs of it and is worked out once: the alignment and the phase of the
 // word, the greatest number of the width, and the greatest number of trailing bytes that has a size at that width.
-#[derive(Drop)]
+#[derive(Clone, Copy)]
 struct Tested {
     layout: TrailingSliceLayout,
     align: u64,
@@ -52,7 +54,7 @@ struct Tested {
 }
 
 // A layout that was tested, or the number of the refusal, which is at place 0.
-#[derive(Drop)]
+#[derive(Clone, Copy)]
 enum TestAnswer {
     Tested(Tested),
     Refused(u64),

@@ -1,5 +1,7 @@
 // Trailing layouts, after zerocopy's TrailingSliceLayout: a fixed part and then a run of elements.
 // The size at a count is size_base + up(phase + count * elem_size, align); the offset does not enter it.
+#![tactic(auto)]
+
 ghost use Rattle.std.specs.Prelude.{◌≡◌, ◌*◌, ◌/◌, ◌%◌, ◌<◌};
 ghost use Rattle.util_defs.specs.Power.{PowerOfTwo};
 ghost use Rattle.util_defs.specs.Round.{up};
@@ -15,7 +17,7 @@ ghost use Rattle.trailing.specs.View.{trailing_of, size_says};
 use rounding::{ComponentsAnswer, RoundingAlignAndPhase};
 use util::{Answer, Product, refusal};
 
-#[derive(Drop)]
+#[derive(Clone, Copy)]
 pub struct TrailingSliceLayout {
     // The offset of the first byte of the elements. It need not be the least size.
     pub offset: u64,
@@ -28,7 +30,7 @@ pub struct TrailingSliceLayout {
 }
 
 // A size; no size at this count, and the greatest count that has one; or the number of another refusal.
-#[derive(Drop)]
+#[derive(Clone, Copy)]
 pub enum SizeAnswer {
     Size(u64),
     NoSize { greatest: u64 },
@@ -36,7 +38,7 @@ pub enum SizeAnswer {
 }
 
 // A layout, or the number of the refusal.
-#[derive(Drop)]
+#[derive(Clone, Copy)]
 pub enum AdvanceAnswer {
     Layout(TrailingSliceLayout),
     Refused(u64),

@@ -1,5 +1,7 @@
 // Trailing layouts at 32 bits, by those at 64. Where 32 bits do not hold what comes back it is refused, by the number that the
 // papers give it.
+#![tactic(auto)]
+
 ghost use Rattle.std.specs.Prelude.{◌≡◌, ◌^◌, ◌≤◌, ◌<◌};
 ghost use Rattle.util_defs.specs.Width.{M};
 ghost use Rattle.util_defs.specs.Refusal.{Meets};
@@ -20,7 +22,7 @@ use trailing::{AdvanceAnswer, SizeAnswer, TrailingSliceLayout};
 use util::{Answer, refusal};
 
 // Its fields are those of TrailingSliceLayout.
-#[derive(Drop)]
+#[derive(Clone, Copy)]
 pub struct TrailingSliceLayout32 {
     pub offset: u32,
     pub elem_size: u32,
@@ -29,7 +31,7 @@ pub struct TrailingSliceLayout32 {
 }
 
 // A size; no size at this count, and the greatest count that has one; or the number of another refusal.
-#[derive(Drop)]
+#[derive(Clone, Copy)]
 pub enum SizeAnswer32 {
     Size(u32),
     NoSize { greatest: u32 },
@@ -37,7 +39,7 @@ pub enum SizeAnswer32 {
 }
 
 // A layout, or the number of the refusal.
-#[derive(Drop)]
+#[derive(Clone, Copy)]
 pub enum AdvanceAnswer32 {
     Layout(TrailingSliceLayout32),
     Refused(u64),

@@ -1,4 +1,6 @@
 // Rounding helpers, after four functions of zerocopy's src/util/mod.rs, and the refusal numbers that every crate uses.
+#![tactic(auto)]
+
 ghost use Rattle.std.specs.Prelude.{◌≡◌, ◌*◌, ◌%◌, ◌^◌};
 ghost use Rattle.util_defs.specs.Width.{checked};
 ghost use Rattle.util_defs.specs.Power.{PowerOfTwo, power_of_two};
@@ -10,21 +12,21 @@ ghost use Rattle.util.specs.View.{number_says, product_says};
 pub mod refusal;
 
 // A number, or the number of the refusal.
-#[derive(Drop)]
+#[derive(Clone, Copy)]
 pub enum Answer {
     Number(u64),
     Refused(u64),
 }
 
 // A yes or no, or the number of the refusal.
-#[derive(Drop)]
+#[derive(Clone, Copy)]
 pub enum Decision {
     Is(bool),
     Refused(u64),
 }
 
 // A product that 64 bits hold, or that they do not.
-#[derive(Drop)]
+#[derive(Clone, Copy)]
 pub enum Product {
     Fits(u64),
     Passes,

@@ -118,12 +118,14 @@ refused_means (refuses f) = f
 
 -- a table gives one number at most, and none where no cause holds
 pub one_number : (cs : List Cause) (j k : ℕ) → First cs j → First cs k → j ≡ k
+one_number [] j k z2 _ = elim z2 [ ]
 one_number (c ∷ cs) j k (inl (p, e)) (inl (q, f)) = e ∙ sym f
 one_number (c ∷ cs) j k (inl (p, e)) (inr (n, f)) = absurd (n p)
 one_number (c ∷ cs) j k (inr (n, e)) (inl (q, f)) = absurd (n q)
 one_number (c ∷ cs) j k (inr (n, e)) (inr (m, f)) = one_number cs j k e f
 
 pub no_number : (cs : List Cause) (k : ℕ) → None cs → First cs k → ⊥
+no_number [] k n z2 = elim z2 [ ]
 no_number (c ∷ cs) k n (inl (p, e)) = n.0 p
 no_number (c ∷ cs) k n (inr (m, f)) = no_number cs k n.1 f
 
@@ -134,3 +136,7 @@ one_outcome cs P u (answers {x = x} n p) (answers {x = y} m q) = ap answered (u 
 one_outcome cs P u (answers n p) (refuses {k = k} f) = absurd (no_number cs k n f)
 one_outcome cs P u (refuses {k = k} e) (answers n p) = absurd (no_number cs k n e)
 one_outcome cs P u (refuses {k = j} e) (refuses {k = k} f) = ap refused (one_number cs j k e f)
+
+-- an outcome that is one which means what it should means it too
+pub means : {T : Type 0} {cs : List Cause} {P : T → Type 0} {r o : Outcome T} → Meets cs P o → r ≡ o → Meets cs P r
+means {T} {cs} {P} m e = subst (λ (x : Outcome T). Meets cs P x) (sym e) m

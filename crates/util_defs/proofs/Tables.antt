@@ -96,6 +96,7 @@ Numbers P [] = Unit {0}
 Numbers P (c ∷ cs) = P c.number × Numbers P cs
 
 pub number_among : (P : ℕ → Type 0) (cs : List Cause) (k : ℕ) → Numbers P cs → First cs k → P k
+number_among P [] k n z2 = elim z2 [ ]
 number_among P (c ∷ cs) k n (inl (x, e)) = subst P (sym e) n.0
 number_among P (c ∷ cs) k n (inr (x, f)) = number_among P cs k n.1 f
 

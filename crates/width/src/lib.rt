@@ -1,5 +1,7 @@
 // The two widths of words, and the steps of a loop that serves both: over layouts of 64-bit numbers, the greatest number being
 // that of the width.
+#![tactic(auto)]
+
 ghost use Rattle.std.specs.Prelude.{◌≡◌};
 ghost use Rattle.layout.specs.View.{layout_of, layout_says};
 ghost use Rattle.scalar.specs.Scalar.{scalar_for};
@@ -11,7 +13,7 @@ use layouts32::LayoutAnswer32;
 use scalar::GREATEST_SCALAR_CODE;
 use util::refusal;
 
-#[derive(Drop)]
+#[derive(Clone, Copy)]
 pub enum Width {
     Bits32,
     Bits64,

@@ -1,7 +1,7 @@
 -- Little-endian words in bytes, and runs of stores. Assumes nothing.
 use mathlib.Core.Path.{◌≡◌, refl, ap, ◌∙◌}
 use mathlib.Core.Bool.{Bool, true, false}
-use mathlib.Core.List.{List, [], ◌∷◌, ◌++◌, append_nil}
+use mathlib.Core.List.{List, [], ◌∷◌, ◌++◌, append-nil}
 use mathlib.Core.Logic.{◌⊎◌, inl, inr, ⊎_elim}
 use Prim.Native.Nat.{ℕ, zero, suc, ◌+◌, ◌*◌, ◌/◌, ◌%◌, ◌^◌, ◌≤◌, ◌<◌}
 use native.Mathlib.Nat.{add-zero, mul_comm, mul_assoc, pow-suc}
@@ -48,7 +48,7 @@ sets_sets (a ∷ vs) ws l i j e = sets_sets vs ws (set l i a) (suc i) j (omega a
 pub sets_whole : (vs l : List ℕ) → length vs ≡ length l → sets l 0 vs ≡ vs
 sets_whole vs l e =
     sets-eq vs l 0 (omega arith)
-    ∙ rw (drop_of_length-le l {i = 0 + length vs} (omega arith)) (append_nil vs)
+    ∙ rw (drop_of_length-le l {i = 0 + length vs} (omega arith)) (append-nil vs)
 
 -- the eight stores of a word, as code makes them, are one run
 pub stores_word : (l : List ℕ) (i v : ℕ) → set (set (set (set (set (set (set (set l i (v % 256)) (i + 1) (v / 256 % 256)) (i + 2) (v / 256 / 256 % 256)) (i + 3) (v / 256 / 256 / 256 % 256)) (i + 4) (v / 256 / 256 / 256 / 256 % 256)) (i + 5) (v / 256 / 256 / 256 / 256 / 256 % 256)) (i + 6) (v / 256 / 256 / 256 / 256 / 256 / 256 % 256)) (i + 7) (v / 256 / 256 / 256 / 256 / 256 / 256 / 256 % 256) ≡ sets l i (word_bytes v)

@@ -1,5 +1,7 @@
 // A layout built member by member (document 02, request 14): a lent working layout, altered on each added member. The additions
 // by value do the work; those over the reference copy the lent layout in, and what came of it out.
+#![tactic(auto)]
+
 ghost use Rattle.std.specs.Prelude.{◌≡◌, [], ℕ};
 ghost use Rattle.util_defs.specs.Refusal.{answered};
 ghost use Rattle.make.specs.Make.{new_zst_for};
@@ -12,7 +14,7 @@ ghost use Rattle.working.specs.View.{add_says, untouched};
 use layout::{Check, DstLayout, LayoutAnswer};
 
 // What an addition gives: whether the member was accepted, and the working layout after it.
-#[derive(Drop)]
+#[derive(Clone, Copy)]
 pub struct Addition {
     pub answer: Check,
     pub layout: DstLayout,

@@ -1,5 +1,7 @@
 // A layout built member by member at 32 bits (document 02, request 14): a lent working layout, altered on each added member. The
 // additions by value do the work; those over the reference copy the lent layout in, and what came of it out.
+#![tactic(auto)]
+
 ghost use Rattle.std.specs.Prelude.{◌≡◌, [], ℕ};
 ghost use Rattle.util_defs.specs.Refusal.{answered};
 ghost use Rattle.make.specs.Make.{new_zst_for};
@@ -13,7 +15,7 @@ use layout::Check;
 use layouts32::{DstLayout32, LayoutAnswer32};
 
 // What an addition gives: whether the member was accepted, and the working layout after it.
-#[derive(Drop)]
+#[derive(Clone, Copy)]
 pub struct Addition32 {
     pub answer: Check,
     pub layout: DstLayout32,

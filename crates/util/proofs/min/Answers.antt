@@ -1,0 +1,40 @@
+-- `util::min` meets its contract. Assumes nothing.
+use Rattle.std.proofs.Common.{◌≡◌, sym, ap, ◌∙◌, le_of_lt, rules}
+use native.Mathlib.Nat.{min-eq_left, min-eq_right}
+use Rattle.util_defs.specs.Refusal.{answered, unless}
+use Rattle.util_defs.specs.Helpers.{min_for}
+use Rattle.util_defs.proofs.Refusals.{means, yes, told}
+use Rattle.util_defs.proofs.Helpers.{min_meets, min_answered}
+use Rattle.util.proofs.min.Goals as goal
+
+pub returns-then-a-b-clause-answer : goal.returns-then-a-b-clause-answer
+returns-then-a-b-clause-answer c =
+    let p = yes c.is_power_of_two.ensures.meaning c.if-is_power_of_two.true in
+    let q = yes c.is_power_of_two-then-is_power_of_two.ensures.meaning c.if-is_power_of_two-2.true in ap answered (sym (min-eq_right (le_of_lt c.if-a-b.true))) ∙ sym (min_answered 64 p q c.ranges.a.fits c.ranges.b.fits)
+
+pub returns-then-a-b-clause-meaning : goal.returns-then-a-b-clause-meaning
+returns-then-a-b-clause-meaning c =
+    means (min_meets 64 c.args.a c.args.b c.ranges.a.fits c.ranges.b.fits) (returns-then-a-b-clause-answer c)
+
+pub returns-else-a-b-clause-answer : goal.returns-else-a-b-clause-answer
+returns-else-a-b-clause-answer c =
+    let p = yes c.is_power_of_two.ensures.meaning c.if-is_power_of_two.true in
+    let q = yes c.is_power_of_two-then-is_power_of_two.ensures.meaning c.if-is_power_of_two-2.true in ap answered (sym (min-eq_left c.if-a-b.false)) ∙ sym (min_answered 64 p q c.ranges.a.fits c.ranges.b.fits)
+
+pub returns-else-a-b-clause-meaning : goal.returns-else-a-b-clause-meaning
+returns-else-a-b-clause-meaning c =
+    means (min_meets 64 c.args.a c.args.b c.ranges.a.fits c.ranges.b.fits) (returns-else-a-b-clause-answer c)
+
+pub returns-else-is_power_of_two-2-clause-answer : goal.returns-else-is_power_of_two-2-clause-answer
+unfolding min_for unless
+returns-else-is_power_of_two-2-clause-answer c = simp (sym c.is_power_of_two.ensures.answer ∙ c.if-is_power_of_two.true, sym c.is_power_of_two-then-is_power_of_two.ensures.answer ∙ c.if-is_power_of_two-2.false)
+
+pub returns-else-is_power_of_two-2-clause-meaning : goal.returns-else-is_power_of_two-2-clause-meaning
+returns-else-is_power_of_two-2-clause-meaning c = means (min_meets 64 c.args.a c.args.b c.ranges.a.fits c.ranges.b.fits) (returns-else-is_power_of_two-2-clause-answer c)
+
+pub returns-else-is_power_of_two-clause-answer : goal.returns-else-is_power_of_two-clause-answer
+unfolding min_for unless
+returns-else-is_power_of_two-clause-answer c = simp (sym c.is_power_of_two.ensures.answer ∙ c.if-is_power_of_two.false)
+
+pub returns-else-is_power_of_two-clause-meaning : goal.returns-else-is_power_of_two-clause-meaning
+returns-else-is_power_of_two-clause-meaning c = means (min_meets 64 c.args.a c.args.b c.ranges.a.fits c.ranges.b.fits) (returns-else-is_power_of_two-clause-answer c)
