@@ -63,15 +63,15 @@ pub record Below (longest : ℕ) (old new : List ℕ) (at n : ℕ) : Type 0 wher
 
 module _ (longest : ℕ) (old new : List ℕ) (at n : ℕ) (b : Below longest old new at n) (l : n ≤ longest) (h : longest ≤ greatest_length) (r : 40 * list_count longest ≤ length old) where
   -- there is room for them
-  pub room-below : Room at n 2 (18446744073709486080 + n) (length new)
-  room-below =
+  pub room_below : Room at n 2 (18446744073709486080 + n) (length new)
+  room_below =
       let g : 256 ^ (2 + n) ≤ 256 ^ 8 = pow-le-pow_right {n = 256} (lit< tt) {i = 2 + n} {j = 8} (omega arith) in
       (omega (arith, b.begins, b.kept, below_more n, count_mono n longest l), omega arith, omega (arith, g), omega arith)
 
   -- and then those below the next length are there
-  pub next-below : (x : List ℕ) (a : ℕ) → a ≡ at + 40 * 4 ^ n → x ≡ sets new at (grown_bytes n 2 (18446744073709486080 + n)) → length x ≡ length new
+  pub next_below : (x : List ℕ) (a : ℕ) → a ≡ at + 40 * 4 ^ n → x ≡ sets new at (grown_bytes n 2 (18446744073709486080 + n)) → length x ≡ length new
       → Below longest old x a (n + 1)
-  next-below x a e f k =
+  next_below x a e f k =
       let o : n + 1 ≡ suc n = omega arith in
       subst (λ (m : ℕ). Below longest old x a m) (sym o) (record {
         within = omega arith;

@@ -9,19 +9,24 @@ use native.Mathlib.Omega.{arith}
 use native.Mathlib.Nat.{eq-or-lt_of_le}
 use Rattle.cases_defs.specs.Cases.{Case, scalars, packings, lists_of, under_each, cases_of, cases_to}
 use Rattle.cases_defs.specs.Order.{IsCase, FromLeft, lower, alike, Before, shorter, by_code, by_packing, Ordered, NoneTwice, AllCases}
-use Rattle.cases_defs.proofs.Orders.{ordered-append, once, one-order, ordered_map, in_flat, flat_in, ordered_flat, Less, rises_ordered}
+use Rattle.cases_defs.proofs.Orders.{ordered_append, once, one_order, ordered_map, in_flat, flat_in, ordered_flat, Less, rises_ordered}
 
 -- ---- the order is strict ----
 
 left_long : (cs ds : List ℕ) → FromLeft cs ds → length cs ≡ length ds
+left_long (c ∷ cs) [] x3 = elim x3 [ ]
+left_long [] ds z1 = elim z1 [ ]
 left_long (c ∷ cs) (d ∷ ds) (lower h e) = ap suc e
 left_long (c ∷ cs) (d ∷ ds) (alike e f) = ap suc (left_long cs ds f)
 
 left_irr : (cs : List ℕ) → FromLeft cs cs → ⊥
+left_irr [] z1 = elim z1 [ ]
 left_irr (c ∷ cs) (lower h e) = omega arith
 left_irr (c ∷ cs) (alike e f) = left_irr cs f
 
 left_asym : (cs ds : List ℕ) → FromLeft cs ds → FromLeft ds cs → ⊥
+left_asym (c ∷ cs) [] x5 _ = elim x5 [ ]
+left_asym [] ds z2 _ = elim z2 [ ]
 left_asym (c ∷ cs) (d ∷ ds) (lower h e) (lower g k) = omega arith
 left_asym (c ∷ cs) (d ∷ ds) (lower h e) (alike g k) = omega arith
 left_asym (c ∷ cs) (d ∷ ds) (alike e f) (lower g k) = omega arith
@@ -146,7 +151,7 @@ to_ordered : (n : ℕ) → Ordered Before (cases_to n)
 unfolding cases_to
 to_ordered zero = cases_ordered 0
 to_ordered (suc n) =
-    ordered-append Before (cases_to n) (cases_of (suc n)) (to_ordered n) (cases_ordered (suc n))
+    ordered_append Before (cases_to n) (cases_of (suc n)) (to_ordered n) (cases_ordered (suc n))
     (λ x y m k. shorter (omega (arith, (to_are n x m).short, (cases_are (suc n) y k).long)))
 
 -- the list is what document 02 says, and no other list is
@@ -160,4 +165,4 @@ all_cases n = record {
 
 pub one_list : (n : ℕ) (xs ys : List Case) → AllCases n xs → AllCases n ys → xs ≡ ys
 one_list n xs ys p q =
-    one-order Before before_irr before_asym xs ys p.ordered q.ordered (λ c m. q.complete c (p.only c m)) (λ c m. p.complete c (q.only c m))
+    one_order Before before_irr before_asym xs ys p.ordered q.ordered (λ c m. q.complete c (p.only c m)) (λ c m. p.complete c (q.only c m))

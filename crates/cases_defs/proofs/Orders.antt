@@ -10,11 +10,11 @@ use Rattle.cases_defs.specs.Order.{Ordered, NoneTwice}
 
 module _ {T : Type 0} (R : T → T → Type 0) where
   -- lists in order, one before the other
-  pub ordered-append : (xs ys : List T) → Ordered R xs → Ordered R ys → ((x y : T) → Memᴰ x xs → Memᴰ y ys → R x y)
+  pub ordered_append : (xs ys : List T) → Ordered R xs → Ordered R ys → ((x y : T) → Memᴰ x xs → Memᴰ y ys → R x y)
       → Ordered R (xs ++ ys)
-  ordered-append [] ys p q f = q
-  ordered-append (x ∷ xs) ys p q f =
-      (λ y m. step y (Memᴰ.append_cases xs m), ordered-append xs ys p.1 q (λ u v m n. f u v (Memᴰ.tail m) n))
+  ordered_append [] ys p q f = q
+  ordered_append (x ∷ xs) ys p q f =
+      (λ y m. step y (Memᴰ.append_cases xs m), ordered_append xs ys p.1 q (λ u v m n. f u v (Memᴰ.tail m) n))
     where
       step : (y : T) → Memᴰ y xs ⊎ Memᴰ y ys → R x y
       step y (inl m) = p.0 y m
@@ -47,13 +47,13 @@ module _ {T : Type 0} (R : T → T → Type 0) where
         go (inl d) = absurd (irr x (p.0 x (Memᴰ.cast (e ∙ sym d) m)))
         go (inr n) = n
 
-    pub one-order : (xs ys : List T) → Ordered R xs → Ordered R ys → In xs ys → In ys xs → xs ≡ ys
-    one-order [] [] p q f g = refl
-    one-order [] (y ∷ ys) p q f g = absurd (Memᴰ.not-nil (g y (Memᴰ.head refl)))
-    one-order (x ∷ xs) [] p q f g = absurd (Memᴰ.not-nil (f x (Memᴰ.head refl)))
-    one-order (x ∷ xs) (y ∷ ys) p q f g =
+    pub one_order : (xs ys : List T) → Ordered R xs → Ordered R ys → In xs ys → In ys xs → xs ≡ ys
+    one_order [] [] p q f g = refl
+    one_order [] (y ∷ ys) p q f g = absurd (Memᴰ.not-nil (g y (Memᴰ.head refl)))
+    one_order (x ∷ xs) [] p q f g = absurd (Memᴰ.not-nil (f x (Memᴰ.head refl)))
+    one_order (x ∷ xs) (y ∷ ys) p q f g =
         let e : x ≡ y = heads x y xs ys p q f g in
-        let r : xs ≡ ys = one-order xs ys p.1 q.1 (tails x y xs ys e p f) (tails y x ys xs (sym e) q g) in
+        let r : xs ≡ ys = one_order xs ys p.1 q.1 (tails x y xs ys e p f) (tails y x ys xs (sym e) q g) in
         λ i. e i ∷ r i
 
 -- what a function that keeps the order makes of a list in order
@@ -90,7 +90,7 @@ pub ordered_flat : {S T : Type 0} (R : S → S → Type 0) (Q : T → T → Type
 unfolding flat_map
 ordered_flat R Q f [] o k p = tt
 ordered_flat {S} {T} R Q f (x ∷ xs) o k p =
-    ordered-append Q (f x) (flat_map f xs) (o x)
+    ordered_append Q (f x) (flat_map f xs) (o x)
     (ordered_flat R Q f xs o (λ u v m n. k u v (Memᴰ.tail m) (Memᴰ.tail n)) p.1)
     (λ u v m n. let r = in_flat f xs n in k x r.0 (Memᴰ.head refl) (Memᴰ.tail r.1) (p.0 r.0 r.1) u v m r.2)
 

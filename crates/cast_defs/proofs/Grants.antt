@@ -127,13 +127,13 @@ grant_fits {a} {q} w t L m x h g =
 
 -- the sizes of a padded layout are multiples of its alignment
 padded_multiple : (w : ℕ) (l m : Layout) (n : ℕ) → Padded w l m → IsCount m.info n → size_in w m.info n % l.align ≡ 0
-padded_multiple w l m n x c = ap (λ (z : ℕ). z % l.align) (x.sizes n (shape-count l.info m.info n x.info c)) ∙ up_multiple (size_in w l.info n) l.align
+padded_multiple w l m n x c = ap (λ (z : ℕ). z % l.align) (x.sizes n (shape_count l.info m.info n x.info c)) ∙ up_multiple (size_in w l.info n) l.align
   where
-    shape-count : (i j : Info) (n : ℕ) → PaddedInfo w l.align i j → IsCount j n → IsCount i n
-    shape-count (fixed s) (fixed r) n h c = c
-    shape-count (fixed s) (trailing t) n h c = absurd h
-    shape-count (trailing t) (fixed r) n h c = absurd h
-    shape-count (trailing t) (trailing u) n h c = tt
+    shape_count : (i j : Info) (n : ℕ) → PaddedInfo w l.align i j → IsCount j n → IsCount i n
+    shape_count (fixed s) (fixed r) n h c = c
+    shape_count (fixed s) (trailing t) n h c = absurd h
+    shape_count (trailing t) (fixed r) n h c = absurd h
+    shape_count (trailing t) (trailing u) n h c = tt
 
 -- so a suffix that is granted of one starts aligned
 pub suffix_aligned : (w : ℕ) (l m : Layout) (addr len : ℕ) (g : Grant) → m.align < 2 ^ w → 0 < w → Padded w l m → cast_for w m suffix addr len ≡ answered g → (addr + g.split) % m.align ≡ 0

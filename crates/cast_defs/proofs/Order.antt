@@ -10,21 +10,21 @@ use Rattle.cast_defs.proofs.Grants.{elem_decided, cast_accepted}
 
 module _ (w : ℕ) (l : Layout) (side : Side) (addr len : ℕ) (fits : l.align < 2 ^ w) (ok : None (layout_causes w l)) where
   -- 10 before 11, 12 and 13
-  pub elem-first : IsElemZero l.info → cast_for w l side addr len ≡ refused 10
+  pub elem_first : IsElemZero l.info → cast_for w l side addr len ≡ refused 10
   unfolding unless
-  elem-first e = cast_accepted w l side addr len fits ok ∙ simp (told_true (elem_decided l.info) e)
+  elem_first e = cast_accepted w l side addr len fits ok ∙ simp (told_true (elem_decided l.info) e)
 
   -- 11 before 12 and 13
-  pub address-next : (IsElemZero l.info → ⊥) → M w < addr + len → cast_for w l side addr len ≡ refused 11
+  pub address_next : (IsElemZero l.info → ⊥) → M w < addr + len → cast_for w l side addr len ≡ refused 11
   unfolding unless
-  address-next e p =
+  address_next e p =
       cast_accepted w l side addr len fits ok
       ∙ simp (told_false (elem_decided l.info) e, told_true (tells_lt (M w) (addr + len)) p)
 
   -- 12 before 13
-  pub align-next : (IsElemZero l.info → ⊥) → (M w < addr + len → ⊥) → (tested_address side addr len % l.align ≡ 0 → ⊥)
+  pub align_next : (IsElemZero l.info → ⊥) → (M w < addr + len → ⊥) → (tested_address side addr len % l.align ≡ 0 → ⊥)
       → cast_for w l side addr len ≡ refused 12
   unfolding unless
-  align-next e p a =
+  align_next e p a =
       cast_accepted w l side addr len fits ok
       ∙ simp (told_false (elem_decided l.info) e, told_false (tells_lt (M w) (addr + len)) p, told_true (tells_not (tells_eq (tested_address side addr len % l.align) 0)) a)

@@ -45,10 +45,10 @@ module _ (w : ℕ) (step : Step) (n i : ℕ) (s : List ℕ) (l : Layout) (h : i 
       let f : i + 1 ≡ suc i = omega arith in
       rw (next w n i s h, ap (λ (k : ℕ). step l (decode_for w (take k (drop (i * 48) s)))) (sym g) ∙ e, f)
 
-  pub turn-off : {k : ℕ} → step l (decode_for w (take (i * 48 + 48 - i * 48) (drop (i * 48) s))) ≡ refused k
+  pub turn_off : {k : ℕ} → step l (decode_for w (take (i * 48 + 48 - i * 48) (drop (i * 48) s))) ≡ refused k
       → add_members step i l (members_of w (n - i) (drop (i * 48) s)) ≡ refused_at k i
   unfolding add_members
-  turn-off e =
+  turn_off e =
       let g : i * 48 + 48 - i * 48 ≡ 48 = omega arith in
       rw (next w n i s h, ap (λ (k : ℕ). step l (decode_for w (take k (drop (i * 48) s)))) (sym g) ∙ e)
 

@@ -41,13 +41,13 @@ module _ (w p : ℕ) (l m : Layout) {end : ℕ} (h : l.info ≡ fixed end) {r : 
   pub place_is : place_of l m p ≡ up end (member_align m.align p)
   place_is = ap (λ (i : Info). up (preceding_size i) (member_align m.align p)) h
 
-  pub place-least : LeastPlace end (member_align m.align p) (place_of l m p)
-  place-least = subst (LeastPlace end (member_align m.align p)) (sym place_is) (least_place end (member_align m.align p) (positive x.power))
+  pub place_least : LeastPlace end (member_align m.align p) (place_of l m p)
+  place_least = subst (LeastPlace end (member_align m.align p)) (sym place_is) (least_place end (member_align m.align p) (positive x.power))
 
-  pub gap-between : end + (place_of l m p - preceding_size l.info) ≡ place_of l m p
-  gap-between =
+  pub gap_between : end + (place_of l m p - preceding_size l.info) ≡ place_of l m p
+  gap_between =
       let e : preceding_size l.info ≡ end = ap preceding_size h in
-      omega (arith, place-least.after)
+      omega (arith, place_least.after)
 
 -- what the composition of the rest says
 pub record Standing (p end : ℕ) (ms : List Member) (qs gs : List ℕ) (r : Layout) : Type 0 where
@@ -67,29 +67,29 @@ alone w p (refused k ∷ ms) i l e g = absurd (apart (onward (member_step w port
 
 -- one member more in front of the rest
 module _ (w p : ℕ) (l m : Layout) (ms : List Member) {end : ℕ} (h : l.info ≡ fixed end) {n : Layout} (x : Went w p l m n) where
-  with-fixed : (s : ℕ) → m.info ≡ fixed s → {r : Layout} → Standing p (place_of l m p + s) ms (places_of p n ms) (gaps_of p n ms) r
+  with_fixed : (s : ℕ) → m.info ≡ fixed s → {r : Layout} → Standing p (place_of l m p + s) ms (places_of p n ms) (gaps_of p n ms) r
       → Standing p end (answered m ∷ ms) (places_of p l (answered m ∷ ms)) (gaps_of p l (answered m ∷ ms)) r
   unfolding states
-  with-fixed s e {r} y =
+  with_fixed s e {r} y =
       let n' = extended l m p in
       let y' : Standing p (place_of l m p + s) ms (places_of p n' ms) (gaps_of p n' ms) r = subst (λ (k : Layout). Standing p (place_of l m p + s) ms (places_of p k ms) (gaps_of p k ms) r) x.is y in
       let k : preceding_size m.info ≡ s = ap preceding_size e in
       record {
         last = y'.last;
-        stand = one (place-least w p l m h x) (gap-between w p l m h x) (subst (λ (z : ℕ). Stand p (place_of l m p + z) ms (places_of p n' ms) (gaps_of p n' ms) y'.last) (sym k) y'.stand);
-        sum = omega (arith, gap-between w p l m h x, y'.sum);
+        stand = one (place_least w p l m h x) (gap_between w p l m h x) (subst (λ (z : ℕ). Stand p (place_of l m p + z) ms (places_of p n' ms) (gaps_of p n' ms) y'.last) (sym k) y'.stand);
+        sum = omega (arith, gap_between w p l m h x, y'.sum);
         sized = y'.sized;
         opens = λ t f. after (y'.opens t f);
       }
 
-  with-trailing : (t : Trailing) → m.info ≡ trailing t → Standing p end (answered m ∷ []) (places_of p l (answered m ∷ [])) (gaps_of p l (answered m ∷ [])) n
+  with_trailing : (t : Trailing) → m.info ≡ trailing t → Standing p end (answered m ∷ []) (places_of p l (answered m ∷ [])) (gaps_of p l (answered m ∷ [])) n
   unfolding states
-  with-trailing t e =
+  with_trailing t e =
       let k : preceding_size m.info ≡ 0 = ap preceding_size e in
       record {
         last = place_of l m p + preceding_size m.info;
-        stand = one (place-least w p l m h x) (gap-between w p l m h x) none;
-        sum = omega (arith, gap-between w p l m h x);
+        stand = one (place_least w p l m h x) (gap_between w p l m h x) none;
+        sum = omega (arith, gap_between w p l m h x);
         sized = λ s f. absurd (not_trailing f (info_after l m p x.is ∙ ap (placed_at (place_of l m p)) e));
         opens = λ u f. here e (same_offset (sym (info_after l m p x.is ∙ ap (placed_at (place_of l m p)) e) ∙ f));
       }
@@ -109,11 +109,11 @@ stands w p (answered m ∷ ms) i l {end} h {r} e =
     go : (n : Layout) → Went w p l m n → add_members (member_step w ported p) (suc i) n ms ≡ composed r → (j : Info) → m.info ≡ j
         → ((n : Layout) (q : ℕ) → n.info ≡ fixed q → add_members (member_step w ported p) (suc i) n ms ≡ composed r → Standing p q ms (places_of p n ms) (gaps_of p n ms) r)
         → Standing p end (answered m ∷ ms) (places_of p l (answered m ∷ ms)) (gaps_of p l (answered m ∷ ms)) r
-    go n y f (fixed s) k rec = with-fixed w p l m ms h y s k (rec n (place_of l m p + s) (info_after l m p y.is ∙ ap (placed_at (place_of l m p)) k) f)
+    go n y f (fixed s) k rec = with_fixed w p l m ms h y s k (rec n (place_of l m p + s) (info_after l m p y.is ∙ ap (placed_at (place_of l m p)) k) f)
     go n y f (trailing t) k rec =
         let a = alone w p ms (suc i) n (info_after l m p y.is ∙ ap (placed_at (place_of l m p)) k) f in
         subst (λ (ns : List Member). Standing p end (answered m ∷ ns) (places_of p l (answered m ∷ ns)) (gaps_of p l (answered m ∷ ns)) r) (sym a.0)
-        (subst (Standing p end (answered m ∷ []) (places_of p l (answered m ∷ [])) (gaps_of p l (answered m ∷ []))) a.1 (with-trailing w p l m ms h y t k))
+        (subst (Standing p end (answered m ∷ []) (places_of p l (answered m ∷ [])) (gaps_of p l (answered m ∷ []))) a.1 (with_trailing w p l m ms h y t k))
 
 -- the closing padding: a fixed size is rounded up, the elements of a trailing part stay where they begin
 padded_fixed : (w a : ℕ) (i : Info) (s : ℕ) → padded_info w a i ≡ fixed s → (t : ℕ) × ((i ≡ fixed t) × (up t a ≡ s))

@@ -36,38 +36,38 @@ before_closing (refused_at k i) f e g = absurd (not_composed e)
 module _ (w a p : ℕ) (ms : List Member) where
   pub data Ways : Type 0 where
     by_both : BothApply w a p → compose_struct w strict a p ms ≡ refused_at 49 0 → Ways
-    by-inside : (i : ℕ) → ModifierApplies w a p ms i → compose_struct w strict a p ms ≡ refused_at 50 i → Ways
-    by-neither : (BothApply w a p → ⊥) → ((i : ℕ) → ModifierApplies w a p ms i → ⊥) → compose_struct w strict a p ms ≡ compose_struct w ported a p ms
+    by_inside : (i : ℕ) → ModifierApplies w a p ms i → compose_struct w strict a p ms ≡ refused_at 50 i → Ways
+    by_neither : (BothApply w a p → ⊥) → ((i : ℕ) → ModifierApplies w a p ms i → ⊥) → compose_struct w strict a p ms ≡ compose_struct w ported a p ms
         → ((l : Layout) → compose_struct w ported a p ms ≡ composed l → (p ≡ 0) ⊎ ((a ≡ 0) × NoModifier ms)) → Ways
 
   abbrev from : Bool → Outcome Layout → Composed
   from heed o = bind (and_then o 0 (λ l. add_members (member_step w heed p) 0 l ms)) (closing w (length ms))
 
-  own-refused : {k : ℕ} → new_zst_for w a ≡ refused k → Ways
-  own-refused e =
-      by-neither
+  own_refused : {k : ℕ} → new_zst_for w a ≡ refused k → Ways
+  own_refused e =
+      by_neither
       (λ b. apart (sym e ∙ b.own))
       (λ i x. subst (λ (o : Outcome Layout). OfLayout o (λ l. FirstModifier w p l ms i)) e x.comes)
       (ap (from true) (begin_own w true a p e) ∙ sym (ap (from false) (begin_own w false a p e)))
       (λ l x. absurd (not_composed (sym (ap (from false) (begin_own w false a p e)) ∙ x)))
 
   module _ {l : Layout} (e : new_zst_for w a ≡ answered l) where
-    begun-ported : compose_struct w ported a p ms ≡ from false (answered l)
-    begun-ported = ap (from false) (begin_on w false a p e refl)
+    begun_ported : compose_struct w ported a p ms ≡ from false (answered l)
+    begun_ported = ap (from false) (begin_on w false a p e refl)
 
     unpacked : p ≡ 0 → Ways
     unpacked z =
-        by-neither
+        by_neither
         (λ b. b.packed z)
         (λ i x. x.packed z)
         (ap (from true) (begin_on w true a p e (ap (λ (b : Bool). not (eqb a 0) && not b) (eq-eqb p 0 z) ∙ and_false (not (eqb a 0))))
         ∙ ap (λ (c : Composed). bind c (closing w (length ms))) (same_steps (member_step w strict p) (member_step w ported p) (unpacked_step w p z) 0 l ms)
-        ∙ sym begun-ported)
+        ∙ sym begun_ported)
         (λ r x. inl z)
 
-    both-asked : (a ≡ 0 → ⊥) → (p ≡ 0 → ⊥) → Ways
+    both_asked : (a ≡ 0 → ⊥) → (p ≡ 0 → ⊥) → Ways
     unfolding new_zst_for
-    both-asked n h =
+    both_asked n h =
         by_both
         (record { own = e ∙ ap answered (answer_is (align_causes w (asked a)) (empty_layout a) e); aligned = n; packed = h })
         (ap (from true) (begin_off w true a p e (rw (ne_eqb a 0 n, ne_eqb p 0 h))))
@@ -75,30 +75,30 @@ module _ (w a p : ℕ) (ms : List Member) where
     packed : a ≡ 0 → (p ≡ 0 → ⊥) → Ways
     packed z h = go (came w p h ms 0 l)
       where
-        begun-strict : compose_struct w strict a p ms ≡ from true (answered l)
-        begun-strict = ap (from true) (begin_on w true a p e (rw (eq-eqb a 0 z)))
+        begun_strict : compose_struct w strict a p ms ≡ from true (answered l)
+        begun_strict = ap (from true) (begin_on w true a p e (rw (eq-eqb a 0 z)))
 
         here : (i : ℕ) → FirstModifier w p l ms i → ModifierApplies w a p ms i
         here i x = record { alone = z; packed = h; comes = subst (λ (o : Outcome Layout). OfLayout o (λ l'. FirstModifier w p l' ms i)) (sym e) x }
 
         go : Came w p h 0 l ms → Ways
-        go (stops n x y) = by-inside n (here n x) (begun-strict ∙ ap (λ (c : Composed). bind c (closing w (length ms))) (y ∙ ap (refused_at 50) (omega arith)))
+        go (stops n x y) = by_inside n (here n x) (begun_strict ∙ ap (λ (c : Composed). bind c (closing w (length ms))) (y ∙ ap (refused_at 50) (omega arith)))
         go (passes f y acc) =
-            by-neither
+            by_neither
             (λ b. b.aligned z)
             (λ i x. f i (subst (λ (o : Outcome Layout). OfLayout o (λ l'. FirstModifier w p l' ms i)) e x.comes))
-            (begun-strict ∙ ap (λ (c : Composed). bind c (closing w (length ms))) y ∙ sym begun-ported)
-            (λ r x. before_closing (add_members (member_step w ported p) 0 l ms) (closing w (length ms)) (sym begun-ported ∙ x) (λ l₀ g. inr (z, acc l₀ g)))
+            (begun_strict ∙ ap (λ (c : Composed). bind c (closing w (length ms))) y ∙ sym begun_ported)
+            (λ r x. before_closing (add_members (member_step w ported p) 0 l ms) (closing w (length ms)) (sym begun_ported ∙ x) (λ l₀ g. inr (z, acc l₀ g)))
 
   ways : Ways
   ways = own (new_zst_for w a) refl
     where
       own : (o : Outcome Layout) → new_zst_for w a ≡ o → Ways
-      own (refused k) e = own-refused e
-      own (answered l) e = ⊎_elim (unpacked e) (λ h. ⊎_elim (λ z. packed e z h) (λ n. both-asked e n h) (zero_or a)) (zero_or p)
+      own (refused k) e = own_refused e
+      own (answered l) e = ⊎_elim (unpacked e) (λ h. ⊎_elim (λ z. packed e z h) (λ n. both_asked e n h) (zero_or a)) (zero_or p)
 
-  pub strict-means : StrictMeans w a p ms (compose_struct w strict a p ms)
-  strict-means = go ways
+  pub strict_means : StrictMeans w a p ms (compose_struct w strict a p ms)
+  strict_means = go ways
     where
       one : {i j : ℕ} (o : Outcome Layout) → OfLayout o (λ l. FirstModifier w p l ms i) → OfLayout o (λ l. FirstModifier w p l ms j) → i ≡ j
       one {i} {j} (answered l) x y = first_one w p l ms i j x y
@@ -111,13 +111,13 @@ module _ (w a p : ℕ) (ms : List Member) where
         same = λ f g. absurd (f b);
         accepts = λ l x. absurd (not_composed (sym e ∙ x));
       }
-      go (by-inside i m e) = record {
+      go (by_inside i m e) = record {
         both = λ x. absurd (x.aligned m.alone);
         inside = λ j x. e ∙ ap (refused_at 50) (one (new_zst_for w a) m.comes x.comes);
         same = λ f g. absurd (g i m);
         accepts = λ l x. absurd (not_composed (sym e ∙ x));
       }
-      go (by-neither f g e acc) = record {
+      go (by_neither f g e acc) = record {
         both = λ x. absurd (f x);
         inside = λ i x. absurd (g i x);
         same = λ f' g'. e;
@@ -125,17 +125,17 @@ module _ (w a p : ℕ) (ms : List Member) where
       }
 
   -- nothing else is what it means
-  pub one-strict : (r : Composed) → StrictMeans w a p ms r → r ≡ compose_struct w strict a p ms
-  one-strict r x = go ways
+  pub one_strict : (r : Composed) → StrictMeans w a p ms r → r ≡ compose_struct w strict a p ms
+  one_strict r x = go ways
     where
       go : Ways → r ≡ compose_struct w strict a p ms
       go (by_both b e) = x.both b ∙ sym e
-      go (by-inside i m e) = x.inside i m ∙ sym e
-      go (by-neither f g e acc) = x.same f g ∙ sym e
+      go (by_inside i m e) = x.inside i m ∙ sym e
+      go (by_neither f g e acc) = x.same f g ∙ sym e
 
 -- of a list of whole records
 pub list_means : (w a p : ℕ) (s : List ℕ) {r : Composed} → r ≡ struct_for w strict a p s → StrictList w a p s r
 unfolding struct_for
 list_means w a p s {r} e h =
     let ms = members_of w (length s / 48) s in
-    subst (StrictMeans w a p ms) (sym (e ∙ ap (λ (b : Bool). cond b (compose_struct w strict a p ms) (refused_at 20 0)) (eq-eqb (length s % 48) 0 h))) (strict-means w a p ms)
+    subst (StrictMeans w a p ms) (sym (e ∙ ap (λ (b : Bool). cond b (compose_struct w strict a p ms) (refused_at 20 0)) (eq-eqb (length s % 48) 0 h))) (strict_means w a p ms)

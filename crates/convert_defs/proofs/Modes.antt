@@ -8,7 +8,7 @@ use Rattle.util_defs.proofs.Refusals.{answered_means}
 use Rattle.util_defs.proofs.Tables.{none_both}
 use Rattle.layout_defs.specs.Layout.{Info, no_word, layout_causes, WordFits}
 use Rattle.shift_defs.specs.Mode.{ported, full, comparison_of}
-use Rattle.shift_defs.proofs.Modes.{shift-stays}
+use Rattle.shift_defs.proofs.Modes.{shift_stays}
 use Rattle.convert_defs.specs.Reasons.{conversion_causes}
 use Rattle.convert_defs.specs.Convert.{Params, KindsConvert, fixed_to_fixed, fixed_to_trailing, trailing_to_trailing, Converts, compute_causes}
 use Rattle.convert_defs.specs.Modes.{FullKeeps}
@@ -19,7 +19,7 @@ kinds_stay : {i j : Info} {q : Params} (w : ℕ) → WordFits w i → WordFits w
 kinds_stay w hi hj ni nj fixed_to_fixed = fixed_to_fixed
 kinds_stay w hi hj ni nj (fixed_to_trailing x) = fixed_to_trailing x
 kinds_stay w hi hj ni nj (trailing_to_trailing {s = s} {t = t} {d = d} m x) =
-    trailing_to_trailing m (shift-stays w s t (omega (arith, ni)) hi (omega (arith, nj)) hj d x)
+    trailing_to_trailing m (shift_stays w s t (omega (arith, ni)) hi (omega (arith, nj)) hj d x)
 
 pub full_keeps : (w : ℕ) → 0 < w → FullKeeps w
 full_keeps w pos s t q fs ft e =

@@ -16,7 +16,7 @@ use Rattle.describe_defs.specs.Describe.{Part, Reader, add_read, closed, struct_
 use Rattle.describe_defs.specs.Heads.{Head, head_at, made, body_at}
 use Rattle.describe_defs.specs.Faults.{ScalarsAccepted, PartMeans, ReadMeans}
 use Rattle.describe_defs.proofs.Heads.{part_by_head}
-use Rattle.describe_defs.proofs.Reading.{part-means, read-means}
+use Rattle.describe_defs.proofs.Reading.{part_means, read_means}
 
 -- a code is a scalar
 pub code_scalar : (target : Target) (code : ℕ) → code ≤ 8 → scalar_for target code ≡ answered (scalar_layout target code)
@@ -29,15 +29,15 @@ by_head w target d s t e = part_by_head w target d s t ∙ ap (λ (p : Placed He
 
 -- what was read, and what it means
 pub part_told : (w : ℕ) (target : Target) → ScalarsAccepted w target → (d : ℕ) (s : List ℕ) (t : ℕ) {r : Placed Part} → r ≡ part_for w target d s t → (r ≡ part_for w target d s t) × PartMeans w target s d t r
-part_told w target good d s t {r} e = (e, part-means w target s good d t r (sym e))
+part_told w target good d s t {r} e = (e, part_means w target s good d t r (sym e))
 
 -- a struct from its empty layout on
 module _ (w : ℕ) (part : Reader) (t i align packing n : ℕ) where
-  pub body-on : {l : Layout} → new_zst_for w align ≡ answered l → struct_body w part t i align packing n ≡ go_on (add_read w part packing t n l i) (closed w t)
-  body-on e = ap (λ (o : Outcome Layout). at_place t o (λ l. go_on (add_read w part packing t n l i) (closed w t))) (begin_on w ported align packing e refl)
+  pub body_on : {l : Layout} → new_zst_for w align ≡ answered l → struct_body w part t i align packing n ≡ go_on (add_read w part packing t n l i) (closed w t)
+  body_on e = ap (λ (o : Outcome Layout). at_place t o (λ l. go_on (add_read w part packing t n l i) (closed w t))) (begin_on w ported align packing e refl)
 
-  pub body-off : {k : ℕ} → new_zst_for w align ≡ refused k → struct_body w part t i align packing n ≡ stopped k t
-  body-off e = ap (λ (o : Outcome Layout). at_place t o (λ l. go_on (add_read w part packing t n l i) (closed w t))) (begin_own w ported align packing e)
+  pub body_off : {k : ℕ} → new_zst_for w align ≡ refused k → struct_body w part t i align packing n ≡ stopped k t
+  body_off e = ap (λ (o : Outcome Layout). at_place t o (λ l. go_on (add_read w part packing t n l i) (closed w t))) (begin_own w ported align packing e)
 
 -- what a part is made into, by two steps that agree on what was read
 pub made_alike : (p : Placed Part) (t : ℕ) (f g : Layout → Outcome Layout) → ((l : Layout) (j : ℕ) → p ≡ reached (l, j) → f l ≡ g l)
@@ -51,17 +51,17 @@ step_is w packing l m e = step_on w ported packing l m refl ∙ e
 
 -- the whole, and what it means
 pub whole_told : (w : ℕ) (target : Target) → ScalarsAccepted w target → (s : List ℕ) {r : Placed Layout} → r ≡ described_for w target s → (r ≡ described_for w target s) × ReadMeans w target s r
-whole_told w target good s {r} e = (e, read-means w target s good r (sym e))
+whole_told w target good s {r} e = (e, read_means w target s good r (sym e))
 
 module _ (w : ℕ) (target : Target) (s : List ℕ) where
-  pub whole-on : {l : Layout} {j : ℕ} → part_for w target 16 s 0 ≡ reached (l, j) → j ≡ length s → reached l ≡ described_for w target s
+  pub whole_on : {l : Layout} {j : ℕ} → part_for w target 16 s 0 ≡ reached (l, j) → j ≡ length s → reached l ≡ described_for w target s
   unfolding described_for
-  whole-on {l} {j} e f = sym (rw (e, eq-eqb j (length s) f))
+  whole_on {l} {j} e f = sym (rw (e, eq-eqb j (length s) f))
 
-  pub whole-over : {l : Layout} {j : ℕ} → part_for w target 16 s 0 ≡ reached (l, j) → (j ≡ length s → ⊥) → stopped 38 j ≡ described_for w target s
+  pub whole_over : {l : Layout} {j : ℕ} → part_for w target 16 s 0 ≡ reached (l, j) → (j ≡ length s → ⊥) → stopped 38 j ≡ described_for w target s
   unfolding described_for
-  whole-over {l} {j} e f = sym (rw (e, ne_eqb j (length s) f))
+  whole_over {l} {j} e f = sym (rw (e, ne_eqb j (length s) f))
 
-  pub whole-off : {k i : ℕ} → part_for w target 16 s 0 ≡ stopped k i → stopped k i ≡ described_for w target s
+  pub whole_off : {k i : ℕ} → part_for w target 16 s 0 ≡ stopped k i → stopped k i ≡ described_for w target s
   unfolding described_for
-  whole-off e = sym (rw e)
+  whole_off e = sym (rw e)

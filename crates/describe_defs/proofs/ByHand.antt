@@ -23,7 +23,7 @@ use Rattle.describe_defs.specs.Describe.{by_one, power_of, wholly, described_for
 use Rattle.describe_defs.specs.Grammar.{IsByte, Run, none, one, members, Header, a_code, a_scalar, Describes}
 use Rattle.describe_defs.specs.Faults.{ScalarsAccepted}
 use Rattle.describe_defs.specs.ByHand.{by_hand, Codes, of_codes, records_of, whole_by_hand, AsScalars}
-use Rattle.describe_defs.proofs.Meaning.{as-by-records}
+use Rattle.describe_defs.proofs.Meaning.{as_by_records}
 use Rattle.describe_defs.proofs.Accepted.{scalars64}
 
 -- ---- records one behind the other: what each is
@@ -60,21 +60,21 @@ records_listed w ls h =
 
 -- ---- codes one behind the other
 module _ (w : ℕ) (target : Target) (s : List ℕ) where
-  code-stands : (d t : ℕ) {b : ℕ} → IsByte s t b → b ≤ 8 → Describes w target d s t (t + 1) (scalar_layout target b)
+  code_stands : (d t : ℕ) {b : ℕ} → IsByte s t b → b ≤ 8 → Describes w target d s t (t + 1) (scalar_layout target b)
   unfolding Describes
-  code-stands zero t h g = a_code h g
-  code-stands (suc d) t h g = a_scalar (a_code h g)
+  code_stands zero t h g = a_code h g
+  code_stands (suc d) t h g = a_scalar (a_code h g)
 
-  codes-run : (d t : ℕ) (cs : List ℕ) → Codes cs → t + length cs ≡ length s → drop t s ≡ cs → Run (Describes w target d s) t (length s) (map (scalar_layout target) cs)
-  codes-run d t [] h n e = subst (λ (j : ℕ). Run (Describes w target d s) t j []) (let x : t ≡ length s = omega (arith, n) in x) none
-  codes-run d t (c ∷ cs) h n e =
+  codes_run : (d t : ℕ) (cs : List ℕ) → Codes cs → t + length cs ≡ length s → drop t s ≡ cs → Run (Describes w target d s) t (length s) (map (scalar_layout target) cs)
+  codes_run d t [] h n e = subst (λ (j : ℕ). Run (Describes w target d s) t j []) (let x : t ≡ length s = omega (arith, n) in x) none
+  codes_run d t (c ∷ cs) h n e =
       let x : t < length s = omega (arith, n) in
       let y : ◌≡◌ {A = List ℕ} (get_or s t 0 ∷ drop (suc t) s) (c ∷ cs) = sym (drop-cons s t 0 x) ∙ e in
       let a : get_or s t 0 ≡ c = cc in
       let b : drop (suc t) s ≡ cs = cc in
       let z : suc t ≡ t + 1 = omega arith in
-      one (code-stands d t (record { within = x; is = a }) h.0)
-      (codes-run d (t + 1) cs h.1 (omega (arith, n)) (subst (λ (i : ℕ). drop i s ≡ cs) z b))
+      one (code_stands d t (record { within = x; is = a }) h.0)
+      (codes_run d (t + 1) cs h.1 (omega (arith, n)) (subst (λ (i : ℕ). drop i s ≡ cs) z b))
 
 -- ---- a scalar's record holds it: of the 64-bit target every size and every alignment is at most 8
 abbrev Below : ℕ → List ℕ → Type 0
@@ -108,17 +108,17 @@ whole s (refused_at k place) = refl
 
 module _ (w : ℕ) (target : Target) (good : ScalarsAccepted w target) (fits : (b : ℕ) → b ≤ 8 → Fits (words_of (scalar_layout target b)))
     (held : (b : ℕ) → b ≤ 8 → FitsIn w (words_of (scalar_layout target b))) where
-  good-record : (b : ℕ) → b ≤ 8 → check_for 64 (scalar_layout target b) ≡ answered tt
-  good-record b h =
+  good_record : (b : ℕ) → b ≤ 8 → check_for 64 (scalar_layout target b) ≡ answered tt
+  good_record b h =
       same_check 64 w (scalar_layout target b) (omega (arith, (fits b h).align)) (omega (arith, (held b h).align, pow_pos w)) ∙ good b h
 
-  scalars-recorded : (cs : List ℕ) → Codes cs → Recorded w (map (scalar_layout target) cs)
-  scalars-recorded [] h = tt
-  scalars-recorded (c ∷ cs) h = (layout_back w (scalar_layout target c) (fits c h.0) (held c h.0) (good-record c h.0), scalars-recorded cs h.1)
+  scalars_recorded : (cs : List ℕ) → Codes cs → Recorded w (map (scalar_layout target) cs)
+  scalars_recorded [] h = tt
+  scalars_recorded (c ∷ cs) h = (layout_back w (scalar_layout target c) (fits c h.0) (held c h.0) (good_record c h.0), scalars_recorded cs h.1)
 
-  pub as-scalars : AsScalars w target
+  pub as_scalars : AsScalars w target
   unfolding described_for value_of
-  as-scalars a p cs ha hp fa fp hc =
+  as_scalars a p cs ha hp fa fp hc =
       let s = of_codes a p cs in
       let ms = map (scalar_layout target) cs in
       let n : length cs ≡ length ms = sym (length-map cs (scalar_layout target)) in
@@ -128,10 +128,10 @@ module _ (w : ℕ) (target : Target) (good : ScalarsAccepted w target) (fits : (
         packed = record { byte = p; at = record { within = omega arith; is = refl }; most = hp; fits = fp; is = refl };
         count = record { within = omega arith; is = let z : length cs + 256 * 0 ≡ length cs = omega arith in z ∙ n };
       } in
-      let r : Run (Describes w target 15 s) 4 (length s) ms = codes-run w target s 15 4 cs hc (omega arith) refl in
+      let r : Run (Describes w target 15 s) 4 (length s) ms = codes_run w target s 15 4 cs hc (omega arith) refl in
       let e : length (records_of ms) % 48 ≡ 0 = ap (λ (k : ℕ). k % 48) (records_length ms) ∙ mul-mod_left (length ms) 48 in
-      let x = as-by-records w target s 15 0 (length s) (power_of a) (power_of p) by_one ms (records_of ms) h r e (records_listed w ms (scalars-recorded cs hc)) in
+      let x = as_by_records w target s 15 0 (length s) (power_of a) (power_of p) by_one ms (records_of ms) h r e (records_listed w ms (scalars_recorded cs hc)) in
       ap (λ q. go_on q (wholly s)) x ∙ whole s (struct_for w ported (power_of a) (power_of p) (records_of ms))
 
 pub as_scalars64 : AsScalars 64 target64
-as_scalars64 = as-scalars 64 target64 scalars64 fits64 held64
+as_scalars64 = as_scalars 64 target64 scalars64 fits64 held64

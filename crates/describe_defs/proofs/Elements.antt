@@ -19,21 +19,21 @@ abbrev pub with_info : Layout → Info → Layout
 with_info l i = record { align = l.align; info = i; mark = l.mark; modifier = l.modifier }
 
 module _ (w : ℕ) (l : Layout) where
-  pub element-own : {k : ℕ} → check_for w l ≡ refused k → refused k ≡ element_for w l
+  pub element_own : {k : ℕ} → check_for w l ≡ refused k → refused k ≡ element_for w l
   unfolding check_for element_for
-  element-own e = sym (refused_first (layout_causes w l) (trailing_element l.info ∷ []) tt (element_size l) e)
+  element_own e = sym (refused_first (layout_causes w l) (trailing_element l.info ∷ []) tt (element_size l) e)
 
-  pub element-trailing : {t : Trailing} → check_for w l ≡ answered tt → l.info ≡ trailing t → refused 36 ≡ element_for w l
+  pub element_trailing : {t : Trailing} → check_for w l ≡ answered tt → l.info ≡ trailing t → refused 36 ≡ element_for w l
   unfolding check_for element_for unless
-  element-trailing e f = sym (accepted_first (layout_causes w l) (trailing_element l.info ∷ []) tt (element_size l) e ∙ rw f)
+  element_trailing e f = sym (accepted_first (layout_causes w l) (trailing_element l.info ∷ []) tt (element_size l) e ∙ rw f)
 
-  pub element-sized : {s : ℕ} → check_for w l ≡ answered tt → l.info ≡ fixed s → answered s ≡ element_for w l
+  pub element_sized : {s : ℕ} → check_for w l ≡ answered tt → l.info ≡ fixed s → answered s ≡ element_for w l
   unfolding check_for element_for unless
-  element-sized e f = sym (accepted_first (layout_causes w l) (trailing_element l.info ∷ []) tt (element_size l) e ∙ rw f)
+  element_sized e f = sym (accepted_first (layout_causes w l) (trailing_element l.info ∷ []) tt (element_size l) e ∙ rw f)
 
-  pub array-off : (n : ℕ) {k : ℕ} → element_for w l ≡ refused k → refused k ≡ array_for w l n
+  pub array_off : (n : ℕ) {k : ℕ} → element_for w l ≡ refused k → refused k ≡ array_for w l n
   unfolding element_for array_for
-  array-off n e = sym (refused_first (element_causes w l) (array_passes w (element_size l * n) ∷ []) (element_size l) (array_layout l n) e)
+  array_off n e = sym (refused_first (element_causes w l) (array_passes w (element_size l * n) ∷ []) (element_size l) (array_layout l n) e)
 
   pub array_past : (n : ℕ) {s : ℕ} → element_for w l ≡ answered s → M w < s * n → refused 37 ≡ array_for w l n
   unfolding element_for array_for unless
@@ -42,22 +42,22 @@ module _ (w : ℕ) (l : Layout) where
       let g : M w < element_size l * n = rw q at h in
       sym (accepted_first (element_causes w l) (array_passes w (element_size l * n) ∷ []) (element_size l) (array_layout l n) e ∙ rw (lt-ltb (M w) (element_size l * n) g))
 
-  pub array-on : (n : ℕ) {s : ℕ} → element_for w l ≡ answered s → s * n ≤ M w → answered (with_info l (fixed (s * n))) ≡ array_for w l n
+  pub array_on : (n : ℕ) {s : ℕ} → element_for w l ≡ answered s → s * n ≤ M w → answered (with_info l (fixed (s * n))) ≡ array_for w l n
   unfolding element_for array_for unless
-  array-on n {s} e h =
+  array_on n {s} e h =
       let q : s ≡ element_size l = answer_is (element_causes w l) (element_size l) e in
       let g : element_size l * n ≤ M w = rw q at h in
       ap (λ (z : ℕ). answered (with_info l (fixed (z * n)))) q
       ∙ sym (accepted_first (element_causes w l) (array_passes w (element_size l * n) ∷ []) (element_size l) (array_layout l n) e ∙ rw (le-ltb (M w) (element_size l * n) g))
 
-  pub slice-off : {k : ℕ} → element_for w l ≡ refused k → refused k ≡ slice_of_for w l
+  pub slice_off : {k : ℕ} → element_for w l ≡ refused k → refused k ≡ slice_of_for w l
   unfolding element_for slice_of_for
-  slice-off e = sym (refused_as (element_causes w l) (element_size l) (slice_of l) e)
+  slice_off e = sym (refused_as (element_causes w l) (element_size l) (slice_of l) e)
 
-  pub slice-on : {s : ℕ} → element_for w l ≡ answered s
+  pub slice_on : {s : ℕ} → element_for w l ≡ answered s
       → answered (record { align = l.align; info = trailing (record { offset = 0; elem = s; base = 0; word = l.align }); mark = true; modifier = l.modifier }) ≡ slice_of_for w l
   unfolding element_for slice_of_for
-  slice-on {s} e =
+  slice_on {s} e =
       ap (λ (z : ℕ). answered (record { align = l.align; info = trailing (record { offset = 0; elem = z; base = 0; word = l.align }); mark = true; modifier = l.modifier })) (answer_is (element_causes w l) (element_size l) e)
       ∙ sym (accepted_as (element_causes w l) (element_size l) (slice_of l) e)
 
@@ -65,9 +65,9 @@ module _ (w : ℕ) (l : Layout) where
   element_decided : l.align < 2 ^ w → Decided (element_causes w l)
   element_decided h = decided_both (layout_causes w l) (trailing_element l.info ∷ []) (layout_decided w l h) (λ _. (tells_trailing l.info, λ _. tt))
 
-  pub array-meets : (n : ℕ) → l.align < 2 ^ w → Meets (array_causes w l n) (λ r. r ≡ array_layout l n) (array_for w l n)
+  pub array_meets : (n : ℕ) → l.align < 2 ^ w → Meets (array_causes w l n) (λ r. r ≡ array_layout l n) (array_for w l n)
   unfolding array_for
-  array-meets n h =
+  array_meets n h =
       meets (array_causes w l n) (array_layout l n) (decided_both (element_causes w l) (array_passes w (element_size l * n) ∷ []) (element_decided h) (λ _. (tells_lt (M w) (element_size l * n), λ _. tt))) (λ _. refl)
 
   pub slice_meets : l.align < 2 ^ w → Meets (element_causes w l) (λ r. r ≡ slice_of l) (slice_of_for w l)

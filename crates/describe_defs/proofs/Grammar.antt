@@ -45,26 +45,26 @@ struct_made w align packing ms e f g = rw (e, f, g)
 
 module _ (w : ℕ) (part : Reader) (Inner : Stands) (packing t : ℕ) where
   -- members that read give what their composition does, its refusal at the tag
-  pub run-by-hand : Gives part Inner → (k : ℕ) (l : Layout) {i j : ℕ} {ms : List Layout} → Run Inner i j ms
+  pub run_by_hand : Gives part Inner → (k : ℕ) (l : Layout) {i j : ℕ} {ms : List Layout} → Run Inner i j ms
       → add_read w part packing t (length ms) l i ≡ by_hand t j (add_members (member_step w ported packing) k l (members ms))
   unfolding add_read add_members
-  run-by-hand g k l none = refl
-  run-by-hand g k l (one {i = i} {j = j} {k = e} {m = m} {ms = ms} p r) = rw (g i j m p) (go (member_step w ported packing l (answered m)) (λ l'. run-by-hand g (suc k) l' r))
+  run_by_hand g k l none = refl
+  run_by_hand g k l (one {i = i} {j = j} {k = e} {m = m} {ms = ms} p r) = rw (g i j m p) (go (member_step w ported packing l (answered m)) (λ l'. run_by_hand g (suc k) l' r))
     where
       go : (o : Outcome Layout) → ((l' : Layout) → add_read w part packing t (length ms) l' j ≡ by_hand t e (add_members (member_step w ported packing) (suc k) l' (members ms)))
           → at_place t o (λ l'. add_read w part packing t (length ms) l' j) ≡ by_hand t e (and_then o k (λ l'. add_members (member_step w ported packing) (suc k) l' (members ms)))
       go (answered l') h = h l'
       go (refused q) h = refl
 
-  pub run-found : Finds part Inner → (n k i j : ℕ) (l r : Layout) → add_read w part packing t n l i ≡ reached (r, j) → Added w Inner packing n k i j l r
+  pub run_found : Finds part Inner → (n k i j : ℕ) (l r : Layout) → add_read w part packing t n l i ≡ reached (r, j) → Added w Inner packing n k i j l r
   unfolding add_read add_members
-  run-found f zero k i j l r e =
+  run_found f zero k i j l r e =
       let x : ◌≡◌ {A = Part} (l, i) (r, j) = reached_one e in
       subst (λ (y : Part). Added w Inner packing 0 k i y.1 l y.0) x (record { ms = []; run = none; count = refl; adds = refl })
-  run-found f (suc n) k i j l r e =
+  run_found f (suc n) k i j l r e =
       let x = went (part i) (λ m. at_place t (member_step w ported packing l (answered m.0)) (λ l'. add_read w part packing t n l' m.1)) e in
       let y = went_at t (member_step w ported packing l (answered x.to.0)) (λ l'. add_read w part packing t n l' x.to.1) x.then in
-      let z = run-found f n (suc k) x.to.1 j y.to r y.then in
+      let z = run_found f n (suc k) x.to.1 j y.to r y.then in
       record {
         ms = x.to.0 ∷ z.ms;
         run = one (f i x.to.1 x.to.0 x.first) z.run;
@@ -73,9 +73,9 @@ module _ (w : ℕ) (part : Reader) (Inner : Stands) (packing t : ℕ) where
       }
 
   -- a struct whose members read is their composition
-  pub body-by-hand : Gives part Inner → (align : ℕ) {i j : ℕ} {ms : List Layout} → Run Inner i j ms
+  pub body_by_hand : Gives part Inner → (align : ℕ) {i j : ℕ} {ms : List Layout} → Run Inner i j ms
       → struct_body w part t i align packing (length ms) ≡ by_hand t j (compose_struct w ported align packing (members ms))
-  body-by-hand g align {i} {j} {ms} r = begun (begin_for w ported align packing)
+  body_by_hand g align {i} {j} {ms} r = begun (begin_for w ported align packing)
     where
       closes : (l : Layout) (o : Outcome Layout) → at_place t o (λ l'. reached (l', j)) ≡ by_hand t j (and_then o (length (members ms)) composed)
       closes l (answered l') = refl
@@ -87,32 +87,32 @@ module _ (w : ℕ) (part : Reader) (Inner : Stands) (packing t : ℕ) where
 
       begun : (o : Outcome Layout) → at_place t o (λ l. go_on (add_read w part packing t (length ms) l i) (closed w t))
           ≡ by_hand t j (bind (and_then o 0 (λ l. add_members (member_step w ported packing) 0 l (members ms))) (λ l. and_then (pad_for w l) (length (members ms)) composed))
-      begun (answered l) = rw (run-by-hand g 0 l r) (padded (add_members (member_step w ported packing) 0 l (members ms)))
+      begun (answered l) = rw (run_by_hand g 0 l r) (padded (add_members (member_step w ported packing) 0 l (members ms)))
       begun (refused k) = refl
 
 -- a part by its tag
 module _ (w : ℕ) (target : Target) (s : List ℕ) (t : ℕ) where
-  pub tagged-code : (inside : Form → Placed Part) {j : ℕ} {l : Layout} → ScalarIs target s t j l → tagged_at target s t inside ≡ reached (l, j)
-  tagged-code inside (a_code {b = b} h g) = rw (byte_is s t h, tag_code b g)
+  pub tagged_code : (inside : Form → Placed Part) {j : ℕ} {l : Layout} → ScalarIs target s t j l → tagged_at target s t inside ≡ reached (l, j)
+  tagged_code inside (a_code {b = b} h g) = rw (byte_is s t h, tag_code b g)
 
-  pub tagged-array : (inside : Form → Placed Part) → IsByte s t 16 → tagged_at target s t inside ≡ inside array
-  tagged-array inside h = rw (byte_is s t h)
+  pub tagged_array : (inside : Form → Placed Part) → IsByte s t 16 → tagged_at target s t inside ≡ inside array
+  tagged_array inside h = rw (byte_is s t h)
 
-  pub tagged-struct : (inside : Form → Placed Part) (c : Counted) → IsByte s t (struct_tag c) → tagged_at target s t inside ≡ inside (struct c)
-  tagged-struct inside by_one h = rw (byte_is s t h)
-  tagged-struct inside by_two h = rw (byte_is s t h)
+  pub tagged_struct : (inside : Form → Placed Part) (c : Counted) → IsByte s t (struct_tag c) → tagged_at target s t inside ≡ inside (struct c)
+  tagged_struct inside by_one h = rw (byte_is s t h)
+  tagged_struct inside by_two h = rw (byte_is s t h)
 
-  pub tagged-slice : (inside : Form → Placed Part) → IsByte s t 18 → tagged_at target s t inside ≡ inside slice
-  tagged-slice inside h = rw (byte_is s t h)
+  pub tagged_slice : (inside : Form → Placed Part) → IsByte s t 18 → tagged_at target s t inside ≡ inside slice
+  tagged_slice inside h = rw (byte_is s t h)
 
   -- a struct by its header
   pub struct_is : (part : Reader) {c : Counted} {align packing n : ℕ} → Header w s t c align packing n → struct_at w part s t c ≡ struct_body w part t (t + 3 + count_bytes c) align packing n
   unfolding struct_at
   struct_is part {c} h = rw (power_is w s (t + 1) h.aligned, power_is w s (t + 2) h.packed, count_is (count_bytes c) s (t + 3) h.count)
 
-  pub array-is : (part : Reader) {j n : ℕ} {m l : Layout} → IsCount 4 s (t + 1) n → part (t + 1 + 4) ≡ reached (m, j) → array_for w m n ≡ answered l → array_at w part s t ≡ reached (l, j)
+  pub array_is : (part : Reader) {j n : ℕ} {m l : Layout} → IsCount 4 s (t + 1) n → part (t + 1 + 4) ≡ reached (m, j) → array_for w m n ≡ answered l → array_at w part s t ≡ reached (l, j)
   unfolding array_at
-  array-is part h e f = rw (count_is 4 s (t + 1) h, e, f)
+  array_is part h e f = rw (count_is 4 s (t + 1) h, e, f)
 
   pub slice_is : (part : Reader) {j : ℕ} {m l : Layout} → part (t + 1) ≡ reached (m, j) → slice_of_for w m ≡ answered l → slice_at w part t ≡ reached (l, j)
   unfolding slice_at
@@ -120,16 +120,16 @@ module _ (w : ℕ) (target : Target) (s : List ℕ) (t : ℕ) where
 
   -- what the grammar says of the level above, the reader gives
   pub given : (part : Reader) (Inner : Stands) → Gives part Inner → {j : ℕ} {l : Layout} → PartIs w target s Inner t j l → tagged_at target s t (form_at w part s t) ≡ reached (l, j)
-  given part Inner g (a_scalar h) = tagged-code (form_at w part s t) h
-  given part Inner g (an_array {j = j} {m = m} h p q e) = tagged-array (form_at w part s t) h ∙ array-is part p (g (t + 1 + 4) j m q) e
+  given part Inner g (a_scalar h) = tagged_code (form_at w part s t) h
+  given part Inner g (an_array {j = j} {m = m} h p q e) = tagged_array (form_at w part s t) h ∙ array_is part p (g (t + 1 + 4) j m q) e
   given part Inner g (a_struct {j = j} {align} {packing} {c} {ms} h r e) =
-      tagged-struct (form_at w part s t) c h.tag ∙ struct_is part h ∙ body-by-hand w part Inner packing t g align r ∙ ap (by_hand t j) e
-  given part Inner g (a_slice {j = j} {m = m} h q e) = tagged-slice (form_at w part s t) h ∙ slice_is part (g (t + 1) j m q) e
+      tagged_struct (form_at w part s t) c h.tag ∙ struct_is part h ∙ body_by_hand w part Inner packing t g align r ∙ ap (by_hand t j) e
+  given part Inner g (a_slice {j = j} {m = m} h q e) = tagged_slice (form_at w part s t) h ∙ slice_is part (g (t + 1) j m q) e
 
   -- what the reader finds, the grammar says: by what the tag opens
-  by-tag : (Is : Layout → ℕ → Type 0) (inside : Form → Placed Part) {j : ℕ} {l : Layout} → ((b : ℕ) → IsByte s t b → b ≤ 8 → Is (scalar_layout target b) (t + 1))
+  by_tag : (Is : Layout → ℕ → Type 0) (inside : Form → Placed Part) {j : ℕ} {l : Layout} → ((b : ℕ) → IsByte s t b → b ≤ 8 → Is (scalar_layout target b) (t + 1))
       → ((f : Form) → IsByte s t (tag_byte f) → inside f ≡ reached (l, j) → Is l j) → tagged_at target s t inside ≡ reached (l, j) → Is l j
-  by-tag Is inside {j} {l} p q e = let x = went (byte_at s t) (λ b. tagged target t b inside (tag_of b)) e in go x.to (byte_found s t x.first) (tag_of x.to) (tag_means x.to) x.then
+  by_tag Is inside {j} {l} p q e = let x = went (byte_at s t) (λ b. tagged target t b inside (tag_of b)) e in go x.to (byte_found s t x.first) (tag_of x.to) (tag_means x.to) x.then
     where
       go : (b : ℕ) → IsByte s t b → (g : Tag) → TagMeans b g → tagged target t b inside g ≡ reached (l, j) → Is l j
       go b h code m e = subst (λ (y : Part). Is y.0 y.1) (reached_one e) (p b h m)
@@ -139,9 +139,9 @@ module _ (w : ℕ) (target : Target) (s : List ℕ) (t : ℕ) where
       go b h unknown m e = absurd (not_stopped e)
 
   module _ (part : Reader) (Inner : Stands) (f : Finds part Inner) {j : ℕ} {l : Layout} where
-    array-found : IsByte s t 16 → array_at w part s t ≡ reached (l, j) → PartIs w target s Inner t j l
+    array_found : IsByte s t 16 → array_at w part s t ≡ reached (l, j) → PartIs w target s Inner t j l
     unfolding array_at
-    array-found h e =
+    array_found h e =
         let x = went (count_at 4 s (t + 1)) (λ n. go_on (part (t + 1 + 4)) (λ x. at_place t (array_for w x.0 n) (λ l. reached (l, x.1)))) e in
         let y = went (part (t + 1 + 4)) (λ y. at_place t (array_for w y.0 x.to) (λ l. reached (l, y.1))) x.then in
         let z = went_at t (array_for w y.to.0 x.to) (λ l. reached (l, y.to.1)) y.then in
@@ -149,17 +149,17 @@ module _ (w : ℕ) (target : Target) (s : List ℕ) (t : ℕ) where
         subst (λ (u : Part). PartIs w target s Inner t u.1 u.0) (reached_one z.then)
         (an_array h c (f (t + 1 + 4) y.to.1 y.to.0 y.first) z.first)
 
-    slice-found : IsByte s t 18 → slice_at w part t ≡ reached (l, j) → PartIs w target s Inner t j l
+    slice_found : IsByte s t 18 → slice_at w part t ≡ reached (l, j) → PartIs w target s Inner t j l
     unfolding slice_at
-    slice-found h e =
+    slice_found h e =
         let y = went (part (t + 1)) (λ y. at_place t (slice_of_for w y.0) (λ l. reached (l, y.1))) e in
         let z = went_at t (slice_of_for w y.to.0) (λ l. reached (l, y.to.1)) y.then in
         subst (λ (u : Part). PartIs w target s Inner t u.1 u.0) (reached_one z.then)
         (a_slice h (f (t + 1) y.to.1 y.to.0 y.first) z.first)
 
-    struct-found : (k : Counted) → IsByte s t (struct_tag k) → struct_at w part s t k ≡ reached (l, j) → PartIs w target s Inner t j l
+    struct_found : (k : Counted) → IsByte s t (struct_tag k) → struct_at w part s t k ≡ reached (l, j) → PartIs w target s Inner t j l
     unfolding struct_at
-    struct-found k h e =
+    struct_found k h e =
         let i = t + 3 + count_bytes k in
         let a = went (power_at w s (t + 1)) (λ align. go_on (power_at w s (t + 2)) (λ packing. go_on (count_at (count_bytes k) s (t + 3)) (λ n. struct_body w part t i align packing n))) e in
         let b = went (power_at w s (t + 2)) (λ packing. go_on (count_at (count_bytes k) s (t + 3)) (λ n. struct_body w part t i a.to packing n)) a.then in
@@ -167,29 +167,29 @@ module _ (w : ℕ) (target : Target) (s : List ℕ) (t : ℕ) where
         let d = went_at t (begin_for w ported a.to b.to) (λ l. go_on (add_read w part b.to t c.to l i) (closed w t)) c.then in
         let u = went (add_read w part b.to t c.to d.to i) (closed w t) d.then in
         let v = went_at t (pad_for w u.to.0) (λ l. reached (l, u.to.1)) u.then in
-        let r = run-found w part Inner b.to t f c.to 0 i u.to.1 d.to u.to.0 u.first in
+        let r = run_found w part Inner b.to t f c.to 0 i u.to.1 d.to u.to.0 u.first in
         subst (λ (y : Part). PartIs w target s Inner t y.1 y.0) (reached_one v.then)
         (a_struct {c = k}
         (record { tag = h; aligned = power_found w s (t + 1) a.first; packed = power_found w s (t + 2) b.first; count = subst (IsCount (count_bytes k) s (t + 3)) (sym r.count) (count_found (count_bytes k) s (t + 3) c.first) })
         r.run
         (struct_made w a.to b.to r.ms d.first r.adds v.first))
 
-    form-found : (g : Form) → IsByte s t (tag_byte g) → form_at w part s t g ≡ reached (l, j) → PartIs w target s Inner t j l
-    form-found array h e = array-found h e
-    form-found (struct k) h e = struct-found k h e
-    form-found slice h e = slice-found h e
+    form_found : (g : Form) → IsByte s t (tag_byte g) → form_at w part s t g ≡ reached (l, j) → PartIs w target s Inner t j l
+    form_found array h e = array_found h e
+    form_found (struct k) h e = struct_found k h e
+    form_found slice h e = slice_found h e
 
     pub found : tagged_at target s t (form_at w part s t) ≡ reached (l, j) → PartIs w target s Inner t j l
-    found e = by-tag (λ l j. PartIs w target s Inner t j l) (form_at w part s t) (λ b h p. a_scalar (a_code h p)) form-found e
+    found e = by_tag (λ l j. PartIs w target s Inner t j l) (form_at w part s t) (λ b h p. a_scalar (a_code h p)) form_found e
 
 -- the reader accepts exactly the descriptions, and gives their layouts
 module _ (w : ℕ) (target : Target) (s : List ℕ) where
   pub reads : (d : ℕ) → Gives (part_for w target d s) (Describes w target d s)
   unfolding part_for Describes
-  reads zero i j m h = tagged-code w target s i (λ f. stopped 35 i) h
+  reads zero i j m h = tagged_code w target s i (λ f. stopped 35 i) h
   reads (suc d) i j m h = given w target s i (part_for w target d s) (Describes w target d s) (reads d) h
 
   pub describes : (d : ℕ) → Finds (part_for w target d s) (Describes w target d s)
   unfolding part_for Describes
-  describes zero i j m e = by-tag w target s i (λ l k. ScalarIs target s i k l) (λ f. stopped 35 i) (λ b h p. a_code h p) (λ f h e. absurd (not_stopped e)) e
+  describes zero i j m e = by_tag w target s i (λ l k. ScalarIs target s i k l) (λ f. stopped 35 i) (λ b h p. a_code h p) (λ f h e. absurd (not_stopped e)) e
   describes (suc d) i j m e = found w target s i (part_for w target d s) (Describes w target d s) (describes d) e

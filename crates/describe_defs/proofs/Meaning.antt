@@ -16,7 +16,7 @@ use Rattle.describe_defs.specs.Grammar.{Stands, Run, none, one, members, ScalarI
 use Rattle.describe_defs.specs.Grammar.{Describes, Description}
 use Rattle.describe_defs.specs.ByHand.{OneLayout, AsByHand, AsByRecords}
 use Rattle.describe_defs.proofs.Steps.{reached_one, went, went_if}
-use Rattle.describe_defs.proofs.Grammar.{tagged-struct, struct_is, body-by-hand, reads, describes}
+use Rattle.describe_defs.proofs.Grammar.{tagged_struct, struct_is, body_by_hand, reads, describes}
 
 -- ---- a part moves on within the bytes: what makes the bytes left fall
 abbrev pub Past : List ℕ → ℕ → ℕ → Type 0
@@ -39,17 +39,17 @@ part_past w target s Inner f (a_struct h r e) = omega (arith, run_past s Inner f
 part_past w target s Inner f (a_slice {t = t} {j = j} {m = m} h q e) = omega (arith, f (t + 1) j m q)
 
 module _ (w : ℕ) (target : Target) (s : List ℕ) where
-  pub described-past : (d i j : ℕ) (l : Layout) → Describes w target d s i j l → Past s i j
+  pub described_past : (d i j : ℕ) (l : Layout) → Describes w target d s i j l → Past s i j
   unfolding Describes
-  described-past zero i j l h = scalar_past target s h
-  described-past (suc d) i j l h = part_past w target s (Describes w target d s) (described-past d) h
+  described_past zero i j l h = scalar_past target s h
+  described_past (suc d) i j l h = part_past w target s (Describes w target d s) (described_past d) h
 
   pub moved : (d i j : ℕ) (l : Layout) → part_for w target d s i ≡ reached (l, j) → Past s i j
-  moved d i j l e = described-past d i j l (describes w target s d i j l e)
+  moved d i j l e = described_past d i j l (describes w target s d i j l e)
 
   -- ---- bytes from a place on describe one layout, and end at one place
-  pub one-part : (d i : ℕ) {j k : ℕ} {l m : Layout} → Describes w target d s i j l → Describes w target d s i k m → ◌≡◌ {A = Part} (l, j) (m, k)
-  one-part d i {j} {k} {l} {m} h g = reached_one (sym (reads w target s d i j l h) ∙ reads w target s d i k m g)
+  pub one_part : (d i : ℕ) {j k : ℕ} {l m : Layout} → Describes w target d s i j l → Describes w target d s i k m → ◌≡◌ {A = Part} (l, j) (m, k)
+  one_part d i {j} {k} {l} {m} h g = reached_one (sym (reads w target s d i j l h) ∙ reads w target s d i k m g)
 
   -- ---- the whole
   pub accepted : {l : Layout} → Description w target s l → described_for w target s ≡ reached l
@@ -64,16 +64,16 @@ module _ (w : ℕ) (target : Target) (s : List ℕ) where
       let g = describes w target s 16 0 x.to.1 x.to.0 x.first in
       subst (λ (j : ℕ). Describes w target 16 s 0 j l) (eqb-true x.to.1 (length s) y.0) (subst (λ (m : Layout). Describes w target 16 s 0 x.to.1 m) y.1 g)
 
-  pub one-layout : OneLayout w target s
-  one-layout l m h g = reached_one (sym (accepted h) ∙ accepted g)
+  pub one_layout : OneLayout w target s
+  one_layout l m h g = reached_one (sym (accepted h) ∙ accepted g)
 
   -- ---- "The result is the one composition by hand would give": of its members' layouts, and of a list of their records
-  pub as-by-hand : AsByHand w target s
+  pub as_by_hand : AsByHand w target s
   unfolding part_for
-  as-by-hand d t j align packing c ms h r =
-      tagged-struct w target s t (form_at w (part_for w target d s) s t) c h.tag ∙ struct_is w target s t (part_for w target d s) h
-      ∙ body-by-hand w (part_for w target d s) (Describes w target d s) packing t (reads w target s d) align r
+  as_by_hand d t j align packing c ms h r =
+      tagged_struct w target s t (form_at w (part_for w target d s) s t) c h.tag ∙ struct_is w target s t (part_for w target d s) h
+      ∙ body_by_hand w (part_for w target d s) (Describes w target d s) packing t (reads w target s d) align r
 
-  pub as-by-records : AsByRecords w target s
+  pub as_by_records : AsByRecords w target s
   unfolding struct_for
-  as-by-records d t j align packing c ms rs h r e f = as-by-hand d t j align packing c ms h r ∙ rw (eq-eqb (length rs % 48) 0 e, f)
+  as_by_records d t j align packing c ms rs h r e f = as_by_hand d t j align packing c ms h r ∙ rw (eq-eqb (length rs % 48) 0 e, f)

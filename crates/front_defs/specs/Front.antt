@@ -48,9 +48,9 @@ IsRefused w l addr len k = First (cast_causes w l prefix addr len) k
 
 -- what serving means
 pub data Serves (w : ℕ) (l : Layout) (a m b s : ℕ) : Serving → Type 0 where
-  map-serves : {g : Grant} → IsGranted w l a m g → Serves w l a m b s (of_map g)
-  spare-serves : {k : ℕ} {g : Grant} → IsRefused w l a m k → IsGranted w l b s g → Serves w l a m b s (of_spare k g)
-  none-serves : {k j : ℕ} → IsRefused w l a m k → IsRefused w l b s j → Serves w l a m b s (of_neither k j)
+  map_serves : {g : Grant} → IsGranted w l a m g → Serves w l a m b s (of_map g)
+  spare_serves : {k : ℕ} {g : Grant} → IsRefused w l a m k → IsGranted w l b s g → Serves w l a m b s (of_spare k g)
+  none_serves : {k j : ℕ} → IsRefused w l a m k → IsRefused w l b s j → Serves w l a m b s (of_neither k j)
 
 -- what the part that comes back is: the front of the buffer that serves, as long as the split that its cast granted, or empty
 pub record FrontMeans (w : ℕ) (l : Layout) (a : ℕ) (map : List ℕ) (b : ℕ) (spare part : List ℕ) : Type 0 where

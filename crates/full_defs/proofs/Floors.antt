@@ -90,14 +90,14 @@ floor_low s g h l d =
     }
 
 module _ (f g : ℕ → ℕ) (b A P c B Q e : ℕ) (x : Floor f b A P e) (y : Floor g c B Q e) (h : (n : ℕ) → f n ≡ g n) where
-  line-le : c + Q ≤ b + P
-  line-le =
+  line_le : c + Q ≤ b + P
+  line_le =
       let n = x.count in
       let u : up (P + n * e) A ≡ P + n * e = up_whole (P + n * e) A x.pos x.meets in
       omega (arith, x.sizes n, y.sizes n, h n, up_ge (Q + n * e) B y.pos)
 
-  meets-both : b + P ≡ c + Q → (m : ℕ) → (P + m * e) % A ≡ 0 → (Q + m * e) % B ≡ 0
-  meets-both k m d =
+  meets_both : b + P ≡ c + Q → (m : ℕ) → (P + m * e) % A ≡ 0 → (Q + m * e) % B ≡ 0
+  meets_both k m d =
       let u : up (P + m * e) A ≡ P + m * e = up_whole (P + m * e) A x.pos d in
       let v : up (Q + m * e) B ≡ Q + m * e = omega (arith, x.sizes m, y.sizes m, h m) in
       ap (λ (z : ℕ). z % B) (sym v) ∙ up_multiple (Q + m * e) B
@@ -106,10 +106,10 @@ module _ (f g : ℕ → ℕ) (b A P c B Q e : ℕ) (x : Floor f b A P e) (y : Fl
   steps : b + P ≡ c + Q → (m : ℕ) → m * e % A ≡ 0 → m * e % B ≡ 0
   steps k m d =
       let n = x.count in
-      let at : (Q + n * e) % B ≡ 0 = meets-both k n x.meets in
+      let at : (Q + n * e) % B ≡ 0 = meets_both k n x.meets in
       let on : (P + (n + m) * e) % A ≡ 0 = ap (λ (z : ℕ). z % A) {x = P + (n + m) * e} {y = P + n * e + m * e} (omega arith) ∙ sum_multiple A (P + n * e) (m * e) x.meets d in
       whole_rest (Q + n * e) (m * e) B at
-      (ap (λ (z : ℕ). z % B) {x = Q + n * e + m * e} {y = Q + (n + m) * e} (omega arith) ∙ meets-both k (n + m) on)
+      (ap (λ (z : ℕ). z % B) {x = Q + n * e + m * e} {y = Q + (n + m) * e} (omega arith) ∙ meets_both k (n + m) on)
 
 -- two lines of one sequence: the same multiples of e are whole, and equal A leave equal remainders
 pub record Meet (A P B Q e : ℕ) : Type 0 where
@@ -120,13 +120,13 @@ pub record Meet (A P B Q e : ℕ) : Type 0 where
 pub meet : {f g : ℕ → ℕ} {b A P c B Q e : ℕ} → Floor f b A P e → Floor g c B Q e → ((n : ℕ) → f n ≡ g n) → Meet A P B Q e
 meet {f} {g} {b} {A} {P} {c} {B} {Q} {e} x y h =
     let back : (n : ℕ) → g n ≡ f n = λ n. sym (h n) in
-    let line : b + P ≡ c + Q = le_antisymm (line-le g f c B Q b A P e y x back) (line-le f g b A P c B Q e x y h) in
+    let line : b + P ≡ c + Q = le_antisymm (line_le g f c B Q b A P e y x back) (line_le f g b A P c B Q e x y h) in
     record {
       there = steps f g b A P c B Q e x y h line;
       here = steps g f c B Q b A P e y x back (sym line);
       rests = λ a.
           same_rest P Q (x.count * e) A x.meets
-          (subst (λ (z : ℕ). (Q + x.count * e) % z ≡ 0) (sym a) (meets-both f g b A P c B Q e x y h line x.count x.meets))
+          (subst (λ (z : ℕ). (Q + x.count * e) % z ≡ 0) (sym a) (meets_both f g b A P c B Q e x y h line x.count x.meets))
           ∙ ap (λ (z : ℕ). Q % z) a;
     }
 

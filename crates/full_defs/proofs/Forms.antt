@@ -66,9 +66,9 @@ module _ (w : ℕ) (t : Trailing) (pt : 0 < t.word) (ht : t.word < 2 ^ w) where
       go (inr r) = r.1
 
   -- A divides e: A 1 and phase 0, of the size at 0
-  whole-normal : t.elem % A w t ≡ 0 → IsNormal w t (form (size_at w t 0) 1 t.elem)
+  whole_normal : t.elem % A w t ≡ 0 → IsNormal w t (form (size_at w t 0) 1 t.elem)
   unfolding size_with
-  whole-normal d = record {
+  whole_normal d = record {
     parts = record { base = size_at w t 0; align = 1; phase = 0; elem = t.elem };
     base = refl;
     word = record { power = record { exponent = 0; power = refl }; below = omega arith; sum = refl };
@@ -88,9 +88,9 @@ module _ (w : ℕ) (t : Trailing) (pt : 0 < t.word) (ht : t.word < 2 ^ w) where
       go c (inr l) = inl l
 
   -- it does not, and the phase is seen as 0
-  zero-normal : (t.elem % A w t ≡ 0 → ⊥) → seen_phase w t.elem (A w t) (p w t) ≡ 0 → IsNormal w t (form (size_at w t 0) (A w t) t.elem)
+  zero_normal : (t.elem % A w t ≡ 0 → ⊥) → seen_phase w t.elem (A w t) (p w t) ≡ 0 → IsNormal w t (form (size_at w t 0) (A w t) t.elem)
   unfolding size_with
-  zero-normal d z = record {
+  zero_normal d z = record {
     parts = record { base = size_at w t 0; align = A w t; phase = 0; elem = t.elem };
     base = refl;
     word = record { power = sound.power; below = positive sound.power; sum = omega arith };
@@ -109,32 +109,32 @@ module _ (w : ℕ) (t : Trailing) (pt : 0 < t.word) (ht : t.word < 2 ^ w) where
   }
 
   -- it is seen as another: the least that is seen alike
-  least-normal : (t.elem % A w t ≡ 0 → ⊥) → (seen_phase w t.elem (A w t) (p w t) ≡ 0 → ⊥)
+  least_normal : (t.elem % A w t ≡ 0 → ⊥) → (seen_phase w t.elem (A w t) (p w t) ≡ 0 → ⊥)
       → IsNormal w t (form t.base (A w t + (up (p w t) (lowest_bit w t.elem) - lowest_bit w t.elem + 1)) t.elem)
   unfolding size_with
-  least-normal d z = record {
+  least_normal d z = record {
     parts = record { base = t.base; align = A w t; phase = P - g + 1; elem = t.elem };
     base = refl;
-    word = record { power = sound.power; below = omega (arith, under, g-pos, g-le); sum = refl };
+    word = record { power = sound.power; below = omega (arith, under, g_pos, g_le); sum = refl };
     elem = refl;
     choice = record {
-      sound = record { power = sound.power; below = omega (arith, under, g-pos, g-le) };
+      sound = record { power = sound.power; below = omega (arith, under, g_pos, g_le) };
       elem = refl;
       sizes = λ n.
           let m : n * t.elem % g ≡ 0 = whole_times n t.elem g (low_divides l) in
           let u : up (P - g + 1 + n * t.elem) (A w t) ≡ up (p w t + n * t.elem) (A w t) =
-          sym (up_unit (P - g + 1) (n * t.elem) g (A w t) g-pos (positive sound.power) divides m)
+          sym (up_unit (P - g + 1) (n * t.elem) g (A w t) g_pos (positive sound.power) divides m)
           ∙ ap (λ (a : ℕ). up (a + n * t.elem) (A w t)) again
-          ∙ up_unit (p w t) (n * t.elem) g (A w t) g-pos (positive sound.power) divides m in
+          ∙ up_unit (p w t) (n * t.elem) g (A w t) g_pos (positive sound.power) divides m in
           omega arith;
     };
     least = λ less c x.
         let r = others less c d x in
         let Q = up c.phase g in
         let eq : P % A w t ≡ Q % A w t = r.1 ∙ ap (λ (a : ℕ). Q % a) (sym r.0) in
-        let q-lt : Q < A w t = rounded_lt g-pos (subst (λ (a : ℕ). c.phase < a) (sym r.0) x.sound.below) divides (λ b. z (eq ∙ b)) in
+        let q-lt : Q < A w t = rounded_lt g_pos (subst (λ (a : ℕ). c.phase < a) (sym r.0) x.sound.below) divides (λ b. z (eq ∙ b)) in
         let pq : P ≡ Q = sym (mod-eq_of_lt under) ∙ eq ∙ mod-eq_of_lt q-lt in
-        inr (r.0, omega (arith, up_near c.phase g g-pos, g-le, g-pos));
+        inr (r.0, omega (arith, up_near c.phase g g_pos, g_le, g_pos));
   }
     where
       g : ℕ
@@ -146,20 +146,20 @@ module _ (w : ℕ) (t : Trailing) (pt : 0 < t.word) (ht : t.word < 2 ^ w) where
       l : LowestBit t.elem g
       l = lowest_of w t t.elem pt ht d
 
-      g-pos : 0 < g
-      g-pos = positive l.power
+      g_pos : 0 < g
+      g_pos = positive l.power
 
       divides : A w t % g ≡ 0
       divides = low_under l sound.power d
 
       under : P < A w t
-      under = rounded_lt g-pos sound.below divides z
+      under = rounded_lt g_pos sound.below divides z
 
-      g-le : g ≤ P
-      g-le = unit_le g (A w t) (p w t) z
+      g_le : g ≤ P
+      g_le = unit_le g (A w t) (p w t) z
 
       again : up (P - g + 1) g ≡ P
-      again = sym (up_is (P - g + 1) g P g-pos (up_multiple (p w t) g) (omega (arith, g-le, g-pos)) (omega (arith, g-le, g-pos)))
+      again = sym (up_is (P - g + 1) g P g_pos (up_multiple (p w t) g) (omega (arith, g_le, g_pos)) (omega (arith, g_le, g_pos)))
 
   -- what is computed is the normal form
   pub is_normal_lem : IsNormal w t (form_of w t)
@@ -172,9 +172,9 @@ module _ (w : ℕ) (t : Trailing) (pt : 0 < t.word) (ht : t.word < 2 ^ w) where
           (cond b (form (size_at w t 0) (A w t) t.elem)
           (form t.base (A w t + (up (p w t) (lowest_bit w t.elem) - lowest_bit w t.elem + 1)) t.elem))
           )
-      go (holds d) _ = whole-normal d
-      go (fails d) (holds z) = zero-normal d z
-      go (fails d) (fails z) = least-normal d z
+      go (holds d) _ = whole_normal d
+      go (fails d) (holds z) = zero_normal d z
+      go (fails d) (fails z) = least_normal d z
 
 -- of two that are each no later than the other, A and phase are the same
 both_least : (c d : Parts) → NoLater c d → NoLater d c → (c.align ≡ d.align) × (c.phase ≡ d.phase)

@@ -43,15 +43,15 @@ sees s g n h l d = omega (arith, (floor_low s g h l d).sizes n, up_split (up s.p
 
 module _ (g : ℕ) (s t : Parts) (x : SoundParts s) (y : SoundParts t) (ls : (s.elem % s.align ≡ 0 → ⊥) → LowestBit s.elem g) where
   -- so they are equal at every count where they are at 0
-  pub alike-sizes : s.elem ≡ t.elem → size_of s 0 ≡ size_of t 0 → Alike g s t → (n : ℕ) → size_of s n ≡ size_of t n
-  alike-sizes e z (inl d) n =
+  pub alike_sizes : s.elem ≡ t.elem → size_of s 0 ≡ size_of t 0 → Alike g s t → (n : ℕ) → size_of s n ≡ size_of t n
+  alike_sizes e z (inl d) n =
       let ne : n * s.elem ≡ n * t.elem = ap (λ (a : ℕ). n * a) e in
       omega (
         arith,
         whole_blocks s.base s.align s.phase s.elem n (positive x.power) d.0,
         whole_blocks t.base t.align t.phase t.elem n (positive y.power) (subst (λ (a : ℕ). a % t.align ≡ 0) e d.1),
       )
-  alike-sizes e z (inr d) n =
+  alike_sizes e z (inr d) n =
       let l = ls d.0 in
       let dt : t.elem % t.align ≡ 0 → ⊥ = λ q. d.0 (ap₂ (λ (a b : ℕ). a % b) e d.1.0 ∙ q) in
       let lt = subst (λ (a : ℕ). LowestBit a g) e l in
@@ -72,21 +72,21 @@ module _ (g : ℕ) (s t : Parts) (x : SoundParts s) (y : SoundParts t) (ls : (s.
       enough : (B : ℕ) → 1 * s.elem % B ≡ 0 → s.elem % B ≡ 0
       enough B d = ap (λ (z : ℕ). z % B) {x = s.elem} {y = 1 * s.elem} (omega arith) ∙ d
 
-      whole-t : s.elem % t.align ≡ 0 → Floor (size_of t) t.base t.align (up t.phase t.align) s.elem
-      whole-t d =
+      whole_t : s.elem % t.align ≡ 0 → Floor (size_of t) t.base t.align (up t.phase t.align) s.elem
+      whole_t d =
           subst (λ (z : ℕ). Floor (size_of t) t.base t.align (up t.phase t.align) z) (sym e) (floor_whole t y (subst (λ (z : ℕ). z % t.align ≡ 0) e d))
 
-      low-t : (s.elem % t.align ≡ 0 → ⊥) → Floor (size_of t) t.base t.align (up t.phase g) s.elem
-      low-t n =
+      low_t : (s.elem % t.align ≡ 0 → ⊥) → Floor (size_of t) t.base t.align (up t.phase g) s.elem
+      low_t n =
           subst (λ (z : ℕ). Floor (size_of t) t.base t.align (up t.phase g) z) (sym e)
           (floor_low t g y (subst (λ (z : ℕ). LowestBit z g) e (lt n)) (subst (λ (z : ℕ). z % t.align ≡ 0 → ⊥) e n))
 
       go : {b c : Bool} → Tells (s.elem % s.align ≡ 0) b → Tells (s.elem % t.align ≡ 0) c → Alike g s t
       go (holds d) (holds f) = inl (d, f)
-      go (holds d) (fails n) = inl (d, enough t.align ((meet (floor_whole s x d) (low-t n) h).there 1 (one s.align d)))
-      go (fails n) (holds d) = absurd (n (enough s.align ((meet (floor_low s g x (ls n) n) (whole-t d) h).here 1 (one t.align d))))
+      go (holds d) (fails n) = inl (d, enough t.align ((meet (floor_whole s x d) (low_t n) h).there 1 (one s.align d)))
+      go (fails n) (holds d) = absurd (n (enough s.align ((meet (floor_low s g x (ls n) n) (whole_t d) h).here 1 (one t.align d))))
       go (fails n) (fails m) =
-          let r = meet (floor_low s g x (ls n) n) (low-t m) h in
+          let r = meet (floor_low s g x (ls n) n) (low_t m) h in
           let a : s.align ≡ t.align = le_antisymm (power_le y.power x.power (ls n) m r.here) (power_le x.power y.power (ls n) n r.there) in
           inr (n, (a, r.rests a))
 
@@ -117,28 +117,28 @@ module _ (w : ℕ) (s t : Trailing) (ps : 0 < s.word) (hs : s.word < 2 ^ w) (pt 
   abbrev Strides : Type 0
   Strides = SameStride s.elem (A w s) (seen_phase w s.elem (A w s) (p w s)) (A w t) (seen_phase w s.elem (A w t) (p w t))
 
-  strides-alike : Strides → Alike (lowest_bit w s.elem) (parts_of w s) (parts_of w t)
-  strides-alike (inl d) = inl (max_divides s.elem (parts_of_lem w s.word ps hs).power (parts_of_lem w t.word pt ht).power d)
-  strides-alike (inr k) = go (tells_eq (s.elem % A w s) 0)
+  strides_alike : Strides → Alike (lowest_bit w s.elem) (parts_of w s) (parts_of w t)
+  strides_alike (inl d) = inl (max_divides s.elem (parts_of_lem w s.word ps hs).power (parts_of_lem w t.word pt ht).power d)
+  strides_alike (inr k) = go (tells_eq (s.elem % A w s) 0)
     where
       go : {b : Bool} → Tells (s.elem % A w s ≡ 0) b → Alike (lowest_bit w s.elem) (parts_of w s) (parts_of w t)
       go (holds d) = inl (d, subst (λ (z : ℕ). s.elem % z ≡ 0) k.0 d)
       go (fails n) = inr (n, k)
 
-  alike-strides : Alike (lowest_bit w s.elem) (parts_of w s) (parts_of w t) → Strides
-  alike-strides (inl d) = inl (divides_max (A w s) (A w t) s.elem d.0 d.1)
-  alike-strides (inr k) = inr k.1
+  alike_strides : Alike (lowest_bit w s.elem) (parts_of w s) (parts_of w t) → Strides
+  alike_strides (inl d) = inl (divides_max (A w s) (A w t) s.elem d.0 d.1)
+  alike_strides (inr k) = inr k.1
 
   -- request 9: yes exactly when the sizes are equal at every count
-  pub tells-sizes : Tells (EqualSizes w s t) (sizes_agree w s t)
-  tells-sizes =
+  pub tells_sizes : Tells (EqualSizes w s t) (sizes_agree w s t)
+  tells_sizes =
       let x = sound_parts w s ps hs in
       let y = sound_parts w t pt ht in
       let g = lowest_bit w s.elem in
       let ls = lowest_of w s s.elem ps hs in
-      tells_as (λ c. alike-sizes g (parts_of w s) (parts_of w t) x y ls c.0 c.1.0 (strides-alike c.1.1)) (λ h. (
+      tells_as (λ c. alike_sizes g (parts_of w s) (parts_of w t) x y ls c.0 c.1.0 (strides_alike c.1.1)) (λ h. (
         same_elem (parts_of w s) (parts_of w t) x y h,
-        (h 0, alike-strides (sizes_alike g (parts_of w s) (parts_of w t) x y ls (lowest_of w t s.elem pt ht) h)),
+        (h 0, alike_strides (sizes_alike g (parts_of w s) (parts_of w t) x y ls (lowest_of w t s.elem pt ht) h)),
       ))
       (tells_agree w s t)
 
@@ -147,7 +147,7 @@ unfolding agree_for
 agree_meets w s t hs ht =
     meets (same_causes s t) (sizes_agree w s t) (tells_eq s.word 0, λ _. (tells_eq t.word 0, λ _. tt))
     (λ n.
-    let x = tells-sizes w s t (omega (arith, n.0)) hs (omega (arith, n.1.0)) ht in
+    let x = tells_sizes w s t (omega (arith, n.0)) hs (omega (arith, n.1.0)) ht in
     record { means = yes x; needed = told_true x })
 
 pub agree_answered : (w : ℕ) (s t : Trailing) → 0 < s.word → 0 < t.word → agree_for w s t ≡ answered (sizes_agree w s t)

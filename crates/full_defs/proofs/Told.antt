@@ -27,22 +27,22 @@ differences_back b u c v h l = tells_as (λ e. omega arith) (λ e. omega arith) 
 
 module _ {a q : ℕ} (w : ℕ) (t : Trailing) (x : IsWord t.word a q) (h : t.word < 2 ^ w) where
   -- the three cases of the form
-  pub form-whole : t.elem % a ≡ 0 → form_of w t ≡ form (size_at w t 0) 1 t.elem
+  pub form_whole : t.elem % a ≡ 0 → form_of w t ≡ form (size_at w t 0) 1 t.elem
   unfolding form_of
-  form-whole d = simp (eq-eqb (t.elem % A w t) 0 (at_parts w (λ b r. t.elem % b) x h ∙ d))
+  form_whole d = simp (eq-eqb (t.elem % A w t) 0 (at_parts w (λ b r. t.elem % b) x h ∙ d))
 
-  pub form-zero : (t.elem % a ≡ 0 → ⊥) → seen_phase w t.elem a q ≡ 0 → form_of w t ≡ form (size_at w t 0) a t.elem
+  pub form_zero : (t.elem % a ≡ 0 → ⊥) → seen_phase w t.elem a q ≡ 0 → form_of w t ≡ form (size_at w t 0) a t.elem
   unfolding form_of
-  form-zero d z =
+  form_zero d z =
       simp (
         ne_eqb (t.elem % A w t) 0 (λ e. d (sym (at_parts w (λ b r. t.elem % b) x h) ∙ e)),
         eq-eqb (seen_phase w t.elem (A w t) (p w t)) 0 (at_parts w (λ b r. seen_phase w t.elem b r) x h ∙ z),
       ) (at_parts w (λ b r. form (size_at w t 0) b t.elem) x h)
 
-  pub form-least : (t.elem % a ≡ 0 → ⊥) → (seen_phase w t.elem a q ≡ 0 → ⊥)
+  pub form_least : (t.elem % a ≡ 0 → ⊥) → (seen_phase w t.elem a q ≡ 0 → ⊥)
       → form_of w t ≡ form t.base (a + (up q (lowest_bit w t.elem) - lowest_bit w t.elem + 1)) t.elem
   unfolding form_of
-  form-least d z =
+  form_least d z =
       simp (
         ne_eqb (t.elem % A w t) 0 (λ e. d (sym (at_parts w (λ b r. t.elem % b) x h) ∙ e)),
         ne_eqb (seen_phase w t.elem (A w t) (p w t)) 0 (λ e. z (sym (at_parts w (λ b r. seen_phase w t.elem b r) x h) ∙ e)),
@@ -61,17 +61,17 @@ form_past w t f n e l =
 
 -- the comparison of layouts of one element size, by the parts of both words: other sizes at 0 are a no, and past them the steps tell
 module _ {a q b r : ℕ} (w : ℕ) (s t : Trailing) (x : IsWord s.word a q) (y : IsWord t.word b r) (hs : s.word < 2 ^ w) (ht : t.word < 2 ^ w) (e : s.elem ≡ t.elem) where
-  pub agree-apart : (s.base + up q a ≡ t.base + up r b → ⊥) → false ≡ sizes_agree w s t
+  pub agree_apart : (s.base + up q a ≡ t.base + up r b → ⊥) → false ≡ sizes_agree w s t
   unfolding sizes_agree
-  agree-apart n =
+  agree_apart n =
       simp (
         eq-eqb s.elem t.elem e,
         ne_eqb (size_at w s 0) (size_at w t 0) (λ z. n (sym (size_first w s x hs) ∙ z ∙ size_first w t y ht)),
       )
 
-  pub agree-steps : s.base + up q a ≡ t.base + up r b → same_stride s.elem a (seen_phase w s.elem a q) b (seen_phase w s.elem b r) ≡ sizes_agree w s t
+  pub agree_steps : s.base + up q a ≡ t.base + up r b → same_stride s.elem a (seen_phase w s.elem a q) b (seen_phase w s.elem b r) ≡ sizes_agree w s t
   unfolding sizes_agree
-  agree-steps z =
+  agree_steps z =
       sym (at_parts w (λ c v. same_stride s.elem c (seen_phase w s.elem c v) b (seen_phase w s.elem b r)) x hs)
       ∙ sym (at_parts w (λ c v. same_stride s.elem (A w s) (seen_phase w s.elem (A w s) (p w s)) c (seen_phase w s.elem c v)) y ht)
       ∙ simp (

@@ -18,7 +18,7 @@ abbrev pub seen_phase : ℕ → (e A p : ℕ) → ℕ
 seen_phase w e A p = up p (lowest_bit w e) % A
 
 -- the element sizes are equal, the sizes at 0 are, whether or not w bits hold them, and e is a multiple of the larger A, or both
--- A and both phases, as the sizes see them, are equal (`tells-sizes`: this is equal sizes at every count)
+-- A and both phases, as the sizes see them, are equal (`tells_sizes`: this is equal sizes at every count)
 unfoldable pub sizes_agree : ℕ → Trailing → Trailing → Bool
 sizes_agree w s t =
     eqb s.elem t.elem

@@ -36,13 +36,13 @@ align_kept w l m packing {r} own e =
     let q = not-false (power_of_two w m.align) y.0.0 in
     let b = member_align m.align packing in
     let k : r.align ≡ max l.align b = ap (λ (z : Layout). z.align) (answer_is (extend_causes w l m packing) (extended l m packing) e) in
-    let pb = packed-power y.1.0 (test_sound w m.align q) in
+    let pb = packed_power y.1.0 (test_sound w m.align q) in
     subst (λ (z : ℕ). power_of_two w z ≡ true) (sym k)
-    (told_true (tells_power w (max l.align b) (max-below (test_below w l.align own) (le_below (member_le m.align packing) (test_below w m.align q))))
+    (told_true (tells_power w (max l.align b) (max_below (test_below w l.align own) (le_below (member_le m.align packing) (test_below w m.align q))))
     (max_power (test_sound w l.align own) pb))
   where
-    packed-power : (bad_packing w packing).test ≡ false → PowerOfTwo m.align → PowerOfTwo (member_align m.align packing)
-    packed-power t p = go (eqb packing 0) refl
+    packed_power : (bad_packing w packing).test ≡ false → PowerOfTwo m.align → PowerOfTwo (member_align m.align packing)
+    packed_power t p = go (eqb packing 0) refl
       where
         go : (b : Bool) → eqb packing 0 ≡ b → PowerOfTwo (cond b m.align (min m.align packing))
         go true z = p
@@ -51,5 +51,5 @@ align_kept w l m packing {r} own e =
     le_below : {a b c : ℕ} → a ≤ b → b < c → a < c
     le_below {a} {b} {c} h g = omega (arith, h, g)
 
-    max-below : {a b c : ℕ} → a < c → b < c → max a b < c
-    max-below {a} {b} {c} h g = omega (arith, h, g)
+    max_below : {a b c : ℕ} → a < c → b < c → max a b < c
+    max_below {a} {b} {c} h g = omega (arith, h, g)

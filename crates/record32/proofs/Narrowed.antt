@@ -39,15 +39,15 @@ module _ (v : ℕ) (s : List ℕ) (below : word_at s 0 < 2 ^ 64) where
   abbrev Told : Outcome Layout → Type 0
   Told r = (r ≡ decode_for v s) × Meets (record_causes v s) (Decodes (words_at s 0)) r
 
-  pub decoded-off : {k : ℕ} → own_for s ≡ refused k → Told (refused k)
-  decoded-off e = told (record_meets v s below) (sym (decode_own v s e))
+  pub decoded_off : {k : ℕ} → own_for s ≡ refused k → Told (refused k)
+  decoded_off e = told (record_meets v s below) (sym (decode_own v s e))
 
-  pub decoded-passes : {l : Layout} → own_for s ≡ answered l → Decodes (words_at s 0) l → fits_in v (words_of l) ≡ false → Told (refused 43)
-  decoded-passes e d f = told (record_meets v s below) (sym (decode_passes v s e (ap (fits_in v) (sym d) ∙ f)))
+  pub decoded_passes : {l : Layout} → own_for s ≡ answered l → Decodes (words_at s 0) l → fits_in v (words_of l) ≡ false → Told (refused 43)
+  decoded_passes e d f = told (record_meets v s below) (sym (decode_passes v s e (ap (fits_in v) (sym d) ∙ f)))
 
-  pub decoded-low : {l : Layout} {r : Outcome Layout} → own_for s ≡ answered l → Decodes (words_at s 0) l → fits_in v (words_of l) ≡ true
+  pub decoded_low : {l : Layout} {r : Outcome Layout} → own_for s ≡ answered l → Decodes (words_at s 0) l → fits_in v (words_of l) ≡ true
       → r ≡ answered (low_layout v l) → Told r
-  decoded-low {l} e d f q =
+  decoded_low {l} e d f q =
       told (record_meets v s below)
       (q ∙ ap answered (low_layout_lem v l (fits_layout v l (yes (tells_fits v (words_of l)) f))) ∙ sym e ∙ sym (decode_fits v s (ap (fits_in v) (sym d) ∙ f)))
 

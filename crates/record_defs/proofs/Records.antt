@@ -156,10 +156,10 @@ module _ (cs : List Cause) (r : Words) (s : List ℕ) where
   left : {k : ℕ} → write_for cs (length s) ≡ refused k → (refused k ≡ write_for cs (length s)) × (s ≡ written_into cs r s)
   left e = (sym e, sym (ap (λ (o : Outcome (Unit {0})). after o (record_bytes r) s) e))
 
-  pub write-refused : {k : ℕ} → length s ≡ 48 → ◌≡◌ {A = Outcome (Unit {0})} (unless cs tt) (refused k) → (refused k ≡ write_for cs (length s)) × (s ≡ written_into cs r s)
+  pub write_refused : {k : ℕ} → length s ≡ 48 → ◌≡◌ {A = Outcome (Unit {0})} (unless cs tt) (refused k) → (refused k ≡ write_for cs (length s)) × (s ≡ written_into cs r s)
   unfolding unless
-  write-refused h n = left (simp (eq-eqb (length s) 48 h) n)
+  write_refused h n = left (simp (eq-eqb (length s) 48 h) n)
 
-  pub write-other : (length s ≡ 48 → ⊥) → (refused 20 ≡ write_for cs (length s)) × (s ≡ written_into cs r s)
+  pub write_other : (length s ≡ 48 → ⊥) → (refused 20 ≡ write_for cs (length s)) × (s ≡ written_into cs r s)
   unfolding unless
-  write-other n = left (simp (ne_eqb (length s) 48 n))
+  write_other n = left (simp (ne_eqb (length s) 48 n))

@@ -27,17 +27,17 @@ digit_above b h = rw (le-ltb b 48 (omega arith), lt-ltb 57 b h)
 
 -- a number: its end, a digit that is too much, a digit more
 module _ (s : List ℕ) (v at : ℕ) (digits : Bool) (h : at < length s) {d : ℕ} (e : d ≡ digit_of (get_or s at 0)) where
-  pub number-ends : 9 < d → number_from v digits at (drop at s) ≡ end_of v digits (get_or s at 0) (at + 1)
+  pub number_ends : 9 < d → number_from v digits at (drop at s) ≡ end_of v digits (get_or s at 0) (at + 1)
   unfolding number_from
-  number-ends g = rw (drop-cons s at 0 h, sym e, lt-ltb 9 d g)
+  number_ends g = rw (drop-cons s at 0 h, sym e, lt-ltb 9 d g)
 
-  pub number-passes : d ≤ 9 → M 64 < v * 10 + d → number_from v digits at (drop at s) ≡ none
+  pub number_passes : d ≤ 9 → M 64 < v * 10 + d → number_from v digits at (drop at s) ≡ none
   unfolding number_from
-  number-passes g p = rw (drop-cons s at 0 h, sym e, le-ltb 9 d g, lt-ltb (M 64) (v * 10 + d) p)
+  number_passes g p = rw (drop-cons s at 0 h, sym e, le-ltb 9 d g, lt-ltb (M 64) (v * 10 + d) p)
 
-  pub number-on : d ≤ 9 → v * 10 + d ≤ M 64 → number_from v digits at (drop at s) ≡ number_from (v * 10 + d) true (at + 1) (drop (at + 1) s)
+  pub number_on : d ≤ 9 → v * 10 + d ≤ M 64 → number_from v digits at (drop at s) ≡ number_from (v * 10 + d) true (at + 1) (drop (at + 1) s)
   unfolding number_from
-  number-on g p = let f : at + 1 ≡ suc at = omega arith in rw (drop-cons s at 0 h, sym e, le-ltb 9 d g, le-ltb (M 64) (v * 10 + d) p, f)
+  number_on g p = let f : at + 1 ≡ suc at = omega arith in rw (drop-cons s at 0 h, sym e, le-ltb 9 d g, le-ltb (M 64) (v * 10 + d) p, f)
 
 -- past the end there is none
 pub number_over : (s : List ℕ) (v at : ℕ) (digits : Bool) → length s ≤ at → number_from v digits at (drop at s) ≡ none
@@ -77,37 +77,37 @@ number_within s v at digits {n} {next} {last} e =
 
 -- a line: a number more, its last number, no number, and no room for one
 module _ (s ns : List ℕ) (at count : ℕ) where
-  pub line-full : 64 ≤ count → line_from (64 - count) s at ns count ≡ unread
+  pub line_full : 64 ≤ count → line_from (64 - count) s at ns count ≡ unread
   unfolding line_from
-  line-full h = let f : 64 - count ≡ 0 = omega arith in rw f
+  line_full h = let f : 64 - count ≡ 0 = omega arith in rw f
 
   module _ (h : count < 64) where
-    pub line-last : {v next : ℕ} → number_from 0 false at (drop at s) ≡ number v true next
+    pub line_last : {v next : ℕ} → number_from 0 false at (drop at s) ≡ number v true next
         → line_from (64 - count) s at ns count ≡ line (set ns count v) (count + 1) next
     unfolding line_from
-    line-last e = let f : 64 - count ≡ suc (64 - (count + 1)) = omega arith in rw (f, e)
+    line_last e = let f : 64 - count ≡ suc (64 - (count + 1)) = omega arith in rw (f, e)
 
     pub line_on : {v next : ℕ} → number_from 0 false at (drop at s) ≡ number v false next
         → line_from (64 - count) s at ns count ≡ line_from (64 - (count + 1)) s next (set ns count v) (count + 1)
     unfolding line_from
     line_on e = let f : 64 - count ≡ suc (64 - (count + 1)) = omega arith in rw (f, e)
 
-    pub line-off : number_from 0 false at (drop at s) ≡ none → line_from (64 - count) s at ns count ≡ unread
+    pub line_off : number_from 0 false at (drop at s) ≡ none → line_from (64 - count) s at ns count ≡ unread
     unfolding line_from
-    line-off e = let f : 64 - count ≡ suc (64 - (count + 1)) = omega arith in rw (f, e)
+    line_off e = let f : 64 - count ≡ suc (64 - (count + 1)) = omega arith in rw (f, e)
 
 -- numbers of two lists: one more that is the same, one that is not, and none left
 module _ (xs ys : List ℕ) (n i k : ℕ) (h : k < n) where
-  pub same-on : get_or xs (i + k) 0 ≡ get_or ys k 0 → same_from (n - k) xs (i + k) ys k ≡ same_from (n - (k + 1)) xs (i + (k + 1)) ys (k + 1)
+  pub same_on : get_or xs (i + k) 0 ≡ get_or ys k 0 → same_from (n - k) xs (i + k) ys k ≡ same_from (n - (k + 1)) xs (i + (k + 1)) ys (k + 1)
   unfolding same_from
-  same-on e =
+  same_on e =
       let f : n - k ≡ suc (n - (k + 1)) = omega arith in
       let g : i + (k + 1) ≡ i + k + 1 = omega arith in
       rw (f, g, eq-eqb (get_or xs (i + k) 0) (get_or ys k 0) e)
 
-  pub same-off : (get_or xs (i + k) 0 ≡ get_or ys k 0 → ⊥) → same_from (n - k) xs (i + k) ys k ≡ false
+  pub same_off : (get_or xs (i + k) 0 ≡ get_or ys k 0 → ⊥) → same_from (n - k) xs (i + k) ys k ≡ false
   unfolding same_from
-  same-off e =
+  same_off e =
       let f : n - k ≡ suc (n - (k + 1)) = omega arith in
       rw (f, ne_eqb (get_or xs (i + k) 0) (get_or ys k 0) e)
 

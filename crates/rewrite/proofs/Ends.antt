@@ -17,7 +17,7 @@ use Rattle.rewrite_defs.specs.Heads.{heads_of, joined, has_tag, tags_among, tags
 use Rattle.rewrite_defs.specs.Rewrite.{Way, longer, shorter, from, counts_fit, rewritten, rewrite_for, bytes_for, filled}
 use Rattle.rewrite_defs.specs.Means.{LengthIs, RewriteMeans}
 use Rattle.rewrite_defs.proofs.Whole.{AllWhole, described_whole}
-use Rattle.rewrite_defs.proofs.Trips.{fits, is-rewritten}
+use Rattle.rewrite_defs.proofs.Trips.{fits, is_rewritten}
 use Rattle.rewrite_defs.proofs.Meaning.{same_stop, rewrite_means}
 use Rattle.rewrite.specs.View.{Whole, Read, length_to}
 
@@ -51,8 +51,8 @@ few_tags tag ((b ∷ r) ∷ hs) w = omega (arith, one (has_tag tag (b ∷ r)), f
     one false = omega arith
 
 module _ (w : ℕ) (target : Target) (way : Way) (s : List ℕ) (h : Read (described_for w target s)) where
-  pub few-turned : {n : ℕ} → reached n ≡ go_on (counts_fit way 0 (heads_of s)) (λ _. reached (tags_in (struct_tag (from way)) s)) → n ≤ length s
-  few-turned e =
+  pub few_turned : {n : ℕ} → reached n ≡ go_on (counts_fit way 0 (heads_of s)) (λ _. reached (tags_in (struct_tag (from way)) s)) → n ≤ length s
+  few_turned e =
       let x = went (counts_fit way 0 (heads_of s)) (λ _. reached (tags_in (struct_tag (from way)) s)) (sym e) in
       let p = read_whole w target s h in
       omega (arith, reached_one x.then, few_tags (struct_tag (from way)) (heads_of s) p.0, ap length p.1)
@@ -61,12 +61,12 @@ module _ (w : ℕ) (target : Target) (way : Way) (s : List ℕ) (h : Read (descr
   length_to_lem longer r e = e
   length_to_lem shorter r e = omega (arith, e)
 
-  pub length-result : {n : ℕ} → reached n ≡ go_on (counts_fit way 0 (heads_of s)) (λ _. reached (tags_in (struct_tag (from way)) s))
+  pub length_result : {n : ℕ} → reached n ≡ go_on (counts_fit way 0 (heads_of s)) (λ _. reached (tags_in (struct_tag (from way)) s))
       → length (rewritten way s) ≡ length_to way (length s) n
-  length-result e =
+  length_result e =
       let x = went (counts_fit way 0 (heads_of s)) (λ _. reached (tags_in (struct_tag (from way)) s)) (sym e) in
       let y = was_read w target s h in
-      length_to_lem way (rewritten way s) (is-rewritten w target way s y.layout (accepts w target s y.is) (fits way 0 (heads_of s) x.first)).length-is
+      length_to_lem way (rewritten way s) (is_rewritten w target way s y.layout (accepts w target s y.is) (fits way 0 (heads_of s) x.first)).length_is
       ∙ ap (length_to way (length s)) (reached_one x.then)
 
   module _ (old : List ℕ) where
@@ -79,31 +79,31 @@ module _ (w : ℕ) (target : Target) (way : Way) (s : List ℕ) (h : Read (descr
 
     pub room_of : {n : ℕ} → reached n ≡ go_on (counts_fit way 0 (heads_of s)) (λ _. reached (tags_in (struct_tag (from way)) s))
         → leb (length_to way (length s) n) (length old) ≡ true → length (rewritten way s) ≤ length old
-    room_of {n} e f = omega (arith, leb-true (length_to way (length s) n) (length old) f, length-result e)
+    room_of {n} e f = omega (arith, leb-true (length_to way (length s) n) (length old) f, length_result e)
 
-    pub long-bytes : {n : ℕ} → reached n ≡ go_on (counts_fit way 0 (heads_of s)) (λ _. reached (tags_in (struct_tag (from way)) s))
+    pub long_bytes : {n : ℕ} → reached n ≡ go_on (counts_fit way 0 (heads_of s)) (λ _. reached (tags_in (struct_tag (from way)) s))
         → leb (length_to way (length s) n) (length old) ≡ true → way ≡ longer → length old < 2 ^ 64 → length s + n < 2 ^ 64
-    long-bytes {n} e f g b = let r = leb-true (length_to way (length s) n) (length old) f in omega (arith, ap (λ (v : Way). length_to v (length s) n) g, r, b)
+    long_bytes {n} e f g b = let r = leb-true (length_to way (length s) n) (length old) f in omega (arith, ap (λ (v : Way). length_to v (length s) n) g, r, b)
 
-    pub ends-written : {n m : ℕ} {new : List ℕ} → reached n ≡ go_on (counts_fit way 0 (heads_of s)) (λ _. reached (tags_in (struct_tag (from way)) s))
+    pub ends_written : {n m : ℕ} {new : List ℕ} → reached n ≡ go_on (counts_fit way 0 (heads_of s)) (λ _. reached (tags_in (struct_tag (from way)) s))
         → leb (length_to way (length s) n) (length old) ≡ true → m ≡ length_to way (length s) n → new ≡ filled (reached (rewritten way s)) old
         → Ends (reached m) new
     unfolding rewrite_for
-    ends-written e f g q =
+    ends_written e f g q =
         let x = went (counts_fit way 0 (heads_of s)) (λ _. reached (tags_in (struct_tag (from way)) s)) (sym e) in
         let y = was_read w target s h in
-        let l = length-result e in
+        let l = length_result e in
         let r : rewrite_for w target way s (length old) ≡ reached (rewritten way s) = rw (y.is, x.first, l, f) in
         let z = ends_so r in
         (ap reached (g ∙ sym l) ∙ z.0, q ∙ z.1)
 
-    pub ends-short : {n : ℕ} → reached n ≡ go_on (counts_fit way 0 (heads_of s)) (λ _. reached (tags_in (struct_tag (from way)) s))
+    pub ends_short : {n : ℕ} → reached n ≡ go_on (counts_fit way 0 (heads_of s)) (λ _. reached (tags_in (struct_tag (from way)) s))
         → leb (length_to way (length s) n) (length old) ≡ false → Ends (stopped 45 0) old
     unfolding rewrite_for
-    ends-short e f =
+    ends_short e f =
         let x = went (counts_fit way 0 (heads_of s)) (λ _. reached (tags_in (struct_tag (from way)) s)) (sym e) in
         let y = was_read w target s h in
-        let l = length-result e in
+        let l = length_result e in
         let r : rewrite_for w target way s (length old) ≡ stopped 45 0 = rw (y.is, x.first, l, f) in
         ends_so r
 

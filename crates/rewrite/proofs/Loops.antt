@@ -12,7 +12,7 @@ use Rattle.describe_defs.specs.Describe.{struct_tag, tag_of}
 use Rattle.rewrite_defs.specs.Heads.{behind_tag, heads_of, joined, has_tag, tags_among, tags_in}
 use Rattle.rewrite_defs.specs.Rewrite.{Way, longer, shorter, from, turned_head, count_above, counts_fit, rewritten, filled}
 use Rattle.rewrite_defs.proofs.Whole.{AllWhole}
-use Rattle.rewrite_defs.proofs.Same.{byte-in, head-room, past_head}
+use Rattle.rewrite_defs.proofs.Same.{byte_in, head_room, past_head}
 use Rattle.rewrite.specs.View.{head_at, HeadIn, Whole}
 use Rattle.rewrite.proofs.Ways.{head_tag, head_length}
 
@@ -32,14 +32,14 @@ pub next : (s : List ℕ) (at : ℕ) (hs : List (List ℕ)) → AllWhole hs → 
 next s at [] w e h = absurd (omega (arith, h, length-drop at s, ap length e))
 next s at ([] ∷ hs) w e h = absurd w.0
 next s at ((b ∷ r) ∷ hs) w e h =
-    let x = byte-in s (b ∷ r) (joined hs) at e 0 (omega arith) in
+    let x = byte_in s (b ∷ r) (joined hs) at e 0 (omega arith) in
     let z : at + 0 ≡ at = omega arith in
     let q : get_or s at 0 ≡ b = ap (λ (i : ℕ). get_or s i 0) (sym z) ∙ x.is in
     let l : length (b ∷ r) ≡ head_bytes s at = omega (arith, w.0, ap (λ (y : ℕ). behind_tag (tag_of y)) q) in
     record {
       rest = hs;
       heads = ap (λ (y : List ℕ). y ∷ hs) (sym (ap (take (head_bytes s at)) e ∙ take_at (b ∷ r) (joined hs) (head_bytes s at) l));
-      inside = (h, omega (arith, l, head-room s (b ∷ r) (joined hs) at e (length (b ∷ r)) (omega arith) (omega arith)));
+      inside = (h, omega (arith, l, head_room s (b ∷ r) (joined hs) at e (length (b ∷ r)) (omega arith) (omega arith)));
       whole = w.1;
       there = past_head s (b ∷ r) (joined hs) at e (head_bytes s at) l;
     }
@@ -62,8 +62,8 @@ pub counting_inside : (way : Way) (s : List ℕ) (at turned : ℕ) → Counting 
 counting_inside way s at turned x h = (next s at x.heads x.whole x.is h).inside
 
 module _ (way : Way) (s : List ℕ) where
-  pub count-begins : Whole s → Counting way s 0 0
-  count-begins h = record {
+  pub count_begins : Whole s → Counting way s 0 0
+  count_begins h = record {
     heads = heads_of s;
     whole = h.0;
     is = h.1;
@@ -80,9 +80,9 @@ module _ (way : Way) (s : List ℕ) where
       let g : turned + cond p 1 0 + tags_among (struct_tag (from way)) hs ≡ turned + (cond p 1 0 + tags_among (struct_tag (from way)) hs) = omega arith in
       rw (f, e) (ap (λ (n : ℕ). go_on (counts_fit way (at + length h) hs) (λ _. reached n)) g)
 
-  count-step : (at turned : ℕ) (p : Bool) (x : Counting way s at turned) → at < length s → eqb (get_or s at 0) (struct_tag (from way)) ≡ p
+  count_step : (at turned : ℕ) (p : Bool) (x : Counting way s at turned) → at < length s → eqb (get_or s at 0) (struct_tag (from way)) ≡ p
       → count_above way (head_at s at) ≡ false → (n : ℕ) → n ≡ turned + cond p 1 0 → n ≤ at + head_bytes s at → Counting way s (at + head_bytes s at) n
-  count-step at turned p x h e f n q b =
+  count_step at turned p x h e f n q b =
       let y = next s at x.heads x.whole x.is h in
       let l = head_length s at y.inside in
       let z = step at turned (head_at s at) y.rest p (head_tag (struct_tag (from way)) s at h ∙ e) f in
@@ -94,33 +94,33 @@ module _ (way : Way) (s : List ℕ) where
         same = rw (q, sym l) (z ∙ ap (λ (hs : List (List ℕ)). go_on (counts_fit way at hs) (λ _. reached (turned + tags_among (struct_tag (from way)) hs))) (sym y.heads) ∙ x.same);
       }
 
-  kept-fits : (v : Way) (h : List ℕ) → has_tag (struct_tag (from v)) h ≡ false → count_above v h ≡ false
-  kept-fits longer h e = refl
-  kept-fits shorter h e = rw e
+  kept_fits : (v : Way) (h : List ℕ) → has_tag (struct_tag (from v)) h ≡ false → count_above v h ≡ false
+  kept_fits longer h e = refl
+  kept_fits shorter h e = rw e
 
-  pub count-turned-on : {at turned k : ℕ} (x : Counting way s at turned) → at < length s → eqb (get_or s at 0) (struct_tag (from way)) ≡ true
+  pub count_turned_on : {at turned k : ℕ} (x : Counting way s at turned) → at < length s → eqb (get_or s at 0) (struct_tag (from way)) ≡ true
       → count_above way (head_at s at) ≡ false → k ≡ head_bytes s at → Counting way s (at + k) (turned + 1)
-  count-turned-on {at} {turned} x h e f q = rw q (count-step at turned true x h e f (turned + 1) refl (omega (arith, x.few)))
+  count_turned_on {at} {turned} x h e f q = rw q (count_step at turned true x h e f (turned + 1) refl (omega (arith, x.few)))
 
-  pub count-kept-on : {at turned k : ℕ} (x : Counting way s at turned) → at < length s → eqb (get_or s at 0) (struct_tag (from way)) ≡ false
+  pub count_kept_on : {at turned k : ℕ} (x : Counting way s at turned) → at < length s → eqb (get_or s at 0) (struct_tag (from way)) ≡ false
       → k ≡ head_bytes s at → Counting way s (at + k) turned
-  count-kept-on {at} {turned} x h e q =
-      rw q (count-step at turned false x h e (kept-fits way (head_at s at) (head_tag (struct_tag (from way)) s at h ∙ e)) turned (omega arith) (omega (arith, x.few)))
+  count_kept_on {at} {turned} x h e q =
+      rw q (count_step at turned false x h e (kept_fits way (head_at s at) (head_tag (struct_tag (from way)) s at h ∙ e)) turned (omega arith) (omega (arith, x.few)))
 
-  pub count-stops : {at turned : ℕ} (x : Counting way s at turned) → at < length s → count_above way (head_at s at) ≡ true
+  pub count_stops : {at turned : ℕ} (x : Counting way s at turned) → at < length s → count_above way (head_at s at) ≡ true
       → stopped 44 at ≡ go_on (counts_fit way 0 (heads_of s)) (λ _. reached (tags_in (struct_tag (from way)) s))
   unfolding counts_fit
-  count-stops {at} {turned} x h f =
+  count_stops {at} {turned} x h f =
       let y = next s at x.heads x.whole x.is h in
       stop (head_at s at) y.rest f ∙ ap (λ (hs : List (List ℕ)). go_on (counts_fit way at hs) (λ _. reached (turned + tags_among (struct_tag (from way)) hs))) (sym y.heads) ∙ x.same
     where
       stop : (h : List ℕ) (hs : List (List ℕ)) → count_above way h ≡ true → stopped 44 at ≡ go_on (counts_fit way at (h ∷ hs)) (λ _. reached (turned + tags_among (struct_tag (from way)) (h ∷ hs)))
       stop h hs f = rw f
 
-  pub count-ends : {at turned : ℕ} (x : Counting way s at turned) → length s ≤ at
+  pub count_ends : {at turned : ℕ} (x : Counting way s at turned) → length s ≤ at
       → reached turned ≡ go_on (counts_fit way 0 (heads_of s)) (λ _. reached (tags_in (struct_tag (from way)) s))
   unfolding counts_fit tags_among
-  count-ends {at} {turned} x h =
+  count_ends {at} {turned} x h =
       let n = no_more s at x.heads x.whole x.is h in
       let e : turned ≡ turned + 0 = omega arith in
       ap reached e ∙ ap (λ (hs : List (List ℕ)). go_on (counts_fit way at hs) (λ _. reached (turned + tags_among (struct_tag (from way)) hs))) (sym n) ∙ x.same
@@ -136,29 +136,29 @@ pub record Writing (way : Way) (s out₀ out : List ℕ) (at to : ℕ) : Type 0 
   pub all : front ++ joined (map (turned_head way) heads) ≡ rewritten way s
 
 module _ (way : Way) (s out₀ : List ℕ) where
-  pub write-begins : Whole s → Writing way s out₀ out₀ 0 0
-  write-begins h = record { heads = heads_of s; whole = h.0; is = h.1; front = []; so_far = refl; bytes = refl; all = refl }
+  pub write_begins : Whole s → Writing way s out₀ out₀ 0 0
+  write_begins h = record { heads = heads_of s; whole = h.0; is = h.1; front = []; so_far = refl; bytes = refl; all = refl }
 
   module _ {out : List ℕ} {at to : ℕ} (x : Writing way s out₀ out at to) (r : length (rewritten way s) ≤ length out₀) where
-    all-length : length (rewritten way s) ≡ to + length (joined (map (turned_head way) x.heads))
-    all-length = omega (arith, ap length (sym x.all), length-append x.front (joined (map (turned_head way) x.heads)), x.so_far)
+    all_length : length (rewritten way s) ≡ to + length (joined (map (turned_head way) x.heads))
+    all_length = omega (arith, ap length (sym x.all), length-append x.front (joined (map (turned_head way) x.heads)), x.so_far)
 
-    pub write-length : length out ≡ length out₀
-    write-length = omega (arith, ap length x.bytes, length-append x.front (drop to out₀), length-drop to out₀, all-length, x.so_far, r)
+    pub write_length : length out ≡ length out₀
+    write_length = omega (arith, ap length x.bytes, length-append x.front (drop to out₀), length-drop to out₀, all_length, x.so_far, r)
 
-    pub write-room : at < length s → HeadIn s at × (to + length (turned_head way (head_at s at)) ≤ length out)
-    write-room h =
+    pub write_room : at < length s → HeadIn s at × (to + length (turned_head way (head_at s at)) ≤ length out)
+    write_room h =
         let y = next s at x.heads x.whole x.is h in
         let e = ap (λ (hs : List (List ℕ)). length (joined (map (turned_head way) hs))) y.heads in
-        (y.inside, omega (arith, write-length, all-length, e, r, length-append (turned_head way (head_at s at)) (joined (map (turned_head way) y.rest))))
+        (y.inside, omega (arith, write_length, all_length, e, r, length-append (turned_head way (head_at s at)) (joined (map (turned_head way) y.rest))))
 
-    pub write-on : at < length s → {to' k : ℕ} {out' : List ℕ}
+    pub write_on : at < length s → {to' k : ℕ} {out' : List ℕ}
         → (to' ≡ to + length (turned_head way (head_at s at))) × (out' ≡ sets out to (turned_head way (head_at s at))) → k ≡ head_bytes s at
         → Writing way s out₀ out' (at + k) to'
-    write-on h {to'} {k} {out'} p q =
+    write_on h {to'} {k} {out'} p q =
         let y = next s at x.heads x.whole x.is h in
         let t = turned_head way (head_at s at) in
-        let m = (write-room h).1 in
+        let m = (write_room h).1 in
         let f : take to out ≡ x.front = ap (take to) x.bytes ∙ take_at x.front (drop to out₀) to (sym x.so_far) in
         let g : drop (to + length t) out ≡ drop (to + length t) out₀ =
         ap (drop (to + length t)) x.bytes ∙ ap (λ (i : ℕ). drop (i + length t) (x.front ++ drop to out₀)) x.so_far
@@ -175,8 +175,8 @@ module _ (way : Way) (s out₀ : List ℕ) where
               ∙ ap (λ (hs : List (List ℕ)). x.front ++ joined (map (turned_head way) hs)) (sym y.heads) ∙ x.all;
         }
 
-    pub write-ends : length s ≤ at → out ≡ filled (reached (rewritten way s)) out₀
-    write-ends h =
+    pub write_ends : length s ≤ at → out ≡ filled (reached (rewritten way s)) out₀
+    write_ends h =
         let n = no_more s at x.heads x.whole x.is h in
         let e : x.front ≡ rewritten way s = sym (append-nil x.front) ∙ ap (λ (hs : List (List ℕ)). x.front ++ joined (map (turned_head way) hs)) (sym n) ∙ x.all in
         x.bytes ∙ ap (λ (i : ℕ). x.front ++ drop i out₀) x.so_far ∙ ap (λ (u : List ℕ). u ++ drop (length u) out₀) e

@@ -101,15 +101,15 @@ module _ {b : Bool} (len turned room : ℕ) where
   pub room_none : b ≡ true → room < len → false ≡ leb (length_to (way_of b) len turned) room
   room_none e h = rw e (sym (lt-leb (len + turned) room (omega arith)))
 
-  pub room-long : b ≡ true → len ≤ room → leb turned (room - len) ≡ leb (length_to (way_of b) len turned) room
-  room-long e h = rw e (go (leb turned (room - len)) refl)
+  pub room_long : b ≡ true → len ≤ room → leb turned (room - len) ≡ leb (length_to (way_of b) len turned) room
+  room_long e h = rw e (go (leb turned (room - len)) refl)
     where
       go : (t : Bool) → leb turned (room - len) ≡ t → t ≡ leb (len + turned) room
       go true f = sym (le-leb (len + turned) room (omega (arith, leb-true turned (room - len) f)))
       go false f = sym (lt-leb (len + turned) room (omega (arith, leb-false turned (room - len) f)))
 
-  pub room-short : b ≡ false → leb (len - turned) room ≡ leb (length_to (way_of b) len turned) room
-  room-short e = rw e
+  pub room_short : b ≡ false → leb (len - turned) room ≡ leb (length_to (way_of b) len turned) room
+  room_short e = rw e
 
 -- ---- a run of bytes that is copied
 pub copied : (s out₀ out : List ℕ) (at to i : ℕ) → at + i < length s → to + i < length out₀ → out ≡ sets out₀ to (take i (drop at s))
@@ -126,19 +126,19 @@ put_more l to a b c d e = sets_sets (a ∷ b ∷ c ∷ d ∷ []) (e ∷ []) l to
 
 -- ---- what is put for a struct
 module _ {b : Bool} (s : List ℕ) (at : ℕ) where
-  pub long-room : b ≡ true → length (struct_put (way_of b) s at) ≡ 5
-  long-room e = rw e refl
+  pub long_room : b ≡ true → length (struct_put (way_of b) s at) ≡ 5
+  long_room e = rw e refl
 
-  pub short-room : b ≡ false → length (struct_put (way_of b) s at) ≡ 4
-  short-room e = rw e refl
+  pub short_room : b ≡ false → length (struct_put (way_of b) s at) ≡ 4
+  short_room e = rw e refl
 
 module _ (s out₀ : List ℕ) (at to : ℕ) where
   -- what comes back and what stands in the output
   abbrev Puts : Bool → ℕ → List ℕ → Type 0
   Puts c r out = (r ≡ to + length (struct_put (way_of c) s at)) × (out ≡ sets out₀ to (struct_put (way_of c) s at))
 
-  pub put-long : {b : Bool} {out : List ℕ} → b ≡ true → out ≡ sets out₀ to (tagged 19 s at) → Puts b (to + 5) (set out (to + 4) 0)
-  put-long e f = rw (e, f) (refl, put_more out₀ to 19 (get_or s (at + 1) 0) (get_or s (at + 2) 0) (get_or s (at + 3) 0) 0)
+  pub put_long : {b : Bool} {out : List ℕ} → b ≡ true → out ≡ sets out₀ to (tagged 19 s at) → Puts b (to + 5) (set out (to + 4) 0)
+  put_long e f = rw (e, f) (refl, put_more out₀ to 19 (get_or s (at + 1) 0) (get_or s (at + 2) 0) (get_or s (at + 3) 0) 0)
 
   pub put_short_lem : {b : Bool} {out : List ℕ} → b ≡ false → out ≡ sets out₀ to (tagged 17 s at) → Puts b (to + 4) out
   put_short_lem e f = rw (e, f) (refl, refl)
@@ -151,22 +151,22 @@ module _ (way : Way) (s out₀ : List ℕ) (at to : ℕ) (h : HeadIn s at) where
   abbrev pub PutsHead : ℕ → List ℕ → Type 0
   PutsHead r out = (r ≡ to + length (turned_head way (head_at s at))) × (out ≡ sets out₀ to (turned_head way (head_at s at)))
 
-  pub puts-turned : {r : ℕ} {out : List ℕ} → eqb (get_or s at 0) (struct_tag (from way)) ≡ true
+  pub puts_turned : {r : ℕ} {out : List ℕ} → eqb (get_or s at 0) (struct_tag (from way)) ≡ true
       → (r ≡ to + length (struct_put way s at)) × (out ≡ sets out₀ to (struct_put way s at)) → PutsHead r out
-  puts-turned e x = rw (turned_is way s at h e) x
+  puts_turned e x = rw (turned_is way s at h e) x
 
-  pub turned-room : eqb (get_or s at 0) (struct_tag (from way)) ≡ true → (n : ℕ) → to + length (turned_head way (head_at s at)) ≤ n
+  pub turned_room : eqb (get_or s at 0) (struct_tag (from way)) ≡ true → (n : ℕ) → to + length (turned_head way (head_at s at)) ≤ n
       → (at + 4 ≤ length s) × (to + length (struct_put way s at) ≤ n)
-  turned-room e n l = (struct_room way s at h e, subst (λ (x : List ℕ). to + length x ≤ n) (turned_is way s at h e) l)
+  turned_room e n l = (struct_room way s at h e, subst (λ (x : List ℕ). to + length x ≤ n) (turned_is way s at h e) l)
 
-  pub puts-kept : {k : ℕ} {out : List ℕ} → eqb (get_or s at 0) (struct_tag (from way)) ≡ false → k ≡ 1 + behind_tag (tag_of (get_or s at 0))
+  pub puts_kept : {k : ℕ} {out : List ℕ} → eqb (get_or s at 0) (struct_tag (from way)) ≡ false → k ≡ 1 + behind_tag (tag_of (get_or s at 0))
       → out ≡ sets out₀ to (take k (drop at s)) → PutsHead (to + k) out
-  puts-kept e f x =
+  puts_kept e f x =
       rw (kept_is way s at h e) (
         ap (λ (n : ℕ). to + n) (f ∙ sym (head_length s at h)),
         x ∙ ap (λ (n : ℕ). sets out₀ to (take n (drop at s))) f,
       )
 
-  pub kept-room : {k : ℕ} → eqb (get_or s at 0) (struct_tag (from way)) ≡ false → k ≡ 1 + behind_tag (tag_of (get_or s at 0)) → (n : ℕ)
+  pub kept_room : {k : ℕ} → eqb (get_or s at 0) (struct_tag (from way)) ≡ false → k ≡ 1 + behind_tag (tag_of (get_or s at 0)) → (n : ℕ)
       → to + length (turned_head way (head_at s at)) ≤ n → (at + k ≤ length s) × (to + k ≤ n)
-  kept-room e f n l = (omega (arith, h.1), omega (arith, l, ap length (kept_is way s at h e), head_length s at h))
+  kept_room e f n l = (omega (arith, h.1), omega (arith, l, ap length (kept_is way s at h e), head_length s at h))

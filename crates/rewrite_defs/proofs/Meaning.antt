@@ -16,7 +16,7 @@ use Rattle.describe_defs.proofs.Meaning.{accepted, accepts}
 use Rattle.rewrite_defs.specs.Heads.{heads_of, joined}
 use Rattle.rewrite_defs.specs.Rewrite.{Way, count_above, counts_fit, rewritten, room_for, rewrite_for, bytes_for, filled}
 use Rattle.rewrite_defs.specs.Means.{Fits, Refused, unread, above, no_room, RewriteMeans, OneAnswer}
-use Rattle.rewrite_defs.proofs.Trips.{fits, fit_so, found, rewrite-on, is-rewritten, one_rewriting}
+use Rattle.rewrite_defs.proofs.Trips.{fits, fit_so, found, rewrite_on, is_rewritten, one_rewriting}
 
 -- where counts do not fit, the first head whose count is above
 pub record Above (way : Way) (i : ℕ) (hs : List (List ℕ)) (k j : ℕ) : Type 0 where
@@ -67,9 +67,9 @@ first_above way i (h ∷ hs) k j e = go (count_above way h) refl e (λ f. first_
         }
 
 module _ (w : ℕ) (target : Target) (way : Way) (s : List ℕ) (m : ℕ) where
-  pub why-refused : (k i : ℕ) → rewrite_for w target way s m ≡ stopped k i → Refused w target way s m k i
+  pub why_refused : (k i : ℕ) → rewrite_for w target way s m ≡ stopped k i → Refused w target way s m k i
   unfolding rewrite_for
-  why-refused k i e = go (described_for w target s) refl e
+  why_refused k i e = go (described_for w target s) refl e
     where
       room : (l : Layout) → described_for w target s ≡ reached l → counts_fit way 0 (heads_of s) ≡ reached tt → (b : Bool) → leb (length (rewritten way s)) m ≡ b
           → cond b (reached (rewritten way s)) (stopped 45 0) ≡ stopped k i → Refused w target way s m k i
@@ -106,11 +106,11 @@ rewrite_means w target way s old = go (rewrite_for w target way s (length old)) 
           fit = x.fit;
           result = rewritten way s;
           room = subst (λ (z : List ℕ). length z ≤ length old) (sym x.is) x.room;
-          is = is-rewritten w target way s x.layout (accepts w target s x.described) x.fit;
+          is = is_rewritten w target way s x.layout (accepts w target s x.described) x.fit;
           count = ap length (sym x.is);
           bytes = ap (λ (z : List ℕ). z ++ drop (length r) old) (sym x.is);
         }
-    go (stopped k i) e = (why-refused w target way s (length old) k i e, refl)
+    go (stopped k i) e = (why_refused w target way s (length old) k i e, refl)
 
 -- ---- and nothing else is
 above_stops : (way : Way) (i : ℕ) (before : List (List ℕ)) (h : List ℕ) (after : List (List ℕ)) → Fits way before → count_above way h ≡ true
@@ -122,26 +122,26 @@ above_stops way i (b ∷ before) h after f e =
     rw f.0 (above_stops way (i + length b) before h after f.1 e ∙ ap (stopped 44) z)
 
 module _ (w : ℕ) (target : Target) (way : Way) (s : List ℕ) (m : ℕ) where
-  refused-so : {k i : ℕ} → Refused w target way s m k i → rewrite_for w target way s m ≡ stopped k i
+  refused_so : {k i : ℕ} → Refused w target way s m k i → rewrite_for w target way s m ≡ stopped k i
   unfolding rewrite_for
-  refused-so (unread e) = rw e
-  refused-so (above l d x) =
+  refused_so (unread e) = rw e
+  refused_so (above l d x) =
       let z : 0 + length (joined x.before) ≡ length (joined x.before) = omega arith in
       let e : counts_fit way 0 (heads_of s) ≡ stopped 44 (length (joined x.before)) =
       ap (counts_fit way 0) x.heads ∙ above_stops way 0 x.before x.head x.after x.fit x.above ∙ ap (stopped 44) z in
       rw (accepted w target s d, e, x.place)
-  refused-so (no_room l d f h) = rw (accepted w target s d, fit_so way 0 (heads_of s) f, lt-leb (length (rewritten way s)) m h)
+  refused_so (no_room l d f h) = rw (accepted w target s d, fit_so way 0 (heads_of s) f, lt-leb (length (rewritten way s)) m h)
 
 pub one_answer : (w : ℕ) (target : Target) (way : Way) → OneAnswer w target way
 one_answer w target way s old new (reached n) x =
     let r : x.result ≡ rewritten way s =
-    one_rewriting w target way s x.result (rewritten way s) x.layout x.described x.is (is-rewritten w target way s x.layout x.described x.fit) in
-    let e = rewrite-on w target way s (length old) x.layout (accepted w target s x.described) x.fit (subst (λ (z : List ℕ). length z ≤ length old) r x.room) in (
+    one_rewriting w target way s x.result (rewritten way s) x.layout x.described x.is (is_rewritten w target way s x.layout x.described x.fit) in
+    let e = rewrite_on w target way s (length old) x.layout (accepted w target s x.described) x.fit (subst (λ (z : List ℕ). length z ≤ length old) r x.room) in (
       ap reached (x.count ∙ ap length r) ∙ sym (ap (λ (p : Placed (List ℕ)). go_on p (λ z. reached (length z))) e),
       x.bytes ∙ ap (λ (k : ℕ). x.result ++ drop k old) x.count ∙ ap (λ (z : List ℕ). z ++ drop (length z) old) r ∙ sym (ap (λ (p : Placed (List ℕ)). filled p old) e),
     )
 one_answer w target way s old new (stopped k i) x =
-    let e = refused-so w target way s (length old) x.0 in (
+    let e = refused_so w target way s (length old) x.0 in (
       sym (ap (λ (p : Placed (List ℕ)). go_on p (λ z. reached (length z))) e),
       x.1 ∙ sym (ap (λ (p : Placed (List ℕ)). filled p old) e),
     )

@@ -22,7 +22,7 @@ use Rattle.rewrite_defs.specs.Heads.{heads_of, joined, has_tag, tags_among}
 use Rattle.rewrite_defs.specs.Rewrite.{Way, longer, shorter, from, into, back, turned_head, count_above, counts_fit, rewritten, room_for, rewrite_for}
 use Rattle.rewrite_defs.specs.Means.{SameStruct, same, Turned, Turns, none, turns, keeps, Fits, Rewritten, LengthIs, ThereAndBack, OneRewriting, SameLayout}
 use Rattle.rewrite_defs.proofs.Whole.{AllWhole, heads_of_lem, described_whole}
-use Rattle.rewrite_defs.proofs.Same.{described-over}
+use Rattle.rewrite_defs.proofs.Same.{described_over}
 use Rattle.rewrite_defs.proofs.Turning.{Becomes, turned, kept, becomes, all_whole, all_gone, all_grow, all_turn, none_first, all_back}
 
 -- ---- counts that fit
@@ -59,25 +59,25 @@ module _ (w : ℕ) (target : Target) (way : Way) (s : List ℕ) where
   same_layout l h f =
       let r = rewritten way s in
       let p = described_whole w target s l h in
-      let x = described-over way s r w target 16 0 (length s) 0 l h (record { heads = heads_of s; whole = p.0; fit = f; here = p.1; there = refl }) in
+      let x = described_over way s r w target 16 0 (length s) 0 l h (record { heads = heads_of s; whole = p.0; fit = f; here = p.1; there = refl }) in
       let n : x.rest.heads ≡ [] = no_heads x.rest.heads x.rest.whole (sym x.rest.here ∙ drop-length s) in
       let d : drop x.end r ≡ [] = x.rest.there ∙ ap (λ (hs : List (List ℕ)). joined (map (turned_head way) hs)) n in
       let past = moved w target r 16 0 x.end l (reads w target r 16 0 x.end l x.part) in
       subst (λ (j : ℕ). Describes w target 16 r 0 j l) (omega (arith, past, length-drop x.end r, ap length d)) x.part
 
-  length-so : (v : Way) → AllWhole (heads_of s) → Fits v (heads_of s) → length s ≡ length (joined (heads_of s)) → LengthIs v s (rewritten v s)
-  length-so longer p f e = omega (arith, all_grow longer (heads_of s) p f, e)
-  length-so shorter p f e = omega (arith, all_grow shorter (heads_of s) p f, e)
+  length_so : (v : Way) → AllWhole (heads_of s) → Fits v (heads_of s) → length s ≡ length (joined (heads_of s)) → LengthIs v s (rewritten v s)
+  length_so longer p f e = omega (arith, all_grow longer (heads_of s) p f, e)
+  length_so shorter p f e = omega (arith, all_grow shorter (heads_of s) p f, e)
 
-  pub is-rewritten : (l : Layout) → Description w target s l → Fits way (heads_of s) → Rewritten w target way s (rewritten way s)
-  is-rewritten l h f =
+  pub is_rewritten : (l : Layout) → Description w target s l → Fits way (heads_of s) → Rewritten w target way s (rewritten way s)
+  is_rewritten l h f =
       let p = described_whole w target s l h in
       let e = heads_turned way (heads_of s) p.0 f in
       record {
         every = subst (Turns way (heads_of s)) (sym e) (all_turn way (heads_of s) p.0 f);
         layout = λ m g. same_layout m g f;
         gone = ap (tags_among (struct_tag (from way))) e ∙ all_gone way (heads_of s) p.0 f;
-        length-is = length-so way p.0 f (ap length p.1);
+        length_is = length_so way p.0 f (ap length p.1);
       }
 
   -- what a rewriting that is not refused has found
@@ -102,10 +102,10 @@ module _ (w : ℕ) (target : Target) (way : Way) (s : List ℕ) where
         room = subst (λ (q : List ℕ). length q ≤ m) z.1 (leb-true (length (rewritten way s)) m z.0);
       }
 
-  pub rewrite-on : (m : ℕ) (l : Layout) → described_for w target s ≡ reached l → Fits way (heads_of s) → length (rewritten way s) ≤ m
+  pub rewrite_on : (m : ℕ) (l : Layout) → described_for w target s ≡ reached l → Fits way (heads_of s) → length (rewritten way s) ≤ m
       → rewrite_for w target way s m ≡ reached (rewritten way s)
   unfolding rewrite_for
-  rewrite-on m l e f h = rw (e, fit_so way 0 (heads_of s) f, le-leb (length (rewritten way s)) m h)
+  rewrite_on m l e f h = rw (e, fit_so way 0 (heads_of s) f, le-leb (length (rewritten way s)) m h)
 
 -- "both read as the same layout"
 pub both_read : (w : ℕ) (target : Target) (way : Way) → SameLayout w target way
@@ -189,4 +189,4 @@ there_and_back w target way s r m m' b n e h =
     let z : rewritten (back way) r ≡ s =
     ap (λ (hs : List (List ℕ)). joined (map (turned_head (back way)) hs)) q ∙ ap joined (all_back way (heads_of s) p.0 x.fit n) ∙ sym p.1 in
     let f : Fits (back way) (heads_of r) = subst (Fits (back way)) (sym q) (back_fits way (heads_of s) p.0 n (subst AllBytes p.1 b)) in
-    rewrite-on w target (back way) r m' x.layout (both_read w target way s r m e ∙ x.described) f (subst (λ (y : List ℕ). length y ≤ m') (sym z) h) ∙ ap reached z
+    rewrite_on w target (back way) r m' x.layout (both_read w target way s r m e ∙ x.described) f (subst (λ (y : List ℕ). length y ≤ m') (sym z) h) ∙ ap reached z

@@ -36,7 +36,7 @@ pub record Rewritten (w : ℕ) (target : Target) (way : Way) (s r : List ℕ) : 
   pub every : Turns way (heads_of s) (heads_of r)
   pub layout : (l : Layout) → Description w target s l → Description w target r l
   pub gone : tags_in (struct_tag (from way)) r ≡ 0
-  pub length-is : LengthIs way s r
+  pub length_is : LengthIs way s r
 
 -- each of these heads has a count that fits
 abbrev pub Fits : Way → List (List ℕ) → Type 0

@@ -13,7 +13,7 @@ use Rattle.record_defs.specs.Record.{words_of, FitsIn}
 use Rattle.record_defs.proofs.RoundTrips.{Fits}
 use Rattle.describe_defs.specs.Faults.{ScalarsAccepted}
 use Rattle.describe_defs.specs.ByHand.{AsScalars}
-use Rattle.describe_defs.proofs.ByHand.{as-scalars}
+use Rattle.describe_defs.proofs.ByHand.{as_scalars}
 use Rattle.scalar32.specs.Target.{target32}
 use Rattle.scalar32.proofs.Column.{power_at, size_at_lem, aligned_by_size}
 
@@ -44,4 +44,4 @@ fits32 b h =
 
 -- a struct of scalars reads as the composition of their records
 pub as_scalars32 : AsScalars 32 target32
-as_scalars32 = as-scalars 32 target32 scalars32 fits32 held32
+as_scalars32 = as_scalars 32 target32 scalars32 fits32 held32

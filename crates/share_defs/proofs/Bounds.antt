@@ -34,8 +34,8 @@ at_most_one w t ns r x = go x.padding
 
 module _ (w : ℕ) (t : Trailing) (ns : List ℕ) where
   -- 53 is always the sizes' sum
-  pub passed-by-sizes : (i : ℕ) → StopsAt w t ns 53 i → M w < total_size w t (take (suc i) ns)
-  passed-by-sizes i s = go s.first
+  pub passed_by_sizes : (i : ℕ) → StopsAt w t ns 53 i → M w < total_size w t (take (suc i) ns)
+  passed_by_sizes i s = go s.first
     where
       go : First (causes_at w t ns i) 53 → M w < total_size w t (take (suc i) ns)
       go (inl (x, e)) = absurd (omega arith)
@@ -46,10 +46,10 @@ module _ (w : ℕ) (t : Trailing) (ns : List ℕ) where
       go (inr (x, inr (y, inr (z, inr (h, f))))) = absurd f
 
   -- 39 comes at the first count alone
-  pub none-at-first : (i : ℕ) → Stops w t ns 39 i → i ≡ 0
-  none-at-first zero s = omega arith
-  none-at-first (suc i) (inl (f, e)) = absurd (number_among (λ k. k ≡ 39 → ⊥) (list_causes t ns) 39 ((λ e. omega arith), ((λ e. omega arith), tt)) f (omega arith))
-  none-at-first (suc i) (inr s) = absurd (go s.first)
+  pub none_at_first : (i : ℕ) → Stops w t ns 39 i → i ≡ 0
+  none_at_first zero s = omega arith
+  none_at_first (suc i) (inl (f, e)) = absurd (number_among (λ k. k ≡ 39 → ⊥) (list_causes t ns) 39 ((λ e. omega arith), ((λ e. omega arith), tt)) f (omega arith))
+  none_at_first (suc i) (inr s) = absurd (go s.first)
     where
       go : First (causes_at w t ns (suc i)) 39 → ⊥
       go (inl (x, e)) = (s.before 0 (omega arith)).0 x
@@ -66,9 +66,9 @@ sum_of (q ∷ qs) (suc i) = omega (arith, sum_of qs i)
 
 -- what is given of accepted counts, w bits hold, but for the number of counts and an index: the total size is at most M
 pub record Within (w : ℕ) (r : Share) : Type 0 where
-  pub padding-numerator : r.padding.numerator ≤ M w
-  pub padding-denominator : r.padding.denominator ≤ M w
-  pub mean-numerator : r.mean.numerator ≤ M w
+  pub padding_numerator : r.padding.numerator ≤ M w
+  pub padding_denominator : r.padding.denominator ≤ M w
+  pub mean_numerator : r.mean.numerator ≤ M w
   pub greatest : r.greatest ≤ M w
 
 total_within : (w : ℕ) (t : Trailing) (ns : List ℕ) → Accepted w t ns → total_size w t ns ≤ M w
@@ -86,9 +86,9 @@ share_within w t ns r pos a x =
     let q = padding_within w t ns x.paddings x.each in
     let f = go s q x.padding in
     record {
-      padding-numerator = f.0;
-      padding-denominator = f.1;
-      mean-numerator = omega (arith, s, (terms_within (omega (arith, a.list.1.0)) x.mean).0);
+      padding_numerator = f.0;
+      padding_denominator = f.1;
+      mean_numerator = omega (arith, s, (terms_within (omega (arith, a.list.1.0)) x.mean).0);
       greatest = omega (arith, s, q, sum_of x.paddings r.index, x.greatest.here);
     }
   where

@@ -15,8 +15,8 @@ use Rattle.trailing_defs.proofs.Sized.{tells_no_size}
 use Rattle.share_defs.specs.Totals.{end_at, whole_padding, total_size, total_padding, count_causes, Totals, with_count, add_count, totals_from}
 
 module _ (w : ℕ) (t : Trailing) where
-  pub count-decided : (n s q : ℕ) → Decided (count_causes w t n s q)
-  count-decided n s q =
+  pub count_decided : (n s q : ℕ) → Decided (count_causes w t n s q)
+  count_decided n s q =
       (tells_no_size w t 0, λ _. (tells_no_size w t n, λ _. (tells_lt (size_at w t n) (end_at t n), λ _. (tells_or (tells_lt (M w) s) (tells_lt (M w) q), λ _. tt))))
 
   add_meets : (i n : ℕ) (x : Totals)
@@ -25,30 +25,30 @@ module _ (w : ℕ) (t : Trailing) where
   add_meets i n x =
       let s = x.sizes + size_at w t n in
       let q = x.paddings + whole_padding w t n in
-      meets (count_causes w t n s q) (with_count i (size_at w t n) (whole_padding w t n) x) (count-decided n s q) (λ _. refl)
+      meets (count_causes w t n s q) (with_count i (size_at w t n) (whole_padding w t n) x) (count_decided n s q) (λ _. refl)
 
   -- what refuses the count with the index j of a list, behind sums s and q
   abbrev pub causes_from : (s q : ℕ) → List ℕ → ℕ → List Cause
   causes_from s q ns j = count_causes w t (get_or ns j 0) (s + total_size w t (take (suc j) ns)) (q + total_padding w t (take (suc j) ns))
 
-  pub none-at : (n : ℕ) {s q s' q' : ℕ} → s ≡ s' → q ≡ q' → None (count_causes w t n s q) → None (count_causes w t n s' q')
-  none-at n {s} {q} {s'} {q'} e f h = subst (λ (z : ℕ). None (count_causes w t n z q')) e (subst (λ (z : ℕ). None (count_causes w t n s z)) f h)
+  pub none_at : (n : ℕ) {s q s' q' : ℕ} → s ≡ s' → q ≡ q' → None (count_causes w t n s q) → None (count_causes w t n s' q')
+  none_at n {s} {q} {s'} {q'} e f h = subst (λ (z : ℕ). None (count_causes w t n z q')) e (subst (λ (z : ℕ). None (count_causes w t n s z)) f h)
 
-  pub first-at : (k n : ℕ) {s q s' q' : ℕ} → s ≡ s' → q ≡ q' → First (count_causes w t n s q) k → First (count_causes w t n s' q') k
-  first-at k n {s} {q} {s'} {q'} e f h = subst (λ (z : ℕ). First (count_causes w t n z q') k) e (subst (λ (z : ℕ). First (count_causes w t n s z) k) f h)
+  pub first_at : (k n : ℕ) {s q s' q' : ℕ} → s ≡ s' → q ≡ q' → First (count_causes w t n s q) k → First (count_causes w t n s' q') k
+  first_at k n {s} {q} {s'} {q'} e f h = subst (λ (z : ℕ). First (count_causes w t n z q') k) e (subst (λ (z : ℕ). First (count_causes w t n s z) k) f h)
 
   -- the totals where nothing refuses
   abbrev pub final : ℕ → List ℕ → Totals → Totals
   final i [] x = x
   final i (n ∷ ns) x = final (suc i) ns (with_count i (size_at w t n) (whole_padding w t n) x)
 
-  pub final-sizes : (i : ℕ) (ns : List ℕ) (x : Totals) → (final i ns x).sizes ≡ x.sizes + total_size w t ns
-  final-sizes i [] x = omega arith
-  final-sizes i (n ∷ ns) x = omega (arith, final-sizes (suc i) ns (with_count i (size_at w t n) (whole_padding w t n) x))
+  pub final_sizes : (i : ℕ) (ns : List ℕ) (x : Totals) → (final i ns x).sizes ≡ x.sizes + total_size w t ns
+  final_sizes i [] x = omega arith
+  final_sizes i (n ∷ ns) x = omega (arith, final_sizes (suc i) ns (with_count i (size_at w t n) (whole_padding w t n) x))
 
-  pub final-paddings : (i : ℕ) (ns : List ℕ) (x : Totals) → (final i ns x).paddings ≡ x.paddings + total_padding w t ns
-  final-paddings i [] x = omega arith
-  final-paddings i (n ∷ ns) x = omega (arith, final-paddings (suc i) ns (with_count i (size_at w t n) (whole_padding w t n) x))
+  pub final_paddings : (i : ℕ) (ns : List ℕ) (x : Totals) → (final i ns x).paddings ≡ x.paddings + total_padding w t ns
+  final_paddings i [] x = omega arith
+  final_paddings i (n ∷ ns) x = omega (arith, final_paddings (suc i) ns (with_count i (size_at w t n) (whole_padding w t n) x))
 
   -- what the fold means: it stops at the first count that is refused, else no count is
   pub record StopsFrom (i : ℕ) (ns : List ℕ) (x : Totals) (k p : ℕ) : Type 0 where
@@ -62,16 +62,16 @@ module _ (w : ℕ) (t : Trailing) where
   FoldMeans i ns x (reached y) = ((j : ℕ) → j < length ns → None (causes_from x.sizes x.paddings ns j)) × (y ≡ final i ns x)
   FoldMeans i ns x (stopped k p) = StopsFrom i ns x k p
 
-  pub fold-means : (i : ℕ) (ns : List ℕ) (x : Totals) → FoldMeans i ns x (totals_from w t i ns x)
+  pub fold_means : (i : ℕ) (ns : List ℕ) (x : Totals) → FoldMeans i ns x (totals_from w t i ns x)
   unfolding totals_from
-  fold-means i [] x = ((λ j h. absurd (omega arith)), refl)
-  fold-means i (n ∷ ns) x = go (add_meets i n x) (λ y. fold-means (suc i) ns y)
+  fold_means i [] x = ((λ j h. absurd (omega arith)), refl)
+  fold_means i (n ∷ ns) x = go (add_meets i n x) (λ y. fold_means (suc i) ns y)
     where
       here : None (count_causes w t n (x.sizes + size_at w t n) (x.paddings + whole_padding w t n)) → None (causes_from x.sizes x.paddings (n ∷ ns) 0)
-      here h = none-at n (omega arith) (omega arith) h
+      here h = none_at n (omega arith) (omega arith) h
 
       ahead : (j : ℕ) → None (causes_from (x.sizes + size_at w t n) (x.paddings + whole_padding w t n) ns j) → None (causes_from x.sizes x.paddings (n ∷ ns) (suc j))
-      ahead j h = none-at (get_or ns j 0) (omega arith) (omega arith) h
+      ahead j h = none_at (get_or ns j 0) (omega arith) (omega arith) h
 
       all : (m : ℕ) → None (causes_from x.sizes x.paddings (n ∷ ns) 0)
           → ((j : ℕ) → j < m → None (causes_from (x.sizes + size_at w t n) (x.paddings + whole_padding w t n) ns j))
@@ -87,7 +87,7 @@ module _ (w : ℕ) (t : Trailing) where
         place = omega (arith, s.place);
         within = omega (arith, s.within);
         before = all s.after (here h) s.before;
-        first = first-at k (get_or ns s.after 0) (omega arith) (omega arith) s.first;
+        first = first_at k (get_or ns s.after 0) (omega arith) (omega arith) s.first;
       }
 
       go : {o : Outcome Totals} → Meets (count_causes w t n (x.sizes + size_at w t n) (x.paddings + whole_padding w t n)) (λ y. y ≡ with_count i (size_at w t n) (whole_padding w t n) x) o
@@ -99,23 +99,23 @@ module _ (w : ℕ) (t : Trailing) where
         place = omega arith;
         within = omega arith;
         before = λ j l. absurd (omega arith);
-        first = first-at k n (omega arith) (omega arith) f;
+        first = first_at k n (omega arith) (omega arith) f;
       }
 
   -- one count of a list, and the end of it
-  pub totals-on : (ns : List ℕ) (i : ℕ) (x y : Totals) → i < length ns → add_count w t i (get_or ns i 0) x ≡ answered y
+  pub totals_on : (ns : List ℕ) (i : ℕ) (x y : Totals) → i < length ns → add_count w t i (get_or ns i 0) x ≡ answered y
       → totals_from w t i (drop i ns) x ≡ totals_from w t (i + 1) (drop (i + 1) ns) y
   unfolding totals_from
-  totals-on ns i x y l e =
+  totals_on ns i x y l e =
       ap (λ (z : List ℕ). totals_from w t i z x) (drop-cons ns i 0 l) ∙ ap (λ (o : Outcome Totals). at_place i o (λ y. totals_from w t (suc i) (drop (suc i) ns) y)) e
       ∙ ap (λ (k : ℕ). totals_from w t k (drop k ns) y) (sym (add-one i))
 
-  pub totals-off : {k : ℕ} (ns : List ℕ) (i : ℕ) (x : Totals) → i < length ns → add_count w t i (get_or ns i 0) x ≡ refused k
+  pub totals_off : {k : ℕ} (ns : List ℕ) (i : ℕ) (x : Totals) → i < length ns → add_count w t i (get_or ns i 0) x ≡ refused k
       → totals_from w t i (drop i ns) x ≡ stopped k i
   unfolding totals_from
-  totals-off ns i x l e =
+  totals_off ns i x l e =
       ap (λ (z : List ℕ). totals_from w t i z x) (drop-cons ns i 0 l) ∙ ap (λ (o : Outcome Totals). at_place i o (λ y. totals_from w t (suc i) (drop (suc i) ns) y)) e
 
-  pub totals-end : (ns : List ℕ) (i : ℕ) (x : Totals) → length ns ≤ i → totals_from w t i (drop i ns) x ≡ reached x
+  pub totals_end : (ns : List ℕ) (i : ℕ) (x : Totals) → length ns ≤ i → totals_from w t i (drop i ns) x ≡ reached x
   unfolding totals_from
-  totals-end ns i x l = ap (λ (z : List ℕ). totals_from w t i z x) (drop_of_length-le ns l)
+  totals_end ns i x l = ap (λ (z : List ℕ). totals_from w t i z x) (drop_of_length-le ns l)

@@ -22,13 +22,13 @@ pub data Ends (g k i : ℕ) (qs : List ℕ) (g' k' : ℕ) : Type 0 where
       → ((m : ℕ) → m < j → get_or qs m 0 < g') → Ends g k i qs g' k'
 
 module _ (q : ℕ) (qs : List ℕ) (g : ℕ) where
-  all-le : {n : ℕ} → q ≤ g → ((m : ℕ) → m < n → get_or qs m 0 ≤ g) → (m : ℕ) → m < suc n → get_or (q ∷ qs) m 0 ≤ g
-  all-le h f zero l = h
-  all-le h f (suc m) l = f m (omega arith)
+  all_le : {n : ℕ} → q ≤ g → ((m : ℕ) → m < n → get_or qs m 0 ≤ g) → (m : ℕ) → m < suc n → get_or (q ∷ qs) m 0 ≤ g
+  all_le h f zero l = h
+  all_le h f (suc m) l = f m (omega arith)
 
-  all-lt : {n : ℕ} → q < g → ((m : ℕ) → m < n → get_or qs m 0 < g) → (m : ℕ) → m < suc n → get_or (q ∷ qs) m 0 < g
-  all-lt h f zero l = h
-  all-lt h f (suc m) l = f m (omega arith)
+  all_lt : {n : ℕ} → q < g → ((m : ℕ) → m < n → get_or qs m 0 < g) → (m : ℕ) → m < suc n → get_or (q ∷ qs) m 0 < g
+  all_lt h f zero l = h
+  all_lt h f (suc m) l = f m (omega arith)
 
 ends_step : {g' k' : ℕ} (g k i q : ℕ) (qs : List ℕ) → Ends (cond (ltb g q) q g) (cond (ltb g q) i k) (suc i) qs g' k' → Ends g k i (q ∷ qs) g' k'
 ends_step {g'} {k'} g k i q qs x = go (ltb g q) refl x
@@ -36,14 +36,14 @@ ends_step {g'} {k'} g k i q qs x = go (ltb g q) refl x
     go : (b : Bool) → ltb g q ≡ b → Ends (cond b q g) (cond b i k) (suc i) qs g' k' → Ends g k i (q ∷ qs) g' k'
     go true e (kept a b f) =
         let l = ltb-true g q e in
-        found 0 (omega arith) (omega arith) (sym a) (omega arith) (all-le q qs g' (omega arith) (λ m h. omega (arith, f m h))) (λ m h. absurd (omega arith))
+        found 0 (omega arith) (omega arith) (sym a) (omega arith) (all_le q qs g' (omega arith) (λ m h. omega (arith, f m h))) (λ m h. absurd (omega arith))
     go true e (found j n a b c f h) =
         let l = ltb-true g q e in
-        found (suc j) (omega arith) (omega arith) b (omega arith) (all-le q qs g' (omega arith) f) (all-lt q qs g' (omega arith) h)
-    go false e (kept a b f) = kept a b (all-le q qs g (omega (arith, ltb-false g q e)) f)
+        found (suc j) (omega arith) (omega arith) b (omega arith) (all_le q qs g' (omega arith) f) (all_lt q qs g' (omega arith) h)
+    go false e (kept a b f) = kept a b (all_le q qs g (omega (arith, ltb-false g q e)) f)
     go false e (found j n a b c f h) =
         let l = ltb-false g q e in
-        found (suc j) (omega arith) (omega arith) b c (all-le q qs g' (omega arith) f) (all-lt q qs g' (omega arith) h)
+        found (suc j) (omega arith) (omega arith) b c (all_le q qs g' (omega arith) f) (all_lt q qs g' (omega arith) h)
 
 pub ends : (w : ℕ) (t : Trailing) (i : ℕ) (ns : List ℕ) (x : Totals)
     → Ends x.greatest x.index i (map (whole_padding w t) ns) (final w t i ns x).greatest (final w t i ns x).index

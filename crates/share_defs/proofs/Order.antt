@@ -19,8 +19,8 @@ use Rattle.gcd_defs.proofs.Fractions.{one_fraction}
 use Rattle.share_defs.specs.Totals.{whole_padding, sum, total_size, total_padding}
 use Rattle.share_defs.specs.Share.{Share, list_causes, share_for}
 use Rattle.share_defs.specs.Meaning.{FirstGreatest, Portion, Shares, Accepted, ShareMeans, Alike, Another, OrderFree}
-use Rattle.share_defs.proofs.Paddings.{All, all_from, all_at, Fine, accepted-fine, one_paddings, paddings-are}
-use Rattle.share_defs.proofs.Meaning.{one_portion, accepted-stops, share-means}
+use Rattle.share_defs.proofs.Paddings.{All, all_from, all_at, Fine, accepted_fine, one_paddings, paddings_are}
+use Rattle.share_defs.proofs.Meaning.{one_portion, accepted_stops, share_means}
 
 -- what a permutation keeps: what is so of every number, the number of them, and sums
 perm_all : {ns ms : List ℕ} (P : ℕ → Type 0) → Permᴰ ns ms → All P ns → All P ms
@@ -60,16 +60,16 @@ map_at f (n ∷ ns) (suc j) l = map_at f ns j (omega arith)
 
 module _ (w : ℕ) (t : Trailing) where
   -- accepted lists: a list that is not empty, of counts that go through, whose sizes have a sum of at most M
-  accepted-sum : (ns : List ℕ) → Accepted w t ns → total_size w t ns ≤ M w
-  accepted-sum [] a = absurd (a.list.1.0 refl)
-  accepted-sum (n ∷ ns) a =
+  accepted_sum : (ns : List ℕ) → Accepted w t ns → total_size w t ns ≤ M w
+  accepted_sum [] a = absurd (a.list.1.0 refl)
+  accepted_sum (n ∷ ns) a =
       let h = a.counts (length ns) (omega arith) in
       let e : take (suc (length ns)) (n ∷ ns) ≡ n ∷ ns = ap (λ (z : List ℕ). n ∷ z) (take-length ns) in
       known (tells_le (total_size w t (n ∷ ns)) (M w))
       (λ g. h.1.1.1.0 (inl (subst (λ (z : List ℕ). M w < total_size w t z) (sym e) (omega (arith, g)))))
 
-  sum-accepted : (ns : List ℕ) → None (list_causes t ns) → HasSize w t 0 → All (Fine w t) ns → total_size w t ns ≤ M w → Accepted w t ns
-  sum-accepted ns h z f l = record {
+  sum_accepted : (ns : List ℕ) → None (list_causes t ns) → HasSize w t 0 → All (Fine w t) ns → total_size w t ns ≤ M w → Accepted w t ns
+  sum_accepted ns h z f l = record {
     list = h;
     counts = λ i b.
         let x = all_at (Fine w t) ns f i b in
@@ -78,28 +78,28 @@ module _ (w : ℕ) (t : Trailing) where
         ((λ n. n z), ((λ n. n x.0), ((λ n. omega (arith, x.1)), ((λ n. ⊎_elim (λ g. omega arith) (λ g. omega arith) n), tt))));
   }
 
-  zero-size : (ns : List ℕ) → Accepted w t ns → HasSize w t 0
-  zero-size ns a = known (tells_le (size_at w t 0) (M w)) (a.counts 0 (omega (arith, a.list.1.0))).0
+  zero_size : (ns : List ℕ) → Accepted w t ns → HasSize w t 0
+  zero_size ns a = known (tells_le (size_at w t 0) (M w)) (a.counts 0 (omega (arith, a.list.1.0))).0
 
   -- the greatest of the paddings is at most that of another order
-  greatest-within : (ns ms : List ℕ) {q r i j : ℕ} → Permᴰ ns ms → FirstGreatest (map (whole_padding w t) ns) q i → FirstGreatest (map (whole_padding w t) ms) r j → q ≤ r
-  greatest-within ns ms {q} {r} {i} {j} d x y =
+  greatest_within : (ns ms : List ℕ) {q r i j : ℕ} → Permᴰ ns ms → FirstGreatest (map (whole_padding w t) ns) q i → FirstGreatest (map (whole_padding w t) ms) r j → q ≤ r
+  greatest_within ns ms {q} {r} {i} {j} d x y =
       let f = whole_padding w t in
       let a = all_from (λ n. f n ≤ r) ms (λ k l. omega (arith, map_at f ms k l, y.greatest k (omega (arith, length-map ms f)))) in
       let l : i < length ns = omega (arith, x.within, length-map ns f) in
       omega (arith, x.here, map_at f ns i l, all_at (λ n. f n ≤ r) ns (perm_all (λ n. f n ≤ r) (Permᴰ.symm d) a) i l)
 
   -- the paddings of counts that are accepted
-  given-paddings : (ns : List ℕ) {r : Share} → Accepted w t ns → (x : Shares w t ns r) → x.paddings ≡ map (whole_padding w t) ns
-  given-paddings ns a x = one_paddings w t ns x.paddings (map (whole_padding w t) ns) x.each (paddings-are w t ns (accepted-fine w t ns a.counts))
+  given_paddings : (ns : List ℕ) {r : Share} → Accepted w t ns → (x : Shares w t ns r) → x.paddings ≡ map (whole_padding w t) ns
+  given_paddings ns a x = one_paddings w t ns x.paddings (map (whole_padding w t) ns) x.each (paddings_are w t ns (accepted_fine w t ns a.counts))
 
   alike : (ns ms : List ℕ) {r s : Share} → Permᴰ ns ms → Accepted w t ns → Shares w t ns r → Accepted w t ms → Shares w t ms s → Alike r s
   alike ns ms {r} {s} d a x b y =
       let f = whole_padding w t in
       let p = perm_sum f d in
       let z = perm_sum (size_at w t) d in
-      let qs = given-paddings ns a x in
-      let rs = given-paddings ms b y in
+      let qs = given_paddings ns a x in
+      let rs = given_paddings ms b y in
       let gx = subst (λ (l : List ℕ). FirstGreatest l r.greatest r.index) qs x.greatest in
       let gy = subst (λ (l : List ℕ). FirstGreatest l s.greatest s.index) rs y.greatest in
       let mx = subst (λ (n : ℕ). LowestTerms (total_size w t ms) n r.mean) (perm_length d) (subst (λ (n : ℕ). LowestTerms n (length ns) r.mean) z x.mean) in
@@ -108,18 +108,18 @@ module _ (w : ℕ) (t : Trailing) where
       record {
         padding = one_portion y.padding px;
         mean = one_fraction pos y.mean mx;
-        greatest = omega (arith, greatest-within ns ms d gx gy, greatest-within ms ns (Permᴰ.symm d) gy gx);
+        greatest = omega (arith, greatest_within ns ms d gx gy, greatest_within ms ns (Permᴰ.symm d) gy gx);
       }
 
 module _ (w : ℕ) (t : Trailing) (ns ms : List ℕ) (r : Share) (e : share_for w t ns ≡ reached r) where
   here : ShareMeans w t ns (reached r)
-  here = subst (ShareMeans w t ns) e (share-means w t ns)
+  here = subst (ShareMeans w t ns) e (share_means w t ns)
 
   there : Permᴰ ns ms → Accepted w t ms
   there d =
       let a = here.0 in
-      sum-accepted w t ms (a.list.0, ((λ z. a.list.1.0 (perm_length d ∙ z)), tt)) (zero-size w t ns a)
-      (perm_all (Fine w t) d (accepted-fine w t ns a.counts)) (omega (arith, accepted-sum w t ns a, perm_sum (size_at w t) d))
+      sum_accepted w t ms (a.list.0, ((λ z. a.list.1.0 (perm_length d ∙ z)), tt)) (zero_size w t ns a)
+      (perm_all (Fine w t) d (accepted_fine w t ns a.counts)) (omega (arith, accepted_sum w t ns a, perm_sum (size_at w t) d))
 
   -- by each number of it, since a permutation tells of no more than equal numbers
   same : (s : Share) → ShareMeans w t ms (reached s) → Perm ns ms → Alike r s
@@ -140,10 +140,10 @@ module _ (w : ℕ) (t : Trailing) (ns ms : List ℕ) (r : Share) (e : share_for 
 
   another : Perm ns ms → (o : Placed Share) → share_for w t ms ≡ o → ShareMeans w t ms o → Another w t ms r
   another d (reached s) g m = record { share = s; accepted = g; alike = same s m d }
-  another d (stopped k i) g m = absurd (∥∥₁_elim d ⊥_prop (λ x. accepted-stops w t ms (there x) m))
+  another d (stopped k i) g m = absurd (∥∥₁_elim d ⊥_prop (λ x. accepted_stops w t ms (there x) m))
 
 pub order_free : (w : ℕ) → OrderFree w
-order_free w t ns ms r d e = another w t ns ms r e d (share_for w t ms) refl (share-means w t ms)
+order_free w t ns ms r d e = another w t ns ms r e d (share_for w t ms) refl (share_means w t ms)
 
 -- so that two orders that are accepted give the same
 pub same_given : (w : ℕ) (t : Trailing) (ns ms : List ℕ) (r s : Share) → Perm ns ms → share_for w t ns ≡ reached r → share_for w t ms ≡ reached s

@@ -50,11 +50,11 @@ module _ (w : ℕ) (t : Trailing) where
   pub fine : (n s q : ℕ) → None (count_causes w t n s q) → Fine n
   fine n s q h = (known (tells_le (size_at w t n) (M w)) h.1.0, omega (arith, h.1.1.0))
 
-  pub accepted-fine : (ns : List ℕ) → ((i : ℕ) → i < length ns → None (causes_at w t ns i)) → All Fine ns
-  accepted-fine ns f =
+  pub accepted_fine : (ns : List ℕ) → ((i : ℕ) → i < length ns → None (causes_at w t ns i)) → All Fine ns
+  accepted_fine ns f =
       all_from Fine ns (λ i l. fine (get_or ns i 0) (total_size w t (take (suc i) ns)) (total_padding w t (take (suc i) ns)) (f i l))
 
   -- then what the sizes are past the ends are the paddings
-  pub paddings-are : (ns : List ℕ) → All Fine ns → Paddings w t ns (map (whole_padding w t) ns)
-  paddings-are [] f = tt
-  paddings-are (n ∷ ns) f = (omega (arith, f.0.1), paddings-are ns f.1)
+  pub paddings_are : (ns : List ℕ) → All Fine ns → Paddings w t ns (map (whole_padding w t) ns)
+  paddings_are [] f = tt
+  paddings_are (n ∷ ns) f = (omega (arith, f.0.1), paddings_are ns f.1)

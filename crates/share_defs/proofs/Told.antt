@@ -25,7 +25,7 @@ use Rattle.trailing_defs.proofs.Sizes.{size_ge, size_mono}
 use Rattle.share_defs.specs.Totals.{end_at, whole_padding, sum_passes, count_causes, Totals, no_totals, with_count, add_count, totals_from}
 use Rattle.share_defs.specs.Share.{Share, share_of, sums_for, share_for}
 use Rattle.share_defs.specs.Meaning.{ShareMeans}
-use Rattle.share_defs.proofs.Meaning.{share-means}
+use Rattle.share_defs.proofs.Meaning.{share_means}
 
 -- the size with x trailing bytes by the parts a and q of the word, and by a mask where it is at most M
 pub size_by_parts : {a q : ℕ} (w : ℕ) (t : Trailing) (x : ℕ) → IsWord t.word a q → t.word < 2 ^ w → size_with t.base (A w t) (p w t) x ≡ t.base + up (q + x) a
@@ -47,17 +47,17 @@ module _ {a q m : ℕ} (w : ℕ) (t : Trailing) (h : IsWord t.word a q) (l : t.w
   align_pos : 0 < A w t
   align_pos = positive (parts_of_lem w t.word (not_zero h) l).power
 
-  pub most-within : m ≤ M w
-  most-within = omega (arith, g.fits, size_ge t.base (A w t) (p w t) m align_pos)
+  pub most_within : m ≤ M w
+  most_within = omega (arith, g.fits, size_ge t.base (A w t) (p w t) m align_pos)
 
-  pub first-size : HasSize w t 0
-  first-size = omega (arith, g.fits, size_mono t.base (A w t) (p w t) (0 * t.elem) m align_pos (omega arith))
+  pub first_size : HasSize w t 0
+  first_size = omega (arith, g.fits, size_mono t.base (A w t) (p w t) (0 * t.elem) m align_pos (omega arith))
 
   pub within_size : (x : ℕ) → x ≤ m → size_with t.base (A w t) (p w t) x ≤ M w
   within_size x k = omega (arith, g.fits, size_mono t.base (A w t) (p w t) x m align_pos k)
 
-  pub bytes-size : (x : ℕ) → x ≤ m → t.base + up (q + x) a ≤ M w
-  bytes-size x k = omega (arith, size_by_parts w t x h l, within_size x k)
+  pub bytes_size : (x : ℕ) → x ≤ m → t.base + up (q + x) a ≤ M w
+  bytes_size x k = omega (arith, size_by_parts w t x h l, within_size x k)
 
   pub count_past : (n : ℕ) → m < n * t.elem → M w < size_at w t n
   count_past n k = go (tells_lt (M w) (size_at w t n))
@@ -67,10 +67,10 @@ module _ {a q m : ℕ} (w : ℕ) (t : Trailing) (h : IsWord t.word a q) (l : t.w
       go (fails f) = absurd (omega (arith, f, g.greatest (n * t.elem) (omega (arith, f))))
 
   -- the mask may have more bits than the width
-  pub size-by-mask : (u : ℕ) → w ≤ u → (x : ℕ) → x ≤ m → t.base + bit_and (q + x + (a - 1)) ((2 ^ u - 1) - (a - 1)) ≡ size_with t.base (A w t) (p w t) x
-  size-by-mask u j x k =
+  pub size_by_mask : (u : ℕ) → w ≤ u → (x : ℕ) → x ≤ m → t.base + bit_and (q + x + (a - 1)) ((2 ^ u - 1) - (a - 1)) ≡ size_with t.base (A w t) (p w t) x
+  size_by_mask u j x k =
       let g : 2 ^ w ≤ 2 ^ u = pow_mono j in
-      let f = sum_fits w t.base (q + x) h l (bytes-size x k) in
+      let f = sum_fits w t.base (q + x) h l (bytes_size x k) in
       ap (λ (z : ℕ). t.base + z) (up_by_mask u (q + x) h (omega (arith, l, g)) (omega (arith, f, g))) ∙ sym (size_by_parts w t x h l)
 
 module _ (w : ℕ) (t : Trailing) (i n : ℕ) (x : Totals) where
@@ -79,38 +79,38 @@ module _ (w : ℕ) (t : Trailing) (i n : ℕ) (x : Totals) where
   unfolding add_count unless
   add_none l = simp (lt-ltb (M w) (size_at w t 0) l)
 
-  pub add-no-size : HasSize w t 0 → M w < size_at w t n → add_count w t i n x ≡ refused 15
+  pub add_no_size : HasSize w t 0 → M w < size_at w t n → add_count w t i n x ≡ refused 15
   unfolding add_count unless
-  add-no-size z l = simp (le-ltb (M w) (size_at w t 0) z, lt-ltb (M w) (size_at w t n) l)
+  add_no_size z l = simp (le-ltb (M w) (size_at w t 0) z, lt-ltb (M w) (size_at w t n) l)
 
-  pub add-above : HasSize w t 0 → HasSize w t n → size_at w t n < end_at t n → add_count w t i n x ≡ refused 52
+  pub add_above : HasSize w t 0 → HasSize w t n → size_at w t n < end_at t n → add_count w t i n x ≡ refused 52
   unfolding add_count unless
-  add-above z h l = simp (le-ltb (M w) (size_at w t 0) z, le-ltb (M w) (size_at w t n) h, lt-ltb (size_at w t n) (end_at t n) l)
+  add_above z h l = simp (le-ltb (M w) (size_at w t 0) z, le-ltb (M w) (size_at w t n) h, lt-ltb (size_at w t n) (end_at t n) l)
 
-  pub add-sized : HasSize w t 0 → HasSize w t n → end_at t n ≤ size_at w t n
+  pub add_sized_lem : HasSize w t 0 → HasSize w t n → end_at t n ≤ size_at w t n
       → add_count w t i n x ≡ unless (sum_passes w (x.sizes + size_at w t n) (x.paddings + whole_padding w t n) ∷ []) (with_count i (size_at w t n) (whole_padding w t n) x)
   unfolding add_count unless
-  add-sized z h l = simp (le-ltb (M w) (size_at w t 0) z, le-ltb (M w) (size_at w t n) h, le-ltb (size_at w t n) (end_at t n) l)
+  add_sized_lem z h l = simp (le-ltb (M w) (size_at w t 0) z, le-ltb (M w) (size_at w t n) h, le-ltb (size_at w t n) (end_at t n) l)
 
   -- the sum of the paddings stays within that of the sizes
-  pub within-kept : {y : Totals} → x.paddings ≤ x.sizes → add_count w t i n x ≡ answered y → y.paddings ≤ y.sizes
+  pub within_kept : {y : Totals} → x.paddings ≤ x.sizes → add_count w t i n x ≡ answered y → y.paddings ≤ y.sizes
   unfolding add_count
-  within-kept {y} l e =
+  within_kept {y} l e =
       let g = answer_is (count_causes w t n (x.sizes + size_at w t n) (x.paddings + whole_padding w t n)) (with_count i (size_at w t n) (whole_padding w t n) x) e in
       subst (λ (z : Totals). z.paddings ≤ z.sizes) (sym g) (omega arith)
 
 -- 53, and the new sums, of a count with the size s and the padding q
 module _ (w i s q : ℕ) (x : Totals) where
-  pub sum-passes : M w < x.sizes + s → unless (sum_passes w (x.sizes + s) (x.paddings + q) ∷ []) (with_count i s q x) ≡ refused 53
+  pub sum_passes_lem : M w < x.sizes + s → unless (sum_passes w (x.sizes + s) (x.paddings + q) ∷ []) (with_count i s q x) ≡ refused 53
   unfolding unless
-  sum-passes l = simp (lt-ltb (M w) (x.sizes + s) l)
+  sum_passes_lem l = simp (lt-ltb (M w) (x.sizes + s) l)
 
   -- a greater padding takes the place of the greatest, and no other does
   module _ (h : x.paddings ≤ x.sizes) (k : q ≤ s) (l : x.sizes + s ≤ M w) where
-    pub sum-greater : x.greatest < q
+    pub sum_greater : x.greatest < q
         → unless (sum_passes w (x.sizes + s) (x.paddings + q) ∷ []) (with_count i s q x) ≡ answered (record { sizes = x.sizes + s; paddings = x.paddings + q; greatest = q; index = i })
     unfolding unless
-    sum-greater g = simp (le-ltb (M w) (x.sizes + s) l, le-ltb (M w) (x.paddings + q) (omega arith), lt-ltb x.greatest q g)
+    sum_greater g = simp (le-ltb (M w) (x.sizes + s) l, le-ltb (M w) (x.paddings + q) (omega arith), lt-ltb x.greatest q g)
 
     pub sum_kept : q ≤ x.greatest
         → unless (sum_passes w (x.sizes + s) (x.paddings + q) ∷ []) (with_count i s q x) ≡ answered (record { sizes = x.sizes + s; paddings = x.paddings + q; greatest = x.greatest; index = x.index })
@@ -119,24 +119,24 @@ module _ (w i s q : ℕ) (x : Totals) where
 
 -- the whole list: 2, 51, and what the fold gives
 module _ (w : ℕ) (t : Trailing) (ns : List ℕ) where
-  pub sums-bad-word : t.word ≡ 0 → sums_for w t ns ≡ stopped 2 0
+  pub sums_bad_word : t.word ≡ 0 → sums_for w t ns ≡ stopped 2 0
   unfolding sums_for unless
-  sums-bad-word e = simp (eq-eqb t.word 0 e)
+  sums_bad_word e = simp (eq-eqb t.word 0 e)
 
-  pub sums-empty : 0 < t.word → length ns ≡ 0 → sums_for w t ns ≡ stopped 51 0
+  pub sums_empty : 0 < t.word → length ns ≡ 0 → sums_for w t ns ≡ stopped 51 0
   unfolding sums_for unless
-  sums-empty h e = simp (ne_eqb t.word 0 (λ z. omega arith), eq-eqb (length ns) 0 e)
+  sums_empty h e = simp (ne_eqb t.word 0 (λ z. omega arith), eq-eqb (length ns) 0 e)
 
-  pub sums-folded : 0 < t.word → 0 < length ns → sums_for w t ns ≡ totals_from w t 0 ns no_totals
+  pub sums_folded : 0 < t.word → 0 < length ns → sums_for w t ns ≡ totals_from w t 0 ns no_totals
   unfolding sums_for unless
-  sums-folded h l = simp (ne_eqb t.word 0 (λ z. omega arith), ne_eqb (length ns) 0 (λ z. omega arith))
+  sums_folded h l = simp (ne_eqb t.word 0 (λ z. omega arith), ne_eqb (length ns) 0 (λ z. omega arith))
 
 -- no size at 0 is told of the first count
 pub sums_none : (w : ℕ) (t : Trailing) (ns : List ℕ) → 0 < t.word → 0 < length ns → M w < size_at w t 0 → sums_for w t ns ≡ stopped 39 0
 unfolding totals_from
 sums_none w t [] h pos l = absurd (omega arith)
 sums_none w t (n ∷ ns) h pos l =
-    sums-folded w t (n ∷ ns) h pos ∙ simp (add_none w t 0 n no_totals l)
+    sums_folded w t (n ∷ ns) h pos ∙ simp (add_none w t 0 n no_totals l)
 
 -- what is given of the totals
 pub share_of_sums : {o : Placed Totals} (w : ℕ) (t : Trailing) (ns : List ℕ) → o ≡ sums_for w t ns → go_on o (λ x. reached (share_of (length ns) x)) ≡ share_for w t ns
@@ -145,4 +145,4 @@ share_of_sums w t ns e = ap (λ (p : Placed Totals). go_on p (λ x. reached (sha
 
 -- an outcome that is the one given means what that means
 pub share_told : {o : Placed Share} (w : ℕ) (t : Trailing) (ns : List ℕ) → o ≡ share_for w t ns → (o ≡ share_for w t ns) × ShareMeans w t ns o
-share_told w t ns e = (e, subst (ShareMeans w t ns) (sym e) (share-means w t ns))
+share_told w t ns e = (e, subst (ShareMeans w t ns) (sym e) (share_means w t ns))

@@ -12,14 +12,14 @@ use Rattle.trailing_defs.specs.Sequence.{EqualSizes, same_sequence}
 use Rattle.trailing_defs.specs.Calls.{same_causes}
 use Rattle.trailing_defs.proofs.Sequences.{tells_same, same_sizes}
 use Rattle.trailing_defs.proofs.Calls.{advanced_word, advanced_word_lt, advanced_sizes}
-use Rattle.full_defs.proofs.Full.{tells-sizes}
+use Rattle.full_defs.proofs.Full.{tells_sizes}
 use Rattle.shift_defs.specs.Mode.{Mode, ported, full, comparison_of}
 use Rattle.shift_defs.specs.Match.{Comparison, Sound, shifted, Matches, same_from, match_test, match_for, FoundMatch}
 use Rattle.shift_defs.specs.Shift.{IsMultiple}
 
 -- the comparison of the full mode tells equal sizes at every count
 pub full_tells : (w : ℕ) (s t : Trailing) → 0 < s.word → s.word < 2 ^ w → 0 < t.word → t.word < 2 ^ w → Tells (EqualSizes w s t) (comparison_of w full s t)
-full_tells = tells-sizes
+full_tells = tells_sizes
 
 -- the comparison of each mode is sound
 pub mode-sound : (w : ℕ) (m : Mode) → Sound w (comparison_of w m)

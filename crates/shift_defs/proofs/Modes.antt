@@ -16,7 +16,7 @@ use Rattle.trailing_defs.specs.Calls.{advanced}
 use Rattle.trailing_defs.proofs.Sequences.{tells_same}
 use Rattle.trailing_defs.proofs.Calls.{advanced_word, advanced_word_lt}
 use Rattle.full_defs.specs.Full.{seen_phase, sizes_agree}
-use Rattle.full_defs.proofs.Full.{tells-sizes, tells_agree}
+use Rattle.full_defs.proofs.Full.{tells_sizes, tells_agree}
 use Rattle.shift_defs.specs.Mode.{ported}
 use Rattle.shift_defs.specs.Match.{shifted, Matches}
 use Rattle.shift_defs.specs.Shift.{FirstWay, IsShift}
@@ -54,19 +54,19 @@ agree_same w s t ps hs pt ht o l e =
 
 module _ (w : ℕ) (s t : Trailing) (ps : 0 < s.word) (hs : s.word < 2 ^ w) (pt : 0 < t.word) (ht : t.word < 2 ^ w) where
   -- what matches in the ported mode matches in the full one
-  match-kept : (d : ℕ) → Matches w (same_sequence w) s t d → Matches w (sizes_agree w) s t d
-  match-kept d m =
+  match_kept : (d : ℕ) → Matches w (same_sequence w) s t d → Matches w (sizes_agree w) s t d
+  match_kept d m =
       let x = not_zero (advanced_word w t (d * t.elem) s.elem pt ht) in
       let y = advanced_word_lt w t (d * t.elem) s.elem pt ht in
       record {
         start = m.start;
         advance = m.advance;
-        equal = told_true (tells-sizes w s (shifted w s t d) ps hs x y) (mode-sound w ported s (shifted w s t d) ps hs x y m.equal);
+        equal = told_true (tells_sizes w s (shifted w s t d) ps hs x y) (mode-sound w ported s (shifted w s t d) ps hs x y m.equal);
       }
 
   -- by the first way they match alike
-  first-kept : (d : ℕ) → FirstWay w (sizes_agree w) s t d → FirstWay w (same_sequence w) s t d
-  first-kept d f =
+  first_kept : (d : ℕ) → FirstWay w (sizes_agree w) s t d → FirstWay w (same_sequence w) s t d
+  first_kept d f =
       let x = not_zero (advanced_word w t (d * t.elem) s.elem pt ht) in
       let y = advanced_word_lt w t (d * t.elem) s.elem pt ht in
       let o = f.offsets ∙ sym (advanced_offset w t (d * t.elem) s.elem pt ht) in
@@ -80,11 +80,11 @@ module _ (w : ℕ) (s t : Trailing) (ps : 0 < s.word) (hs : s.word < 2 ^ w) (pt 
       }
 
   -- so a shift of the ported mode is that of the full mode
-  pub shift-stays : (d : ℕ) → IsShift w (same_sequence w) s t d → IsShift w (sizes_agree w) s t d
-  shift-stays d (inl f) = inl (record { offsets = f.offsets; match = match-kept d f.match })
-  shift-stays d (inr g) = inr (record {
-    not_first = λ c f. g.not_first c (first-kept c f);
+  pub shift_stays : (d : ℕ) → IsShift w (same_sequence w) s t d → IsShift w (sizes_agree w) s t d
+  shift_stays d (inl f) = inl (record { offsets = f.offsets; match = match_kept d f.match })
+  shift_stays d (inr g) = inr (record {
+    not_first = λ c f. g.not_first c (first_kept c f);
     start = g.start;
     exact = g.exact;
-    match = match-kept d g.match;
+    match = match_kept d g.match;
   })

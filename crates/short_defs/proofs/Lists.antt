@@ -35,10 +35,10 @@ looked_length n i s h = ap length (looked n i s) ∙ length-take-le n (drop (i *
 
 module _ (v : Way) where
   -- a list that nothing stops: each of its records is accepted
-  pub tested-each : (i n : ℕ) (s : List ℕ) → tested v i n s ≡ reached tt → (j : ℕ) → j < n → judged (v.causes (record_of v.from s j)) ≡ answered tt
+  pub tested_each : (i n : ℕ) (s : List ℕ) → tested v i n s ≡ reached tt → (j : ℕ) → j < n → judged (v.causes (record_of v.from s j)) ≡ answered tt
   unfolding tested
-  tested-each i zero s e j h = absurd (omega arith)
-  tested-each i (suc n) s e j h = go (judged (v.causes (take v.from s))) refl e j h (λ u. tested-each (suc i) n (drop v.from s) u)
+  tested_each i zero s e j h = absurd (omega arith)
+  tested_each i (suc n) s e j h = go (judged (v.causes (take v.from s))) refl e j h (λ u. tested_each (suc i) n (drop v.from s) u)
     where
       go : (o : Outcome (Unit {0})) → judged (v.causes (take v.from s)) ≡ o → at_place i o (λ _. tested v (suc i) n (drop v.from s)) ≡ reached tt
           → (j : ℕ) → j < suc n → (tested v (suc i) n (drop v.from s) ≡ reached tt → (j : ℕ) → j < n → judged (v.causes (record_of v.from (drop v.from s) j)) ≡ answered tt)
@@ -55,10 +55,10 @@ module _ (v : Way) where
     pub before : (j : ℕ) → j < index → judged (v.causes (record_of v.from s j)) ≡ answered tt
     pub there : judged (v.causes (record_of v.from s index)) ≡ refused k
 
-  pub tested-stops : (i n : ℕ) (s : List ℕ) (k p : ℕ) → tested v i n s ≡ stopped k p → StopsAt i n s k p
+  pub tested_stops : (i n : ℕ) (s : List ℕ) (k p : ℕ) → tested v i n s ≡ stopped k p → StopsAt i n s k p
   unfolding tested
-  tested-stops i zero s k p e = absurd (not_stopped (sym e))
-  tested-stops i (suc n) s k p e = go (judged (v.causes (take v.from s))) refl e (tested-stops (suc i) n (drop v.from s) k p)
+  tested_stops i zero s k p e = absurd (not_stopped (sym e))
+  tested_stops i (suc n) s k p e = go (judged (v.causes (take v.from s))) refl e (tested_stops (suc i) n (drop v.from s) k p)
     where
       go : (o : Outcome (Unit {0})) → judged (v.causes (take v.from s)) ≡ o → at_place i o (λ _. tested v (suc i) n (drop v.from s)) ≡ stopped k p
           → (tested v (suc i) n (drop v.from s) ≡ stopped k p → StopsAt (suc i) n (drop v.from s) k p) → StopsAt i (suc n) s k p
@@ -95,10 +95,10 @@ module _ (v : Way) where
           number_in (stopped k i) = k
 
   -- one turn of the loop that tests: from the record at i on
-  test-turn : (n i : ℕ) (s : List ℕ) → i < n → tested v i (n - i) (drop (i * v.from) s)
+  test_turn : (n i : ℕ) (s : List ℕ) → i < n → tested v i (n - i) (drop (i * v.from) s)
       ≡ at_place i (judged (v.causes (record_of v.from s i))) (λ _. tested v (i + 1) (n - (i + 1)) (drop ((i + 1) * v.from) s))
   unfolding tested
-  test-turn n i s h =
+  test_turn n i s h =
       let e : n - i ≡ suc (n - (i + 1)) = omega arith in
       let g : i + 1 ≡ suc i = omega arith in
       let f : i * v.from + v.from ≡ suc i * v.from = omega (arith, suc-mul i v.from) in
@@ -107,18 +107,18 @@ module _ (v : Way) where
   pub test_on : (n i : ℕ) (s : List ℕ) → i < n → judged (v.causes (take (i * v.from + v.from - i * v.from) (drop (i * v.from) s))) ≡ answered tt
       → tested v i (n - i) (drop (i * v.from) s) ≡ tested v (i + 1) (n - (i + 1)) (drop ((i + 1) * v.from) s)
   test_on n i s h e =
-      test-turn n i s h
+      test_turn n i s h
       ∙ ap (λ (o : Outcome (Unit {0})). at_place i o (λ _. tested v (i + 1) (n - (i + 1)) (drop ((i + 1) * v.from) s))) (ap (λ (z : List ℕ). judged (v.causes z)) (sym (looked v.from i s)) ∙ e)
 
-  pub test-off : (n i : ℕ) (s : List ℕ) {k : ℕ} → i < n → judged (v.causes (take (i * v.from + v.from - i * v.from) (drop (i * v.from) s))) ≡ refused k
+  pub test_off : (n i : ℕ) (s : List ℕ) {k : ℕ} → i < n → judged (v.causes (take (i * v.from + v.from - i * v.from) (drop (i * v.from) s))) ≡ refused k
       → tested v i (n - i) (drop (i * v.from) s) ≡ stopped k i
-  test-off n i s h e =
-      test-turn n i s h
+  test_off n i s h e =
+      test_turn n i s h
       ∙ ap (λ (o : Outcome (Unit {0})). at_place i o (λ _. tested v (i + 1) (n - (i + 1)) (drop ((i + 1) * v.from) s))) (ap (λ (z : List ℕ). judged (v.causes z)) (sym (looked v.from i s)) ∙ e)
 
-  pub test-end : (n i : ℕ) (s : List ℕ) → n ≤ i → tested v i (n - i) s ≡ reached tt
+  pub test_end : (n i : ℕ) (s : List ℕ) → n ≤ i → tested v i (n - i) s ≡ reached tt
   unfolding tested
-  test-end n i s h = let e : n - i ≡ 0 = omega arith in rw e
+  test_end n i s h = let e : n - i ≡ 0 = omega arith in rw e
 
   -- what is moved, where each moved record has as many bytes as it should
   module _ (whole : (s : List ℕ) → length (v.moved s) ≡ v.to) where
@@ -129,17 +129,17 @@ module _ (v : Way) where
         omega (arith, length-append (v.moved (take v.from s)) (moved_all v n (drop v.from s)), whole (take v.from s), moved_length n (drop v.from s), suc-mul n v.to)
 
     -- its record with the index j is that of the list, moved
-    pub moved-record : (n : ℕ) (s : List ℕ) (j : ℕ) → j < n → record_of v.to (moved_all v n s) j ≡ v.moved (record_of v.from s j)
+    pub moved_record : (n : ℕ) (s : List ℕ) (j : ℕ) → j < n → record_of v.to (moved_all v n s) j ≡ v.moved (record_of v.from s j)
     unfolding moved_all
-    moved-record zero s j h = absurd (omega arith)
-    moved-record (suc n) s zero h =
+    moved_record zero s j h = absurd (omega arith)
+    moved_record (suc n) s zero h =
         first_record v.to (v.moved (take v.from s) ++ moved_all v n (drop v.from s))
         ∙ take_at (v.moved (take v.from s)) (moved_all v n (drop v.from s)) v.to (whole (take v.from s))
         ∙ ap v.moved (sym (first_record v.from s))
-    moved-record (suc n) s (suc j) h =
+    moved_record (suc n) s (suc j) h =
         next_record v.to (v.moved (take v.from s) ++ moved_all v n (drop v.from s)) j
         ∙ ap (λ (x : List ℕ). record_of v.to x j) (drop_at (v.moved (take v.from s)) (moved_all v n (drop v.from s)) v.to (whole (take v.from s)))
-        ∙ moved-record n (drop v.from s) j (omega arith)
+        ∙ moved_record n (drop v.from s) j (omega arith)
         ∙ ap v.moved (sym (next_record v.from s j))
 
     -- one record more
@@ -159,14 +159,14 @@ module _ (v : Way) where
     unfolding moved_all
     writing_begins n s old = let e : 0 * v.to ≡ 0 = omega arith in record { upto = omega arith; so_far = ap (λ (k : ℕ). drop k old) (sym e) }
 
-    pub writing-length : {n i : ℕ} {s old out : List ℕ} → n * v.to ≤ length old → Writing n i s old out → length out ≡ length old
-    writing-length {n} {i} {s} {old} {out} h x =
+    pub writing_length : {n i : ℕ} {s old out : List ℕ} → n * v.to ≤ length old → Writing n i s old out → length out ≡ length old
+    writing_length {n} {i} {s} {old} {out} h x =
         let m : i * v.to ≤ n * v.to = mul-le-mul_right v.to x.upto in
         ap length x.so_far ∙ omega (arith, length-append (moved_all v i s) (drop (i * v.to) old), length-drop (i * v.to) old, moved_length i s)
 
-    pub writing-on : {n i : ℕ} (s old : List ℕ) {out part : List ℕ} (k : ℕ) → i < n → k ≡ v.to → part ≡ v.moved (record_of v.from s i)
+    pub writing_on : {n i : ℕ} (s old : List ℕ) {out part : List ℕ} (k : ℕ) → i < n → k ≡ v.to → part ≡ v.moved (record_of v.from s i)
         → Writing n i s old out → Writing n (i + 1) s old (take (i * v.to) out ++ (part ++ drop k (drop (i * v.to) out)))
-    writing-on {n} {i} s old {out} {part} k h q g x =
+    writing_on {n} {i} s old {out} {part} k h q g x =
         let P = moved_all v i s in
         let b = v.moved (record_of v.from s i) in
         let t = v.to in
@@ -186,8 +186,8 @@ module _ (v : Way) where
               ∙ ap (λ (z : ℕ). moved_all v z s ++ drop (z * t) old) on;
         }
 
-    pub writing-ends : {n i : ℕ} (s old : List ℕ) {out : List ℕ} → n ≤ i → Writing n i s old out → out ≡ filled (reached (moved_all v n s)) old
-    writing-ends {n} {i} s old h x =
+    pub writing_ends : {n i : ℕ} (s old : List ℕ) {out : List ℕ} → n ≤ i → Writing n i s old out → out ≡ filled (reached (moved_all v n s)) old
+    writing_ends {n} {i} s old h x =
         let e : i ≡ n = omega (arith, x.upto) in
         x.so_far ∙ ap (λ (z : ℕ). moved_all v z s ++ drop (z * v.to) old) e
         ∙ ap (λ (z : ℕ). moved_all v n s ++ drop z old) (sym (moved_length n s))

@@ -16,7 +16,7 @@ use Rattle.util_defs.proofs.Tables.{passed, accepted_none}
 use Rattle.words.proofs.LittleEndian.{AllBytes, all_part}
 use Rattle.short_defs.specs.Moves.{Way, count_of, record_of, length_causes, tested, moved_all, move_for, moved_for, filled}
 use Rattle.short_defs.specs.Trips.{MoveMeans}
-use Rattle.short_defs.proofs.Lists.{tested-each, tested-stops, moved_length, moved-record}
+use Rattle.short_defs.proofs.Lists.{tested_each, tested_stops, moved_length, moved_record}
 
 -- what the law of a way asks: its lengths, that its tests decide, and what a record that is accepted becomes
 pub record Proper (v : Way) (Forms : List ℕ → List ℕ → Type 0) : Type 1 where
@@ -29,23 +29,23 @@ below : (i n f : ℕ) → i < n → i * f + f ≤ n * f
 below i n f h = let m : suc i * f ≤ n * f = mul-le-mul_right f h in omega (arith, suc-mul i f)
 
 module _ (v : Way) (s : List ℕ) (m : ℕ) where
-  lengths-decided : Decided (length_causes v s m)
-  lengths-decided = (tells_not (tells_eq (length s % v.from) 0), λ _. (tells_lt m (count_of v s * v.to), λ _. tt))
+  lengths_decided : Decided (length_causes v s m)
+  lengths_decided = (tells_not (tells_eq (length s % v.from) 0), λ _. (tells_lt m (count_of v s * v.to), λ _. tt))
 
   -- a move by what its tests say
-  pub move-lengths : {k : ℕ} → judged (length_causes v s m) ≡ refused k → move_for v s m ≡ stopped k 0
+  pub move_lengths : {k : ℕ} → judged (length_causes v s m) ≡ refused k → move_for v s m ≡ stopped k 0
   unfolding move_for
-  move-lengths e = ap (λ (o : Outcome (Unit {0})). at_place 0 o (λ _. go_on (tested v 0 (count_of v s) s) (λ _. reached (moved_all v (count_of v s) s)))) e
+  move_lengths e = ap (λ (o : Outcome (Unit {0})). at_place 0 o (λ _. go_on (tested v 0 (count_of v s) s) (λ _. reached (moved_all v (count_of v s) s)))) e
 
-  pub move-stops : {k i : ℕ} → judged (length_causes v s m) ≡ answered tt → tested v 0 (count_of v s) s ≡ stopped k i → move_for v s m ≡ stopped k i
+  pub move_stops : {k i : ℕ} → judged (length_causes v s m) ≡ answered tt → tested v 0 (count_of v s) s ≡ stopped k i → move_for v s m ≡ stopped k i
   unfolding move_for
-  move-stops e f =
+  move_stops e f =
       ap (λ (o : Outcome (Unit {0})). at_place 0 o (λ _. go_on (tested v 0 (count_of v s) s) (λ _. reached (moved_all v (count_of v s) s)))) e
       ∙ ap (λ (o : Placed (Unit {0})). go_on o (λ _. reached (moved_all v (count_of v s) s))) f
 
-  pub move-goes : judged (length_causes v s m) ≡ answered tt → tested v 0 (count_of v s) s ≡ reached tt → move_for v s m ≡ reached (moved_all v (count_of v s) s)
+  pub move_goes : judged (length_causes v s m) ≡ answered tt → tested v 0 (count_of v s) s ≡ reached tt → move_for v s m ≡ reached (moved_all v (count_of v s) s)
   unfolding move_for
-  move-goes e f =
+  move_goes e f =
       ap (λ (o : Outcome (Unit {0})). at_place 0 o (λ _. go_on (tested v 0 (count_of v s) s) (λ _. reached (moved_all v (count_of v s) s)))) e
       ∙ ap (λ (o : Placed (Unit {0})). go_on o (λ _. reached (moved_all v (count_of v s) s))) f
 
@@ -61,8 +61,8 @@ module _ (v : Way) (s : List ℕ) (m : ℕ) where
       record { list = omega (arith, div-add-mod' (length s) v.from, z); room = ltb-false m (count_of v s * v.to) p.1.0 }
 
   -- each record is bytes, and whole
-  pub record-whole : Sized → (i : ℕ) → i < count_of v s → length (record_of v.from s i) ≡ v.from
-  record-whole z i h =
+  pub record_whole : Sized → (i : ℕ) → i < count_of v s → length (record_of v.from s i) ≡ v.from
+  record_whole z i h =
       length-take-le v.from (drop (i * v.from) s)
       (omega (arith, length-drop (i * v.from) s, z.list, below i (count_of v s) v.from h))
 
@@ -84,9 +84,9 @@ move_means v Forms p s old h = lengths (judged (length_causes v s (length old)))
         let z = sized v s (length old) e in
         let l : length bs ≡ count_of v s * v.to = moved_length v p.whole (count_of v s) s in
         record {
-          fits = accepted_none (length_causes v s (length old)) tt (lengths-decided v s (length old)) e;
+          fits = accepted_none (length_causes v s (length old)) tt (lengths_decided v s (length old)) e;
           written = l;
-          each = λ i g. subst (Forms (record_of v.from s i)) (sym (part i g)) (p.forms (record_of v.from s i) (all_part v.from s (i * v.from) h) (record-whole v s (length old) z i g) (tested-each v 0 (count_of v s) s f i g));
+          each = λ i g. subst (Forms (record_of v.from s i)) (sym (part i g)) (p.forms (record_of v.from s i) (all_part v.from s (i * v.from) h) (record_whole v s (length old) z i g) (tested_each v 0 (count_of v s) s f i g));
           tail = drop_at bs (drop (length bs) old) (length bs) refl;
           whole = omega (arith, length-append bs (drop (length bs) old), length-drop (length bs) old, l, z.room);
         }
@@ -99,15 +99,15 @@ move_means v Forms p s old h = lengths (judged (length_causes v s (length old)))
             let b = below i (count_of v s) t g in
             ap (take t) (drop-append-le (i * t) bs (drop (length bs) old) (omega arith))
             ∙ take-append-le t (drop (i * t) bs) (drop (length bs) old) (omega (arith, length-drop (i * t) bs))
-            ∙ moved-record v p.whole (count_of v s) s i g
+            ∙ moved_record v p.whole (count_of v s) s i g
 
     scan : judged (length_causes v s (length old)) ≡ answered tt → (t : Placed (Unit {0})) → tested v 0 (count_of v s) s ≡ t → Means (move_for v s (length old))
-    scan e (reached tt) f = subst Means (sym (move-goes v s (length old) e f)) (moves e f)
+    scan e (reached tt) f = subst Means (sym (move_goes v s (length old) e f)) (moves e f)
     scan e (stopped k i) f =
-        let x = tested-stops v 0 (count_of v s) s k i f in
-        subst Means (sym (move-stops v s (length old) e f)) (
+        let x = tested_stops v 0 (count_of v s) s k i f in
+        subst Means (sym (move_stops v s (length old) e f)) (
           inr (
-            accepted_none (length_causes v s (length old)) tt (lengths-decided v s (length old)) e,
+            accepted_none (length_causes v s (length old)) tt (lengths_decided v s (length old)) e,
             record {
               within = omega (arith, x.place, x.within);
               before = λ j g. accepted_none (v.causes (record_of v.from s j)) tt (p.decided (record_of v.from s j) (all_part v.from s (j * v.from) h)) (x.before j (omega (arith, x.place)));
@@ -119,4 +119,4 @@ move_means v Forms p s old h = lengths (judged (length_causes v s (length old)))
 
     lengths : (o : Outcome (Unit {0})) → judged (length_causes v s (length old)) ≡ o → Means (move_for v s (length old))
     lengths (answered tt) e = scan e (tested v 0 (count_of v s) s) refl
-    lengths (refused k) e = subst Means (sym (move-lengths v s (length old) e)) (inl (refused_first (length_causes v s (length old)) (lengths-decided v s (length old)) e, refl), refl)
+    lengths (refused k) e = subst Means (sym (move_lengths v s (length old) e)) (inl (refused_first (length_causes v s (length old)) (lengths_decided v s (length old)) e, refl), refl)

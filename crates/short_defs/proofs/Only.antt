@@ -49,17 +49,17 @@ means_old s h e = answered_means (subst (Meets (own_causes s) (Decodes (words_at
 
 pub short_pinned : Pinned to_short Shortened
 short_pinned = record {
-  unique = λ s t t' h g a b. sym (short_is t h a.of-short) ∙ ap (λ (l : Layout). short_bytes (short_of (words_of l))) (same_answer (sym a.of-old ∙ b.of-old)) ∙ short_is t' g b.of-short;
+  unique = λ s t t' h g a b. sym (short_is t h a.of_short) ∙ ap (λ (l : Layout). short_bytes (short_of (words_of l))) (same_answer (sym a.of_old ∙ b.of_old)) ∙ short_is t' g b.of_short;
   accepts = λ s t h g a.
-      let x = means_old s h a.of-old in
-      let w : (words_at s 0).word ≡ (short_at t 0).word = ap (λ (r : Words). r.word) (sym x.1) ∙ ap (λ (r : Short). r.word) (answered_means (subst (Meets (decode_short_causes t) (DecodesShort t)) a.of-short (decode_short_meets t))).1 in
+      let x = means_old s h a.of_old in
+      let w : (words_at s 0).word ≡ (short_at t 0).word = ap (λ (r : Words). r.word) (sym x.1) ∙ ap (λ (r : Short). r.word) (answered_means (subst (Meets (decode_short_causes t) (DecodesShort t)) a.of_short (decode_short_meets t))).1 in
       both_none (words_causes 64 (words_at s 0)) (word_above (words_at s 0).word ∷ []) x.0.1 (λ above. omega (arith, w, part_below 4 t 24 g, above), tt);
 }
 
 pub wide_pinned : Pinned from_short Widened
 wide_pinned = record {
-  unique = λ s t t' h g a b. sym (own_back t h a.of-old) ∙ ap (λ (l : Layout). record_bytes (words_of l)) (same_answer (sym a.of-short ∙ b.of-short)) ∙ own_back t' g b.of-old;
-  accepts = λ s t h g a. (answered_means (subst (Meets (decode_short_causes s) (DecodesShort s)) a.of-short (decode_short_meets s))).0.1;
+  unique = λ s t t' h g a b. sym (own_back t h a.of_old) ∙ ap (λ (l : Layout). record_bytes (words_of l)) (same_answer (sym a.of_short ∙ b.of_short)) ∙ own_back t' g b.of_old;
+  accepts = λ s t h g a. (answered_means (subst (Meets (decode_short_causes s) (DecodesShort s)) a.of_short (decode_short_meets s))).0.1;
 }
 
 -- two lists with the same records and the same tail are the same
@@ -73,11 +73,11 @@ same_records (suc c) t xs ys e d =
 
 module _ (v : Way) (Forms : List ℕ → List ℕ → Type 0) (p : Pinned v Forms) (s old : List ℕ) (h : AllBytes s) where
   -- a list stops at one place, by one number
-  one-stop : (k i k' i' : ℕ) → Stops v s (length old) k i → Stops v s (length old) k' i' → (k ≡ k') × (i ≡ i')
-  one-stop k i k' i' (inl (f, e)) (inl (f', e')) = (one_number (length_causes v s (length old)) k k' f f', omega arith)
-  one-stop k i k' i' (inl (f, e)) (inr (n, x)) = absurd (no_number (length_causes v s (length old)) k n f)
-  one-stop k i k' i' (inr (n, x)) (inl (f, e)) = absurd (no_number (length_causes v s (length old)) k' n f)
-  one-stop k i k' i' (inr (n, x)) (inr (n', y)) = go (ltb i i') refl (ltb i' i) refl
+  one_stop : (k i k' i' : ℕ) → Stops v s (length old) k i → Stops v s (length old) k' i' → (k ≡ k') × (i ≡ i')
+  one_stop k i k' i' (inl (f, e)) (inl (f', e')) = (one_number (length_causes v s (length old)) k k' f f', omega arith)
+  one_stop k i k' i' (inl (f, e)) (inr (n, x)) = absurd (no_number (length_causes v s (length old)) k n f)
+  one_stop k i k' i' (inr (n, x)) (inl (f, e)) = absurd (no_number (length_causes v s (length old)) k' n f)
+  one_stop k i k' i' (inr (n, x)) (inr (n', y)) = go (ltb i i') refl (ltb i' i) refl
     where
       go : (a : Bool) → ltb i i' ≡ a → (b : Bool) → ltb i' i ≡ b → (k ≡ k') × (i ≡ i')
       go true a b e = absurd (no_number (v.causes (record_of v.from s i)) k (y.before i (ltb-true i i' a)) x.first)
@@ -94,8 +94,8 @@ module _ (v : Way) (Forms : List ℕ → List ℕ → Type 0) (p : Pinned v Form
       (p.accepts (record_of v.from s i) (record_of v.to new i) (all_part v.from s (i * v.from) h) (all_part v.to new (i * v.to) g) (m.each i x.within))
       x.first
 
-  pub one-move : {new new' : List ℕ} (r r' : Placed ℕ) → AllBytes new → AllBytes new' → MoveMeans v Forms s old new r → MoveMeans v Forms s old new' r' → (r ≡ r') × (new ≡ new')
-  one-move {new} {new'} (reached n) (reached n') g g' a b =
+  pub one_move : {new new' : List ℕ} (r r' : Placed ℕ) → AllBytes new → AllBytes new' → MoveMeans v Forms s old new r → MoveMeans v Forms s old new' r' → (r ≡ r') × (new ≡ new')
+  one_move {new} {new'} (reached n) (reached n') g g' a b =
       let e : n ≡ n' = a.written ∙ sym b.written in
       let c = count_of v s in (
         ap reached e,
@@ -103,10 +103,10 @@ module _ (v : Way) (Forms : List ℕ → List ℕ → Type 0) (p : Pinned v Form
             (λ i q. p.unique (record_of v.from s i) (record_of v.to new i) (record_of v.to new' i) (all_part v.to new (i * v.to) g) (all_part v.to new' (i * v.to) g') (a.each i q) (b.each i q))
             (sym (ap (λ (k : ℕ). drop k new) a.written) ∙ a.tail ∙ ap (λ (k : ℕ). drop k old) e ∙ sym b.tail ∙ ap (λ (k : ℕ). drop k new') b.written),
       )
-  one-move (reached n) (stopped k i) g g' a b = absurd (no_stop g a b.0)
-  one-move (stopped k i) (reached n) g g' a b = absurd (no_stop g' b a.0)
-  one-move (stopped k i) (stopped k' i') g g' a b =
-      let x = one-stop k i k' i' a.0 b.0 in (two x, a.1 ∙ sym b.1)
+  one_move (reached n) (stopped k i) g g' a b = absurd (no_stop g a b.0)
+  one_move (stopped k i) (reached n) g g' a b = absurd (no_stop g' b a.0)
+  one_move (stopped k i) (stopped k' i') g g' a b =
+      let x = one_stop k i k' i' a.0 b.0 in (two x, a.1 ∙ sym b.1)
     where
       two : (k ≡ k') × (i ≡ i') → ◌≡◌ {A = Placed ℕ} (stopped k i) (stopped k' i')
       two (e, f) = cc

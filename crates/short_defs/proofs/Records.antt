@@ -134,8 +134,8 @@ short_forms s h n e =
     let t = to_short_lem r e in
     record {
       layout = words_layout r;
-      of-old = decodes s n (own_tests r e);
-      of-short = decodes_short (to_short.moved s) i.whole i.accepted ∙ ap (λ (z : Short). answered (words_layout (words_from z))) (short_back (short_of r) (short_fits r (words_fit s h) t)) ∙ ap (λ (z : Words). answered (words_layout z)) (words_short r t.power);
+      of_old = decodes s n (own_tests r e);
+      of_short = decodes_short (to_short.moved s) i.whole i.accepted ∙ ap (λ (z : Short). answered (words_layout (words_from z))) (short_back (short_of r) (short_fits r (words_fit s h) t)) ∙ ap (λ (z : Words). answered (words_layout z)) (words_short r t.power);
     }
 
 pub wide_forms : (s : List ℕ) → AllBytes s → length s ≡ 32 → judged (from_short.causes s) ≡ answered tt → BothForms (from_short.moved s) s
@@ -144,6 +144,6 @@ wide_forms s h n e =
     let i = wide_inverts s h n e in
     record {
       layout = words_layout (words_from r);
-      of-old = decodes (from_short.moved s) i.whole (own_tests (words_at (from_short.moved s) 0) i.accepted) ∙ ap (λ (z : Words). answered (words_layout z)) (words_back (words_from r) (words_fits r (short_holds s h) (from_short_lem r e)));
-      of-short = decodes_short s n e;
+      of_old = decodes (from_short.moved s) i.whole (own_tests (words_at (from_short.moved s) 0) i.accepted) ∙ ap (λ (z : Words). answered (words_layout z)) (words_back (words_from r) (words_fits r (short_holds s h) (from_short_lem r e)));
+      of_short = decodes_short s n e;
     }

@@ -124,19 +124,19 @@ decode_short_meets s =
 
 -- `encode_short_words` by what its tests say
 module _ (r : Words) (n : ℕ) (h : n ≡ 32) where
-  pub encode-short-own : {k : ℕ} → words_for 64 r ≡ refused k → encode_short_words_for r n ≡ refused k
+  pub encode_short_own : {k : ℕ} → words_for 64 r ≡ refused k → encode_short_words_for r n ≡ refused k
   unfolding encode_short_words_for unless words_for
-  encode-short-own e = simp (eq-eqb n 32 h) (refused_first (words_causes 64 r) (word_above r.word ∷ []) (words_layout r) tt e)
+  encode_short_own e = simp (eq-eqb n 32 h) (refused_first (words_causes 64 r) (word_above r.word ∷ []) (words_layout r) tt e)
 
-  pub encode-short-above : {l : Layout} → words_for 64 r ≡ answered l → leb (words_of l).word (M 32) ≡ false → encode_short_words_for r n ≡ refused 40
+  pub encode_short_above : {l : Layout} → words_for 64 r ≡ answered l → leb (words_of l).word (M 32) ≡ false → encode_short_words_for r n ≡ refused 40
   unfolding encode_short_words_for unless words_for
-  encode-short-above {l} e f =
+  encode_short_above {l} e f =
       simp (eq-eqb n 32 h) (accepted_first (words_causes 64 r) (word_above r.word ∷ []) (words_layout r) tt e
       ∙ simp (lt-ltb (M 32) r.word (leb-false r.word (M 32) (ap (λ (z : Words). leb z.word (M 32)) (sym (words_kept 64 r e)) ∙ f))))
 
-  pub encode-short-on : {l : Layout} → words_for 64 r ≡ answered l → leb (words_of l).word (M 32) ≡ true → encode_short_words_for r n ≡ answered tt
+  pub encode_short_on : {l : Layout} → words_for 64 r ≡ answered l → leb (words_of l).word (M 32) ≡ true → encode_short_words_for r n ≡ answered tt
   unfolding encode_short_words_for unless words_for
-  encode-short-on {l} e f =
+  encode_short_on {l} e f =
       simp (eq-eqb n 32 h) (accepted_first (words_causes 64 r) (word_above r.word ∷ []) (words_layout r) tt e
       ∙ simp (le-ltb (M 32) r.word (leb-true r.word (M 32) (ap (λ (z : Words). leb z.word (M 32)) (sym (words_kept 64 r e)) ∙ f))))
 
@@ -212,27 +212,27 @@ short_held l r e c f hb ho he = record {
 
 -- the tests of one record by what decoding says, and what it becomes, either way
 module _ (s : List ℕ) where
-  pub record-own : {k : ℕ} → length s ≡ 48 → own_for s ≡ refused k → judged (to_short.causes s) ≡ refused k
+  pub record_own : {k : ℕ} → length s ≡ 48 → own_for s ≡ refused k → judged (to_short.causes s) ≡ refused k
   unfolding words_for
-  record-own n e = refused_first (words_causes 64 (words_at s 0)) (word_above (words_at s 0).word ∷ []) (words_layout (words_at s 0)) tt (sym (own_words s n) ∙ e)
+  record_own n e = refused_first (words_causes 64 (words_at s 0)) (word_above (words_at s 0).word ∷ []) (words_layout (words_at s 0)) tt (sym (own_words s n) ∙ e)
 
   kept : {l : Layout} → length s ≡ 48 → own_for s ≡ answered l → words_of l ≡ words_at s 0
   kept n e = words_kept 64 (words_at s 0) (sym (own_words s n) ∙ e)
 
-  pub record-above : {l : Layout} → length s ≡ 48 → own_for s ≡ answered l → leb (words_of l).word (M 32) ≡ false → judged (to_short.causes s) ≡ refused 40
+  pub record_above : {l : Layout} → length s ≡ 48 → own_for s ≡ answered l → leb (words_of l).word (M 32) ≡ false → judged (to_short.causes s) ≡ refused 40
   unfolding words_for unless
-  record-above {l} n e f =
+  record_above {l} n e f =
       accepted_first (words_causes 64 (words_at s 0)) (word_above (words_at s 0).word ∷ []) (words_layout (words_at s 0)) tt (sym (own_words s n) ∙ e)
       ∙ simp (lt-ltb (M 32) (words_at s 0).word (leb-false (words_at s 0).word (M 32) (ap (λ (r : Words). leb r.word (M 32)) (sym (kept n e)) ∙ f)))
 
-  pub record-fits : {l : Layout} → length s ≡ 48 → own_for s ≡ answered l → leb (words_of l).word (M 32) ≡ true → judged (to_short.causes s) ≡ answered tt
+  pub record_fits : {l : Layout} → length s ≡ 48 → own_for s ≡ answered l → leb (words_of l).word (M 32) ≡ true → judged (to_short.causes s) ≡ answered tt
   unfolding words_for unless
-  record-fits {l} n e f =
+  record_fits {l} n e f =
       accepted_first (words_causes 64 (words_at s 0)) (word_above (words_at s 0).word ∷ []) (words_layout (words_at s 0)) tt (sym (own_words s n) ∙ e)
       ∙ simp (le-ltb (M 32) (words_at s 0).word (leb-true (words_at s 0).word (M 32) (ap (λ (r : Words). leb r.word (M 32)) (sym (kept n e)) ∙ f)))
 
-  pub short-own : {k : ℕ} → length s ≡ 32 → decode_short_for s ≡ refused k → judged (from_short.causes s) ≡ refused k
-  short-own n e = refused_as (from_short_causes (short_at s 0)) (words_layout (words_from (short_at s 0))) tt (sym (decode_short_words s n) ∙ e)
+  pub short_own : {k : ℕ} → length s ≡ 32 → decode_short_for s ≡ refused k → judged (from_short.causes s) ≡ refused k
+  short_own n e = refused_as (from_short_causes (short_at s 0)) (words_layout (words_from (short_at s 0))) tt (sym (decode_short_words s n) ∙ e)
 
   pub short_on : {l : Layout} → length s ≡ 32 → decode_short_for s ≡ answered l → judged (from_short.causes s) ≡ answered tt
   short_on n e = accepted_as (from_short_causes (short_at s 0)) (words_layout (words_from (short_at s 0))) tt (sym (decode_short_words s n) ∙ e)

@@ -21,7 +21,7 @@ use Rattle.short_defs.specs.Moves.{Way, to_short, from_short, count_of, length_c
 use Rattle.short_defs.specs.Trips.{Shortened, Widened, MoveMeans}
 use Rattle.short_defs.proofs.Fields.{short_length_lem}
 use Rattle.short_defs.proofs.Records.{short_forms, wide_forms}
-use Rattle.short_defs.proofs.Meaning.{Proper, move_means, move-lengths, move-stops, move-goes}
+use Rattle.short_defs.proofs.Meaning.{Proper, move_means, move_lengths, move_stops, move_goes}
 
 short_decided : (r : Short) → Decided (from_short_causes r)
 short_decided r =
@@ -56,23 +56,23 @@ module _ (v : Way) (s old : List ℕ) where
   abbrev Is : Placed (List ℕ) → Type 0
   Is r = (go_on r (λ bs. reached (length bs)) ≡ moved_for v s (length old)) × (filled r old ≡ filled (move_for v s (length old)) old)
 
-  is-so : {r : Placed (List ℕ)} → move_for v s (length old) ≡ r → Is r
-  is-so e = (ap (λ (r : Placed (List ℕ)). go_on r (λ bs. reached (length bs))) (sym e), ap (λ (r : Placed (List ℕ)). filled r old) (sym e))
+  is_so : {r : Placed (List ℕ)} → move_for v s (length old) ≡ r → Is r
+  is_so e = (ap (λ (r : Placed (List ℕ)). go_on r (λ bs. reached (length bs))) (sym e), ap (λ (r : Placed (List ℕ)). filled r old) (sym e))
 
-  pub is-stopped : {k i : ℕ} → judged (length_causes v s (length old)) ≡ answered tt → tested v 0 (count_of v s) s ≡ stopped k i → Is (stopped k i)
-  is-stopped e f = is-so (move-stops v s (length old) e f)
+  pub is_stopped : {k i : ℕ} → judged (length_causes v s (length old)) ≡ answered tt → tested v 0 (count_of v s) s ≡ stopped k i → Is (stopped k i)
+  is_stopped e f = is_so (move_stops v s (length old) e f)
 
-  pub is-moved : judged (length_causes v s (length old)) ≡ answered tt → tested v 0 (count_of v s) s ≡ reached tt → Is (reached (moved_all v (count_of v s) s))
-  is-moved e f = is-so (move-goes v s (length old) e f)
+  pub is_moved : judged (length_causes v s (length old)) ≡ answered tt → tested v 0 (count_of v s) s ≡ reached tt → Is (reached (moved_all v (count_of v s) s))
+  is_moved e f = is_so (move_goes v s (length old) e f)
 
-  pub is-uneven : (length s % v.from ≡ 0 → ⊥) → Is (stopped 20 0)
+  pub is_uneven : (length s % v.from ≡ 0 → ⊥) → Is (stopped 20 0)
   unfolding unless
-  is-uneven h = is-so (move-lengths v s (length old) (simp (ne_eqb (length s % v.from) 0 h)))
+  is_uneven h = is_so (move_lengths v s (length old) (simp (ne_eqb (length s % v.from) 0 h)))
 
   -- lengths are compared by a division
-  pub is-short : 0 < v.to → length s % v.from ≡ 0 → length old / v.to < count_of v s → Is (stopped 41 0)
+  pub is_short : 0 < v.to → length s % v.from ≡ 0 → length old / v.to < count_of v s → Is (stopped 41 0)
   unfolding unless
-  is-short p h g = is-so (move-lengths v s (length old) (simp (eq-eqb (length s % v.from) 0 h, lt-ltb (length old) (count_of v s * v.to) (room p g))))
+  is_short p h g = is_so (move_lengths v s (length old) (simp (eq-eqb (length s % v.from) 0 h, lt-ltb (length old) (count_of v s * v.to) (room p g))))
     where
       room : 0 < v.to → length old / v.to < count_of v s → length old < count_of v s * v.to
       room p g = below (ltb (length old) (count_of v s * v.to)) refl
@@ -81,6 +81,6 @@ module _ (v : Way) (s old : List ℕ) where
           below true e = ltb-true (length old) (count_of v s * v.to) e
           below false e = absurd (omega (arith, g, (le-div_iff_mul-le p).1 (ltb-false (length old) (count_of v s * v.to) e)))
 
-  pub fits-room : 0 < v.to → length s % v.from ≡ 0 → count_of v s ≤ length old / v.to → judged (length_causes v s (length old)) ≡ answered tt
+  pub fits_room : 0 < v.to → length s % v.from ≡ 0 → count_of v s ≤ length old / v.to → judged (length_causes v s (length old)) ≡ answered tt
   unfolding unless
-  fits-room p h g = simp (eq-eqb (length s % v.from) 0 h, le-ltb (length old) (count_of v s * v.to) ((le-div_iff_mul-le p).0 g))
+  fits_room p h g = simp (eq-eqb (length s % v.from) 0 h, le-ltb (length old) (count_of v s * v.to) ((le-div_iff_mul-le p).0 g))

@@ -11,8 +11,8 @@ use Rattle.short_defs.specs.Moves.{Way, to_short, from_short, count_of, record_o
 -- the two forms of one record: both decode to the same layout
 pub record BothForms (old short : List ℕ) : Type 0 where
   pub layout : Layout
-  pub of-old : own_for old ≡ answered layout
-  pub of-short : decode_short_for short ≡ answered layout
+  pub of_old : own_for old ≡ answered layout
+  pub of_short : decode_short_for short ≡ answered layout
 
 -- those, as each way has them: first the record, then what it became
 abbrev pub Shortened : List ℕ → List ℕ → Type 0

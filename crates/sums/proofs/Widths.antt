@@ -14,7 +14,7 @@ use Rattle.trailing.specs.View.{trailing_of}
 use Rattle.widths_defs.proofs.Sizes.{room_same}
 use Rattle.share_defs.specs.Totals.{no_totals, totals_from}
 use Rattle.share_defs.specs.Share.{sums_for}
-use Rattle.share_defs.proofs.Told.{sums-folded}
+use Rattle.share_defs.proofs.Told.{sums_folded}
 use Rattle.sums.specs.declared.Tested.{Tested}
 use Rattle.sums.specs.declared.TestAnswer.TheVariants as Test
 use Rattle.sums.specs.View.{bits_to, TestMeans}
@@ -43,5 +43,5 @@ room_at max t e h = sym (room_same (bits_to max) 64 t max (most_bits max) h) ∙
 pub tested_sums : {l : Tested} (w max : ℕ) (t : Trailing) (ns : List ℕ) → TestMeans t max (length ns) (Test.Tested l) → bits_to max ≡ w
     → totals_from (bits_to l.max) (trailing_of l.layout) 0 ns no_totals ≡ sums_for w t ns
 tested_sums {l} w max t ns m e =
-    sym (sums-folded (bits_to l.max) (trailing_of l.layout) ns (not_zero m.0.1.0) m.1.1.1)
+    sym (sums_folded (bits_to l.max) (trailing_of l.layout) ns (not_zero m.0.1.0) m.1.1.1)
     ∙ ap₂ (λ (v : ℕ) (s : Trailing). sums_for v s ns) (ap bits_to m.1.1.0 ∙ e) m.1.0

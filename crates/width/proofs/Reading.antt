@@ -23,7 +23,7 @@ use Rattle.describe_defs.specs.Grammar.{Stands, IsPower, Run, none, one, members
 use Rattle.describe_defs.proofs.Steps.{reached_one, went, went_at}
 use Rattle.describe_defs.proofs.Grammar.{describes}
 use Rattle.describe_defs.proofs.Meaning.{accepts}
-use Rattle.describe_defs.proofs.Heads.{head-found}
+use Rattle.describe_defs.proofs.Heads.{head_found}
 use Rattle.widths_layouts_defs.specs.Low.{LayoutIn}
 use Rattle.widths_layouts_defs.specs.Within.{pad_within}
 use Rattle.elements32.specs.Within.{array_within}
@@ -53,42 +53,42 @@ module _ (v : ℕ) (positive : 0 < v) (target : Target) (scalars : (b : ℕ) →
   run_in h (one x r) = (h _ _ _ x, run_in h r)
 
   -- members that v bits hold compose to what they hold
-  fold-in : (p i : ℕ) (l : Layout) (ms : List Layout) {r : Layout} → p < 2 ^ v → LayoutIn v l → AllIn ms
+  fold_in : (p i : ℕ) (l : Layout) (ms : List Layout) {r : Layout} → p < 2 ^ v → LayoutIn v l → AllIn ms
       → add_members (member_step v ported p) i l (members ms) ≡ composed r → LayoutIn v r
-  fold-in p i l [] hp hl hs e = subst (LayoutIn v) (nothing_more (member_step v ported p) i l e) hl
-  fold-in p i l (m ∷ ms) hp hl hs e =
+  fold_in p i l [] hp hl hs e = subst (LayoutIn v) (nothing_more (member_step v ported p) i l e) hl
+  fold_in p i l (m ∷ ms) hp hl hs e =
       let x = onward (member_step v ported p) i l (answered m) (members ms) e in
-      fold-in p (suc i) x.next ms hp (extend_in v l m p x.next hl hs.0 hp (sym (step_on v ported p l m refl) ∙ x.taken)) hs.1 x.rest
+      fold_in p (suc i) x.next ms hp (extend_in v l m p x.next hl hs.0 hp (sym (step_on v ported p l m refl) ∙ x.taken)) hs.1 x.rest
 
-  part-is-in : (Inner : Stands) → Holds Inner → {i j : ℕ} {l : Layout} → PartIs v target s Inner i j l → LayoutIn v l
-  part-is-in Inner h (a_scalar (a_code {b = b} x p)) = scalars b p
-  part-is-in Inner h (an_array {n = n} {m = m} x c y e) = answered_in v (array_within (M v) (array_for v m n)) (array_low v v m n (omega arith) (h _ _ m y).align) e
-  part-is-in Inner h (a_struct {align = a} {packing = p} {ms = ms} x r e) =
+  part_is_in : (Inner : Stands) → Holds Inner → {i j : ℕ} {l : Layout} → PartIs v target s Inner i j l → LayoutIn v l
+  part_is_in Inner h (a_scalar (a_code {b = b} x p)) = scalars b p
+  part_is_in Inner h (an_array {n = n} {m = m} x c y e) = answered_in v (array_within (M v) (array_for v m n)) (array_low v v m n (omega arith) (h _ _ m y).align) e
+  part_is_in Inner h (a_struct {align = a} {packing = p} {ms = ms} x r e) =
       let y = closed v a p (members ms) e in
       let f = asked_in v a positive (power_in v s _ a x.aligned) in
-      let g = fold-in p 0 (empty_layout a) ms (power_in v s _ p x.packed) (record { align = f; info = pow_pos v }) (run_in h r) y.composes in
+      let g = fold_in p 0 (empty_layout a) ms (power_in v s _ p x.packed) (record { align = f; info = pow_pos v }) (run_in h r) y.composes in
       answered_in v (pad_within (M v) (pad_for v y.whole)) (pad_low v v y.whole (omega arith) g) y.closes
-  part-is-in Inner h (a_slice {m = m} x y e) = answered_in v (slice_of_for v m) (slice_low v v m (omega arith) (h _ _ m y)) e
+  part_is_in Inner h (a_slice {m = m} x y e) = answered_in v (slice_of_for v m) (slice_low v v m (omega arith) (h _ _ m y)) e
 
-  described-in : (d : ℕ) → Holds (Describes v target d s)
+  described_in : (d : ℕ) → Holds (Describes v target d s)
   unfolding Describes
-  described-in zero i j l (a_code {b = b} x p) = scalars b p
-  described-in (suc d) i j l x = part-is-in (Describes v target d s) (described-in d) x
+  described_in zero i j l (a_code {b = b} x p) = scalars b p
+  described_in (suc d) i j l x = part_is_in (Describes v target d s) (described_in d) x
 
   part_in : (d i : ℕ) {l : Layout} {j : ℕ} → part_for v target d s i ≡ reached (l, j) → LayoutIn v l
-  part_in d i {l} {j} e = described-in d i j l (describes v target s d i j l e)
+  part_in d i {l} {j} e = described_in d i j l (describes v target s d i j l e)
 
   -- members that are read and added
-  add-in : (d p t n : ℕ) (l : Layout) (i : ℕ) {r : Layout} {j : ℕ} → p < 2 ^ v → LayoutIn v l
+  add_in : (d p t n : ℕ) (l : Layout) (i : ℕ) {r : Layout} {j : ℕ} → p < 2 ^ v → LayoutIn v l
       → add_read v (part_for v target d s) p t n l i ≡ reached (r, j) → LayoutIn v r
   unfolding add_read
-  add-in d p t zero l i hp hl e = subst (LayoutIn v) (ap (λ (x : Part). x.0) (reached_one e)) hl
-  add-in d p t (suc n) l i hp hl e =
+  add_in d p t zero l i hp hl e = subst (LayoutIn v) (ap (λ (x : Part). x.0) (reached_one e)) hl
+  add_in d p t (suc n) l i hp hl e =
       let part = part_for v target d s in
       let x = went (part i) (λ m. at_place t (member_step v ported p l (answered m.0)) (λ l'. add_read v part p t n l' m.1)) e in
       let m = x.to.0 in
       let y = went_at t (member_step v ported p l (answered m)) (λ l'. add_read v part p t n l' x.to.1) x.then in
-      add-in d p t n y.to x.to.1 hp
+      add_in d p t n y.to x.to.1 hp
       (extend_in v l m p y.to hl (part_in d i x.first) hp (sym (step_on v ported p l m refl) ∙ y.first)) y.then
 
 scalar_in : (b : ℕ) → b ≤ 8 → LayoutIn 32 (scalar_layout target32 b)
@@ -99,18 +99,18 @@ part_held true s d t e = part_in 32 (omega arith) target32 scalar_in s d t e
 part_held false s d t e = tt
 
 pub read_held : (k : Bool) (s : List ℕ) {l : Layout} → described_for (bits_of k) (target_of k) s ≡ reached l → Held k l
-read_held true s {l} e = described-in 32 (omega arith) target32 scalar_in s 16 0 (length s) l (accepts 32 target32 s e)
+read_held true s {l} e = described_in 32 (omega arith) target32 scalar_in s 16 0 (length s) l (accepts 32 target32 s e)
 read_held false s e = tt
 
 pub added_held : (k : Bool) (s : List ℕ) (d p t n : ℕ) (l : Layout) (i : ℕ) {r : Layout} {j : ℕ} → Held k l → p < 2 ^ bits_of k
     → add_read (bits_of k) (part_for (bits_of k) (target_of k) d s) p t n l i ≡ reached (r, j) → Held k r
-added_held true s d p t n l i hl hp e = add-in 32 (omega arith) target32 scalar_in s d p t n l i hp hl e
+added_held true s d p t n l i hl hp e = add_in 32 (omega arith) target32 scalar_in s d p t n l i hp hl e
 added_held false s d p t n l i hl hp e = tt
 
 -- and so are the numbers of a struct's head
 pub head_held : (k : Bool) (s : List ℕ) (d t : ℕ) {a p n i : ℕ} → head_at (bits_of k) d s t ≡ reached (struct_head a p n i)
     → (a < 2 ^ bits_of k) × (p < 2 ^ bits_of k)
-head_held k s d t {a} {p} {n} {i} e = go (head-found (bits_of k) s t d (struct_head a p n i) e).1
+head_held k s d t {a} {p} {n} {i} e = go (head_found (bits_of k) s t d (struct_head a p n i) e).1
   where
     go : {i : ℕ} → HeaderTo (bits_of k) s t a p n i → (a < 2 ^ bits_of k) × (p < 2 ^ bits_of k)
     go (header c h) = (power_in (bits_of k) s (t + 1) a h.aligned, power_in (bits_of k) s (t + 2) p h.packed)

@@ -32,7 +32,7 @@ use Rattle.widths_layouts_defs.proofs.Layouts.{layout_alike}
 use Rattle.widths_casts_defs.proofs.Exact.{exact_same}
 use Rattle.widths_converts_defs.specs.Low.{low_params, ParamsIn}
 use Rattle.widths_converts_defs.specs.Within.{starts_in, compute_within, metadata_within}
-use Rattle.widths_converts_defs.proofs.Matching.{same-shift, no_shift}
+use Rattle.widths_converts_defs.proofs.Matching.{same_shift, no_shift}
 
 -- a source that has a size at 0 changes nothing
 started : (o : Outcome Params) → o ≡ compute_within true o
@@ -80,7 +80,7 @@ listed m v w s t (trailing r) (trailing u) l hi hj ht ni nj = go (tells_le (size
 
     go : {b : Bool} → Tells (HasSize v r 0) b → f (shift_of v (comparison_of v m) r t u) ≡ compute_within (has_start v r) (f x)
     go (holds h) =
-        ap f (same-shift m v w r u l pr hi.word (omega (arith, nj)) hj.word t ht h) ∙ started (f x)
+        ap f (same_shift m v w r u l pr hi.word (omega (arith, nj)) hj.word t ht h) ∙ started (f x)
         ∙ ap (λ (b : Bool). compute_within b (f x)) (sym (start_true v r pr hi.word h))
     go (fails n) =
         ap f (no_shift m v r u t (omega (arith, n)))

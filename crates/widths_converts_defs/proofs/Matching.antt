@@ -45,8 +45,8 @@ shifted_ge w s t d pos h =
     omega (arith, advanced_sizes w t (d * t.elem) s.elem 0 pos h, up_ge (p w t + x) (A w t) (positive (parts_of_lem w t.word pos h).power), down_le t.base (A w t))
 
 module _ (m : Mode) (v w : ℕ) (s t : Trailing) (l : v ≤ w) (ps : 0 < s.word) (hs : s.word < 2 ^ v) (pt : 0 < t.word) (ht : t.word < 2 ^ v) where
-  pub same-matches : (d : ℕ) → HasSize v s 0 → match_test v (comparison_of v m) s t d ≡ match_test w (comparison_of w m) s t d
-  same-matches d start =
+  pub same_matches : (d : ℕ) → HasSize v s 0 → match_test v (comparison_of v m) s t d ≡ match_test w (comparison_of w m) s t d
+  same_matches d start =
       let i : 2 ^ v ≤ 2 ^ w = pow_mono l in
       let S = same_at v w s 0 l hs in
       let O = same_offset v w t l ht in
@@ -66,25 +66,25 @@ module _ (m : Mode) (v w : ℕ) (s t : Trailing) (l : v ≤ w) (ps : 0 < s.word)
       (tells_matches w (comparison_of w m) s t d))
 
   -- the shift: the same where the source has a size at 0 at v
-  same-matched : (sh : Shift) → HasSize v s 0 → matched_shift v (comparison_of v m) s t sh ≡ matched_shift w (comparison_of w m) s t sh
-  same-matched (by d) start = ap (λ (b : Bool). cond b (by d) missing) (same-matches d start)
-  same-matched missing start = refl
+  same_matched : (sh : Shift) → HasSize v s 0 → matched_shift v (comparison_of v m) s t sh ≡ matched_shift w (comparison_of w m) s t sh
+  same_matched (by d) start = ap (λ (b : Bool). cond b (by d) missing) (same_matches d start)
+  same_matched missing start = refl
 
-  same-by-size : (k : Layout) → LayoutIn v k → HasSize v s 0 → by_size v s k ≡ by_size w s k
-  same-by-size k hk start =
+  same_by_size : (k : Layout) → LayoutIn v k → HasSize v s 0 → by_size v s k ≡ by_size w s k
+  same_by_size k hk start =
       let i : 2 ^ v ≤ 2 ^ w = pow_mono l in
       let S = same_at v w s 0 l hs in
       simp (le-leb (size_at v s 0) (M v) start, le-leb (size_at w s 0) (M w) (omega (arith, S, start)))
       (ap answered_by (exact_same v w k (size_at v s 0) l hk start ∙ ap (exact_for w k) S))
 
-  pub same-shift : (k : Layout) → LayoutIn v k → HasSize v s 0 → shift_of v (comparison_of v m) s k t ≡ shift_of w (comparison_of w m) s k t
+  pub same_shift : (k : Layout) → LayoutIn v k → HasSize v s 0 → shift_of v (comparison_of v m) s k t ≡ shift_of w (comparison_of w m) s k t
   unfolding shift_of
-  same-shift k hk start =
+  same_shift k hk start =
       ap₂ or_else
-      (same-matched (by_offset v s t) start
+      (same_matched (by_offset v s t) start
       ∙ ap (matched_shift w (comparison_of w m) s t)
       (ap₂ (λ (a b : ℕ). cond (leb b a && eqb ((a - b) % t.elem) 0) (by ((a - b) / t.elem)) missing) (same_offset v w s l hs) (same_offset v w t l ht)))
-      (same-matched (by_size v s k) start ∙ ap (matched_shift w (comparison_of w m) s t) (same-by-size k hk start))
+      (same_matched (by_size v s k) start ∙ ap (matched_shift w (comparison_of w m) s t) (same_by_size k hk start))
 
 -- and none where it has not
 none_matched : (m : Mode) (v : ℕ) (s t : Trailing) (sh : Shift) → M v < size_at v s 0 → matched_shift v (comparison_of v m) s t sh ≡ missing

@@ -27,7 +27,7 @@ use Rattle.widths_defs.proofs.Sequences.{start_true, start_false}
 use Rattle.widths_layouts_defs.specs.Low.{InfoIn, LayoutIn}
 use Rattle.widths_layouts_defs.proofs.Layouts.{layout_alike}
 use Rattle.widths_converts_defs.specs.Within.{starts_in, shift_within, low_shift}
-use Rattle.widths_converts_defs.proofs.Matching.{same-matches, same-shift, no_shift}
+use Rattle.widths_converts_defs.proofs.Matching.{same_matches, same_shift, no_shift}
 
 -- `size_sequences_match`: yes at w, and the source has a size at 0 at v
 no_match : (m : Mode) (v : ℕ) (s t : Trailing) (d : ℕ) → M v < size_at v s 0 → match_test v (comparison_of v m) s t d ≡ false
@@ -46,7 +46,7 @@ match_narrows m v w s t d l hs ht =
     x = match_test w (comparison_of w m) s t d
 
     go : 0 < s.word → 0 < t.word → {b : Bool} → Tells (HasSize v s 0) b → match_test v (comparison_of v m) s t d ≡ (has_start v s && x)
-    go ps pt (holds h) = same-matches m v w s t l ps hs pt ht d h ∙ sym (ap (λ (b : Bool). b && x) (start_true v s ps hs h))
+    go ps pt (holds h) = same_matches m v w s t l ps hs pt ht d h ∙ sym (ap (λ (b : Bool). b && x) (start_true v s ps hs h))
     go ps pt (fails n) = no_match m v s t d (omega (arith, n)) ∙ sym (ap (λ (b : Bool). b && x) (start_false v s ps n))
 
 -- `offset_delta_elems`: the same, and none where the source has no size at 0 at v
@@ -68,7 +68,7 @@ between m v w (trailing s) (trailing t) k l hi hj hk ni nj = go (eqb t.elem 0) (
 
     same : (z : Bool) {b : Bool} → Tells (HasSize v s 0) b → shift_of v (comparison_of v m) s k t ≡ cond (has_start v s) x missing
     same z (holds h) =
-        same-shift m v w s t l ps hi.word (omega (arith, nj)) hj.word k hk h ∙ ap (λ (b : Bool). cond b x missing) (sym (start_true v s ps hi.word h))
+        same_shift m v w s t l ps hi.word (omega (arith, nj)) hj.word k hk h ∙ ap (λ (b : Bool). cond b x missing) (sym (start_true v s ps hi.word h))
     same z (fails n) = no_shift m v s t k (omega (arith, n)) ∙ ap (λ (b : Bool). cond b x missing) (sym (start_false v s ps n))
 
     none : (b : Bool) → missing ≡ cond b missing missing

@@ -16,7 +16,7 @@ use Rattle.trailing_defs.specs.Size.{Trailing}
 use Rattle.trailing_defs.specs.Calls.{same_causes}
 use Rattle.full_defs.specs.Full.{sizes_agree, agree_for}
 use Rattle.full_defs.specs.Form.{Form, IsNormal, form_of, base_passes, form_causes, form_for}
-use Rattle.full_defs.proofs.Full.{tells-sizes}
+use Rattle.full_defs.proofs.Full.{tells_sizes}
 use Rattle.full_defs.proofs.Forms.{is_normal_lem, one_form, form_word_lt, form_meets}
 use Rattle.widths_defs.specs.Low.{mapped, low_form, TailIn}
 use Rattle.widths_defs.specs.Within.{form_within}
@@ -26,9 +26,9 @@ use Rattle.widths_defs.proofs.Sizes.{same_at}
 -- `sizes_agree`: the same, since the sizes are
 pub same_agree : (v w : ℕ) (s t : Trailing) → v ≤ w → 0 < s.word → s.word < 2 ^ v → 0 < t.word → t.word < 2 ^ v → sizes_agree v s t ≡ sizes_agree w s t
 same_agree v w s t l ps hs pt ht =
-    agree (tells-sizes v s t ps hs pt ht)
+    agree (tells_sizes v s t ps hs pt ht)
     (tells_as (λ e n. same_at v w s n l hs ∙ e n ∙ sym (same_at v w t n l ht)) (λ e n. sym (same_at v w s n l hs) ∙ e n ∙ same_at v w t n l ht)
-    (tells-sizes w s t ps (held v w l hs) pt (held v w l ht)))
+    (tells_sizes w s t ps (held v w l hs) pt (held v w l ht)))
 
 pub agree_same : (v w : ℕ) (s t : Trailing) → v ≤ w → s.word < 2 ^ v → t.word < 2 ^ v → agree_for v s t ≡ agree_for w s t
 unfolding agree_for unless

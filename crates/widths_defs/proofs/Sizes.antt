@@ -193,17 +193,17 @@ module _ (v w : ℕ) (t : Trailing) (n : ℕ) (l : v ≤ w) (h : t.word < 2 ^ v)
   by_answer : {o : SizeOutcome} → size_given w t n ≡ o → size_given v t n ≡ size_within (M v) t.elem (max_trailing_for w t (M v)) o
   by_answer e = size_narrows v w t n l h ∙ ap (size_within (M v) t.elem (max_trailing_for w t (M v))) e
 
-  pub size-kept : {s : ℕ} → size_given w t n ≡ sized s → s ≤ M v → sized s ≡ size_given v t n
-  size-kept {s} e g = sym (by_answer e ∙ ap (λ (b : Bool). cond b (sized s) none) (le-leb s (M v) g))
+  pub size_kept : {s : ℕ} → size_given w t n ≡ sized s → s ≤ M v → sized s ≡ size_given v t n
+  size_kept {s} e g = sym (by_answer e ∙ ap (λ (b : Bool). cond b (sized s) none) (le-leb s (M v) g))
 
-  pub size-past : {s : ℕ} → size_given w t n ≡ sized s → M v < s → none ≡ size_given v t n
-  size-past {s} e g = sym (by_answer e ∙ ap (λ (b : Bool). cond b (sized s) none) (lt-leb s (M v) g))
+  pub size_past : {s : ℕ} → size_given w t n ≡ sized s → M v < s → none ≡ size_given v t n
+  size_past {s} e g = sym (by_answer e ∙ ap (λ (b : Bool). cond b (sized s) none) (lt-leb s (M v) g))
 
   pub size_none : {g : ℕ} → size_given w t n ≡ none_above g → none ≡ size_given v t n
   size_none e = sym (by_answer e)
 
-  pub size-refused : {k : ℕ} → size_given w t n ≡ refused_by k → refused_by k ≡ size_given v t n
-  size-refused e = sym (by_answer e)
+  pub size_refused : {k : ℕ} → size_given w t n ≡ refused_by k → refused_by k ≡ size_given v t n
+  size_refused e = sym (by_answer e)
 
 -- an outcome that is the one given means what that means; no size at n passes M
 pub told_size : {o : SizeOutcome} (w : ℕ) (t : Trailing) (n : ℕ) → t.word < 2 ^ w → o ≡ size_given w t n → (o ≡ size_given w t n) × SizeMeans w t n o

@@ -104,11 +104,11 @@ word_back s i h l = part_back 8 s i h l
 -- such a number is below 256 ^ n
 value_below : (n : ℕ) (s : List ℕ) → length s ≤ n → AllBytes s → value_of s < 256 ^ n
 unfolding value_of
-value_below n [] e h = pow-positive n
+value_below n [] e h = pow_positive n
   where
-    pow-positive : (n : ℕ) → 0 < 256 ^ n
-    pow-positive zero = omega arith
-    pow-positive (suc n) = let k : 256 ^ suc n ≡ 256 ^ n * 256 = pow-suc 256 n in omega (arith, pow-positive n)
+    pow_positive : (n : ℕ) → 0 < 256 ^ n
+    pow_positive zero = omega arith
+    pow_positive (suc n) = let k : 256 ^ suc n ≡ 256 ^ n * 256 = pow-suc 256 n in omega (arith, pow_positive n)
 value_below zero (b ∷ s) e h = absurd (omega arith)
 value_below (suc n) (b ∷ s) e h =
     let k : 256 ^ suc n ≡ 256 ^ n * 256 = pow-suc 256 n in

@@ -3,7 +3,7 @@ use mathlib.Core.Path.{◌≡◌, refl, ap, ◌∙◌}
 use Prim.Native.Nat.{ℕ, suc, ◌-◌}
 use lib.Seq.{sets}
 use native.Mathlib.Omega.{arith}
-use Rattle.cases.proofs.Written.{bytes_below, Below, room-below, next-below}
+use Rattle.cases.proofs.Written.{bytes_below, Below, room_below, next_below}
 use Rattle.cases.proofs.write_all.Statement.{statement}
 use Rattle.cases.proofs.write_all.Tie as tie
 
@@ -23,7 +23,7 @@ grow-requires : tie.Need-grow-requires invariant-loop decreases-loop
 grow-requires c κs =
     let k = c.before.before.before.before in
     let l = c.before.before.loop in
-    room-below k.args.longest k.args.out.now l.out l.at l.count l.invariant c.before.loop-test.true k.requires.0 k.requires.1
+    room_below k.args.longest k.args.out.now l.out l.at l.count l.invariant c.before.loop-test.true k.requires.0 k.requires.1
 
 add-count : tie.Need-overflow-add-count invariant-loop decreases-loop
 add-count c = omega (arith, c.before.before.before.before.loop-test.true, c.before.before.before.before.before.before.before.requires.0)
@@ -36,7 +36,7 @@ loop-again c =
     let k = c.before.before.before.before.before.before.before in
     let l = c.before.before.before.before.before.loop in
     let g = c.before.before.grow in
-    next-below k.args.longest k.args.out.now l.out l.at l.count l.invariant c.before.before.before.before.loop-test.true k.requires.0 k.requires.1 g.new.0 g.result g.ensures.0 g.ensures.1 g.auto.0
+    next_below k.args.longest k.args.out.now l.out l.at l.count l.invariant c.before.before.before.before.loop-test.true k.requires.0 k.requires.1 g.new.0 g.result g.ensures.0 g.ensures.1 g.auto.0
 
 same_length : tie.Need-same-length invariant-loop decreases-loop
 same_length c = c.before.loop.invariant.kept

@@ -11,7 +11,7 @@ use Rattle.layout.specs.declared.SizeInfo.{SizeInfo}
 use Rattle.layout.specs.View.{info_of, sized_of, layout_says}
 use Rattle.record_defs.specs.Record.{decode_for}
 use Rattle.compose_defs.specs.Compose.{member_step, add_members, members_of}
-use Rattle.compose_defs.proofs.Compositions.{step_power, turn_on, turn-off, begun, ended}
+use Rattle.compose_defs.proofs.Compositions.{step_power, turn_on, turn_off, begun, ended}
 use borrow.Author.Rules.{rules}
 use Rattle.compose.proofs.add_to_sized.Statement.{statement}
 use Rattle.compose.proofs.add_to_sized.Tie as tie
@@ -70,7 +70,7 @@ enum-known-number c = search rules
 returns-2 : tie.Need-returns-2 invariant-loop decreases-loop
 returns-2 c = let x = c.before.before.before.before.before.before.before.before.args in
     let s = x.members.now in
-    sym (turn-off 64 (member_step 64 x.heed x.repr-packed) (length s / 48) c.before.before.before.before.before.before.loop.i s (sized_of c.before.before.before.before.before.before.loop.own) c.before.before.before.before.before.loop-test.true (told_by layout_says c.before.before.before.sized-step.ensures c.before.number.given.1)) ∙ c.before.before.before.before.before.before.loop.invariant.1
+    sym (turn_off 64 (member_step 64 x.heed x.repr-packed) (length s / 48) c.before.before.before.before.before.before.loop.i s (sized_of c.before.before.before.before.before.before.loop.own) c.before.before.before.before.before.loop-test.true (told_by layout_says c.before.before.before.sized-step.ensures c.before.number.given.1)) ∙ c.before.before.before.before.before.before.loop.invariant.1
 
 add-i : tie.Need-overflow-add-i invariant-loop decreases-loop
 add-i c = search rules

@@ -6,7 +6,7 @@ use lib.ListN.{length, drop}
 use Rattle.util_defs.proofs.Tables.{told_by}
 use Rattle.layouts32.specs.View.{layout_of32, layout_says32}
 use Rattle.compose_defs.specs.Compose.{member_step, add_members, members_of}
-use Rattle.compose_defs.proofs.Compositions.{turn_on, turn-off, begun, ended}
+use Rattle.compose_defs.proofs.Compositions.{turn_on, turn_off, begun, ended}
 use borrow.Author.Rules.{rules}
 use Rattle.compose32.proofs.add_members.Statement.{statement}
 use Rattle.compose32.proofs.add_members.Tie as tie
@@ -52,7 +52,7 @@ returns : tie.Need-returns invariant-loop decreases-loop
 returns c =
     let x = c.before.before.before.before.before.before.before.before.args in
     let s = x.members.now in
-    sym (turn-off 32 (member_step 32 x.heed x.repr-packed) (length s / 48) c.before.before.before.before.before.before.loop.place s (layout_of32 c.before.before.before.before.before.before.loop.l) c.before.before.before.before.before.loop-test.true (told_by layout_says32 c.before.before.before.member-step.ensures c.before.number.given.1)) ∙ c.before.before.before.before.before.before.loop.invariant
+    sym (turn_off 32 (member_step 32 x.heed x.repr-packed) (length s / 48) c.before.before.before.before.before.before.loop.place s (layout_of32 c.before.before.before.before.before.before.loop.l) c.before.before.before.before.before.loop-test.true (told_by layout_says32 c.before.before.before.member-step.ensures c.before.number.given.1)) ∙ c.before.before.before.before.before.before.loop.invariant
 
 add-place : tie.Need-overflow-add-place invariant-loop decreases-loop
 add-place c = search rules

@@ -15,12 +15,12 @@ use Rattle.describe_defs.specs.Elements.{array_for, slice_of_for}
 use Rattle.describe_defs.specs.Describe.{Part, add_read, closed, part_for}
 use Rattle.describe_defs.specs.Heads.{made}
 use Rattle.describe_defs.proofs.Meaning.{moved}
-use Rattle.describe_defs.proofs.Heads.{head-room, add_none, add-stop, add-off, add-on}
+use Rattle.describe_defs.proofs.Heads.{head_room, add_none, add_stop, add_off, add_on}
 use Rattle.heads.specs.View.{head_says}
 use Rattle.describe.specs.View.{part_says}
 use Rattle.width.proofs.Steps.{extend_at, extend_held, pad_at, array_at, slice_at, zst_at, zst_held, scalars_at}
 use Rattle.width.proofs.Reading.{part_held, added_held, head_held}
-use Rattle.describe.proofs.Ways.{part_told, code_scalar, by_head, made_alike, body-on, body-off, step_is}
+use Rattle.describe.proofs.Ways.{part_told, code_scalar, by_head, made_alike, body_on, body_off, step_is}
 use Prim.Native.Nat.{ℕ, ◌+◌, ◌-◌, ◌*◌, ◌≤◌, ◌<◌}
 use borrow.Fn.Kinds.{In}
 use borrow.Fn.PlainCycle.{Measures, is, falls, and}
@@ -146,7 +146,7 @@ add-members-loop-again t c =
       omega (arith, loop.invariant.0, moved (bits_of k) (target_of k) x.s.now x.depth loop.at c.before.before.before.before.before.layout.given.0.1.0 m read),
       (
         extend_held k l m x.packed hl hm hp e,
-        sym (add-on (bits_of k) (part_for (bits_of k) (target_of k) x.depth x.s.now) x.packed x.tag l loop.at loop.left (λ z. omega (arith, c.before.before.before.before.before.before.before.before.loop-test.true)) read (step_is (bits_of k) x.packed l m (extend_at k l m x.packed hl hm hp ∙ e))) ∙ loop.invariant.1.1,
+        sym (add_on (bits_of k) (part_for (bits_of k) (target_of k) x.depth x.s.now) x.packed x.tag l loop.at loop.left (λ z. omega (arith, c.before.before.before.before.before.before.before.before.loop-test.true)) read (step_is (bits_of k) x.packed l m (extend_at k l m x.packed hl hm hp ∙ e))) ∙ loop.invariant.1.1,
       ),
     )
 
@@ -175,7 +175,7 @@ add-members-returns t c =
     let hm = part_held k x.s.now x.depth loop.at read in
     let hp = c.before.before.before.before.before.before.before.before.before.before.before.requires.1.1 in
     let e = told_by layout_says c.before.before.before.extend.ensures c.before.number.given.1 in
-    sym (add-off (bits_of k) (part_for (bits_of k) (target_of k) x.depth x.s.now) x.packed x.tag l loop.at loop.left (λ z. omega (arith, c.before.before.before.before.before.before.before.before.loop-test.true)) read (step_is (bits_of k) x.packed l m (extend_at k l m x.packed hl hm hp ∙ e))) ∙ loop.invariant.1.1
+    sym (add_off (bits_of k) (part_for (bits_of k) (target_of k) x.depth x.s.now) x.packed x.tag l loop.at loop.left (λ z. omega (arith, c.before.before.before.before.before.before.before.before.loop-test.true)) read (step_is (bits_of k) x.packed l m (extend_at k l m x.packed hl hm hp ∙ e))) ∙ loop.invariant.1.1
 
 add-members-enum-known-number-2 : (t : ℕ) → add-members-lts.Need-enum-known-number-2 (
   part_below t,
@@ -193,7 +193,7 @@ add-members-returns-2 : (t : ℕ) → add-members-lts.Need-returns-2 (
 ) (add-members-at t) add-members.Post add-members-Inv-loop add-members-μ-loop
 add-members-returns-2 t c =
     let x = c.before.before.before.before.before.before.before.args in
-    sym (add-stop (bits_of x.narrow) (part_for (bits_of x.narrow) (target_of x.narrow) x.depth x.s.now) x.packed x.tag (layout_of c.before.before.before.before.before.loop.own) c.before.before.before.before.before.loop.at c.before.before.before.before.before.loop.left (λ z. omega (arith, c.before.before.before.before.loop-test.true)) (sym c.before.before.before.part.ensures.0 ∙ ap part_says c.before.number2.given.1)) ∙ c.before.before.before.before.before.loop.invariant.1.1
+    sym (add_stop (bits_of x.narrow) (part_for (bits_of x.narrow) (target_of x.narrow) x.depth x.s.now) x.packed x.tag (layout_of c.before.before.before.before.before.loop.own) c.before.before.before.before.before.loop.at c.before.before.before.before.before.loop.left (λ z. omega (arith, c.before.before.before.before.loop-test.true)) (sym c.before.before.before.part.ensures.0 ∙ ap part_says c.before.number2.given.1)) ∙ c.before.before.before.before.before.loop.invariant.1.1
 
 add-members-returns-3 : (t : ℕ) → add-members-lts.Need-returns-3 (
   part_below t,
@@ -293,7 +293,7 @@ part-add-at-tag : (t : ℕ) → part-lts.Need-overflow-add-at-tag (
 ) (part_at t) part.Post
 part-add-at-tag t c =
     let x = c.before.before.before.before.before.before.args in
-    omega (arith, head-room (bits_of x.narrow) x.s.now x.at x.depth (sym c.before.before.before.before.head_of.ensures.0 ∙ ap head_says c.before.before.code.given.1))
+    omega (arith, head_room (bits_of x.narrow) x.s.now x.at x.depth (sym c.before.before.before.before.head_of.ensures.0 ∙ ap head_says c.before.before.code.given.1))
 
 part-at-tag-requires : (t : ℕ) → part-lts.Need-at-tag-requires (
   head-of-reads.Asked,
@@ -361,7 +361,7 @@ part-add-part : (t : ℕ) → part-lts.Need-overflow-add-part (
 ) (part_at t) part.Post
 part-add-part t c =
     let x = c.before.before.before.before.before.args in
-    omega (arith, head-room (bits_of x.narrow) x.s.now x.at x.depth (sym c.before.before.before.head_of.ensures.0 ∙ ap head_says c.before.count.given.1))
+    omega (arith, head_room (bits_of x.narrow) x.s.now x.at x.depth (sym c.before.before.before.head_of.ensures.0 ∙ ap head_says c.before.count.given.1))
 
 part-add-part-2 : (t : ℕ) → part-lts.Need-overflow-add-part-2 (
   head-of-reads.Asked,
@@ -385,7 +385,7 @@ part-add-part-2 : (t : ℕ) → part-lts.Need-overflow-add-part-2 (
 ) (part_at t) part.Post
 part-add-part-2 t c =
     let x = c.before.before.before.before.before.args in
-    omega (arith, head-room (bits_of x.narrow) x.s.now x.at x.depth (sym c.before.before.before.head_of.ensures.0 ∙ ap head_says c.before.count.given.1))
+    omega (arith, head_room (bits_of x.narrow) x.s.now x.at x.depth (sym c.before.before.before.head_of.ensures.0 ∙ ap head_says c.before.count.given.1))
 
 part-sub-part : (t : ℕ) → part-lts.Need-overflow-sub-part (
   head-of-reads.Asked,
@@ -409,7 +409,7 @@ part-sub-part : (t : ℕ) → part-lts.Need-overflow-sub-part (
 ) (part_at t) part.Post
 part-sub-part t c =
     let x = c.before.before.before.before.before.args in
-    (head-room (bits_of x.narrow) x.s.now x.at x.depth (sym c.before.before.before.head_of.ensures.0 ∙ ap head_says c.before.count.given.1)).0
+    (head_room (bits_of x.narrow) x.s.now x.at x.depth (sym c.before.before.before.head_of.ensures.0 ∙ ap head_says c.before.count.given.1)).0
 
 part-part-requires : (t : ℕ) → part-lts.Need-part-requires (
   head-of-reads.Asked,
@@ -433,7 +433,7 @@ part-part-requires : (t : ℕ) → part-lts.Need-part-requires (
 ) (part_at t) part.Post
 part-part-requires t c κs =
     let x = c.before.before.before.before.before.args in
-    (omega (arith, c.before.before.before.before.before.requires.0, head-room (bits_of x.narrow) x.s.now x.at x.depth (sym c.before.before.before.head_of.ensures.0 ∙ ap head_says c.before.count.given.1)), tt)
+    (omega (arith, c.before.before.before.before.before.requires.0, head_room (bits_of x.narrow) x.s.now x.at x.depth (sym c.before.before.before.head_of.ensures.0 ∙ ap head_says c.before.count.given.1)), tt)
 
 part-array-part-requires : (t : ℕ) → part-lts.Need-array-part-requires (
   head-of-reads.Asked,
@@ -545,7 +545,7 @@ part-sub-add-members : (t : ℕ) → part-lts.Need-overflow-sub-add-members (
 ) (part_at t) part.Post
 part-sub-add-members t c =
     let x = c.before.before.before.before.before.before.before.before.before.args in
-    (head-room (bits_of x.narrow) x.s.now x.at x.depth (sym c.before.before.before.before.before.before.before.head_of.ensures.0 ∙ ap head_says c.before.before.before.before.before.align.given.1)).0
+    (head_room (bits_of x.narrow) x.s.now x.at x.depth (sym c.before.before.before.before.before.before.before.head_of.ensures.0 ∙ ap head_says c.before.before.before.before.before.align.given.1)).0
 
 part-add-members-requires : (t : ℕ) → part-lts.Need-add-members-requires (
   head-of-reads.Asked,
@@ -571,7 +571,7 @@ part-add-members-requires t c κs =
     let x = c.before.before.before.before.before.before.before.before.before.args in
     let e = sym c.before.before.before.before.before.before.before.head_of.ensures.0 ∙ ap head_says c.before.before.before.before.before.align.given.1 in
     let h = head_held x.narrow x.s.now x.depth x.at e in (
-      omega (arith, c.before.before.before.before.before.before.before.before.before.requires.0, head-room (bits_of x.narrow) x.s.now x.at x.depth e),
+      omega (arith, c.before.before.before.before.before.before.before.before.before.requires.0, head_room (bits_of x.narrow) x.s.now x.at x.depth e),
       (zst_held x.narrow c.before.before.before.before.before.align.given.0.0 h.0 (told_by layout_says c.before.before.before.new-zst.ensures.0 c.before.empty.given.1), h.1),
     )
 
@@ -663,7 +663,7 @@ part-add-part-3 : (t : ℕ) → part-lts.Need-overflow-add-part-3 (
 ) (part_at t) part.Post
 part-add-part-3 t c =
     let x = c.before.before.before.before.args in
-    omega (arith, head-room (bits_of x.narrow) x.s.now x.at x.depth (sym c.before.before.head_of.ensures.0 ∙ ap head_says c.enum_told.given.1))
+    omega (arith, head_room (bits_of x.narrow) x.s.now x.at x.depth (sym c.before.before.head_of.ensures.0 ∙ ap head_says c.enum_told.given.1))
 
 part-sub-part-2 : (t : ℕ) → part-lts.Need-overflow-sub-part-2 (
   head-of-reads.Asked,
@@ -687,7 +687,7 @@ part-sub-part-2 : (t : ℕ) → part-lts.Need-overflow-sub-part-2 (
 ) (part_at t) part.Post
 part-sub-part-2 t c =
     let x = c.before.before.before.before.args in
-    (head-room (bits_of x.narrow) x.s.now x.at x.depth (sym c.before.before.head_of.ensures.0 ∙ ap head_says c.enum_told.given.1)).0
+    (head_room (bits_of x.narrow) x.s.now x.at x.depth (sym c.before.before.head_of.ensures.0 ∙ ap head_says c.enum_told.given.1)).0
 
 part-part-requires-2 : (t : ℕ) → part-lts.Need-part-requires-2 (
   head-of-reads.Asked,
@@ -711,7 +711,7 @@ part-part-requires-2 : (t : ℕ) → part-lts.Need-part-requires-2 (
 ) (part_at t) part.Post
 part-part-requires-2 t c κs =
     let x = c.before.before.before.before.args in
-    (omega (arith, c.before.before.before.before.requires.0, head-room (bits_of x.narrow) x.s.now x.at x.depth (sym c.before.before.head_of.ensures.0 ∙ ap head_says c.enum_told.given.1)), tt)
+    (omega (arith, c.before.before.before.before.requires.0, head_room (bits_of x.narrow) x.s.now x.at x.depth (sym c.before.before.head_of.ensures.0 ∙ ap head_says c.enum_told.given.1)), tt)
 
 part-slice-part-requires : (t : ℕ) → part-lts.Need-slice-part-requires (
   head-of-reads.Asked,
@@ -783,7 +783,7 @@ part-returns t c =
     let e = sym c.before.before.before.before.before.head_of.ensures.0 ∙ ap head_says c.before.before.before.code.given.1 in
     part_told (bits_of k) (target_of k) (scalars_at k) x.depth x.s.now x.at
     (c.at_tag.ensures
-    ∙ ap (λ (o : Outcome Layout). at_place x.at o (λ l. reached (l, x.at + 1))) (c.before.scalar.ensures ∙ code_scalar (target_of k) c.before.before.before.code.given.0.0 (head-room (bits_of k) x.s.now x.at x.depth e).1)
+    ∙ ap (λ (o : Outcome Layout). at_place x.at o (λ l. reached (l, x.at + 1))) (c.before.scalar.ensures ∙ code_scalar (target_of k) c.before.before.before.code.given.0.0 (head_room (bits_of k) x.s.now x.at x.depth e).1)
     ∙ sym (by_head (bits_of k) (target_of k) x.depth x.s.now x.at e))
 
 part-returns-2 : (t : ℕ) → part-lts.Need-returns-2 (
@@ -850,7 +850,7 @@ part-returns-3 t c =
     ∙ made_alike (part_says c.before.add-members.result) x.at (width_pad k) (pad_for (bits_of k)) (λ r j f. sym (pad_at k r (added_held k x.s.now (x.depth - 1) g.1.0 x.at g.1.1.0 l g.1.1.1.0 (zst_held k g.0 h.0 z) h.1 (sym c.before.add-members.ensures ∙ f))))
     ∙ ap (λ (p : Placed Part). go_on p (made x.at (pad_for (bits_of k)))) c.before.add-members.ensures
     ∙ sym (by_head (bits_of k) (target_of k) x.depth x.s.now x.at e
-    ∙ body-on (bits_of k) (part_for (bits_of k) (target_of k) (x.depth - 1) x.s.now) x.at g.1.1.1.0 g.0 g.1.0 g.1.1.0 (zst_at k g.0 h.0 ∙ z)))
+    ∙ body_on (bits_of k) (part_for (bits_of k) (target_of k) (x.depth - 1) x.s.now) x.at g.1.1.1.0 g.0 g.1.0 g.1.1.0 (zst_at k g.0 h.0 ∙ z)))
 
 part-returns-4 : (t : ℕ) → part-lts.Need-returns-4 (
   head-of-reads.Asked,
@@ -880,7 +880,7 @@ part-returns-4 t c =
     let z = told_by layout_says c.before.before.before.new-zst.ensures.0 c.before.number.given.1 in
     part_told (bits_of k) (target_of k) (scalars_at k) x.depth x.s.now x.at
     (sym (by_head (bits_of k) (target_of k) x.depth x.s.now x.at e
-    ∙ body-off (bits_of k) (part_for (bits_of k) (target_of k) (x.depth - 1) x.s.now) x.at g.1.1.1.0 g.0 g.1.0 g.1.1.0 (zst_at k g.0 (head_held k x.s.now x.depth x.at e).0 ∙ z)))
+    ∙ body_off (bits_of k) (part_for (bits_of k) (target_of k) (x.depth - 1) x.s.now) x.at g.1.1.1.0 g.0 g.1.0 g.1.1.0 (zst_at k g.0 (head_held k x.s.now x.depth x.at e).0 ∙ z)))
 
 part-returns-5 : (t : ℕ) → part-lts.Need-returns-5 (
   head-of-reads.Asked,

@@ -2,7 +2,7 @@
 use mathlib.Core.Path.{ap}
 use Rattle.util_defs.proofs.Tables.{told_by}
 use Rattle.layout.specs.View.{info_of, layout_of, check_says}
-use Rattle.describe_defs.proofs.Elements.{element-own, element-trailing, element-sized}
+use Rattle.describe_defs.proofs.Elements.{element_own, element_trailing, element_sized}
 use borrow.Author.Rules.{rules}
 use Rattle.elements.proofs.elem_size.Statement.{statement}
 use Rattle.elements.proofs.elem_size.Tie as tie
@@ -24,15 +24,15 @@ enum-known-number c = search rules
 
 returns : tie.Need-returns
 returns c =
-    element-sized 64 (layout_of c.before.before.before.before.before.before.args.elem) (told_by check_says c.before.before.before.before.before.check.ensures.0 c.before.before.before.enum_told.given.1) (ap info_of c.before.size-info.given.1)
+    element_sized 64 (layout_of c.before.before.before.before.before.before.args.elem) (told_by check_says c.before.before.before.before.before.check.ensures.0 c.before.before.before.enum_told.given.1) (ap info_of c.before.size-info.given.1)
 
 returns-2 : tie.Need-returns-2
 returns-2 c =
-    element-trailing 64 (layout_of c.before.before.before.before.before.args.elem) (told_by check_says c.before.before.before.before.check.ensures.0 c.before.before.enum_told.given.1) (ap info_of c.enum-told2.given.1)
+    element_trailing 64 (layout_of c.before.before.before.before.before.args.elem) (told_by check_says c.before.before.before.before.check.ensures.0 c.before.before.enum_told.given.1) (ap info_of c.enum-told2.given.1)
 
 returns-3 : tie.Need-returns-3
 returns-3 c =
-    element-own 64 (layout_of c.before.before.before.before.args.elem) (told_by check_says c.before.before.before.check.ensures.0 c.before.number.given.1)
+    element_own 64 (layout_of c.before.before.before.before.args.elem) (told_by check_says c.before.before.before.check.ensures.0 c.before.number.given.1)
 
 pub elem-size-spec : {M : Type 1} → statement M
 elem-size-spec =

@@ -5,7 +5,7 @@ use Rattle.util_defs.specs.Width.{M}
 use Rattle.util_defs.proofs.Refusals.{told}
 use Rattle.layout_defs.specs.Layout.{Layout}
 use Rattle.describe_defs.specs.Elements.{array_for}
-use Rattle.describe_defs.proofs.Elements.{array-meets}
+use Rattle.describe_defs.proofs.Elements.{array_meets}
 use Rattle.widths_defs.specs.Low.{mapped}
 use Rattle.widths_layouts_defs.specs.Low.{low_layout}
 use Rattle.layouts32.specs.View.{layout_of32}
@@ -30,7 +30,7 @@ returns c =
     let q = c.before.before.wide-layout.ensures in
     let l = layout_of32 k.elem in
     let n = k.count in
-    told (array-meets 32 l n q.1.align)
+    told (array_meets 32 l n q.1.align)
     (c.low-answer.ensures ∙ ap (mapped (low_layout 32)) (c.before.array-within.ensures ∙ ap (λ (x : Layout). array_within (M 32) (array_for 64 x n)) q.0)
     ∙ sym (array_low 32 64 l n (omega arith) q.1.align))
 

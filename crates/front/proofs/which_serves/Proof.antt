@@ -6,7 +6,7 @@ use borrow.Author.Rules.{rules}
 use Rattle.util_defs.proofs.Tables.{told_by}
 use Rattle.cast.specs.View.{cast_says}
 use Rattle.layout.specs.View.{layout_of}
-use Rattle.front_defs.proofs.Fronts.{serves-as}
+use Rattle.front_defs.proofs.Fronts.{serves_as}
 use Rattle.front.proofs.which_serves.Statement.{statement}
 use Rattle.front.proofs.which_serves.Tie as tie
 
@@ -32,14 +32,14 @@ enum-known-spare-refusal c = search rules
 returns : tie.Need-returns
 returns c =
     let k = c.before.before.before.before.args in
-    serves-as 64 (layout_of k.layout) k.map-addr k.map-len k.spare-addr k.spare-len (omega arith) (lit< tt) _ _
+    serves_as 64 (layout_of k.layout) k.map-addr k.map-len k.spare-addr k.spare-len (omega arith) (lit< tt) _ _
     (told_by cast_says c.before.before.before.validate-cast-and-convert-metadata.ensures.0 c.before.elems.given.1) refl
 
 returns-2 : tie.Need-returns-2
 returns-2 c =
     let b = c.before.before.before.before.before in
     let k = b.before.before.before.args in
-    serves-as 64 (layout_of k.layout) k.map-addr k.map-len k.spare-addr k.spare-len (omega arith) (lit< tt) _ _
+    serves_as 64 (layout_of k.layout) k.map-addr k.map-len k.spare-addr k.spare-len (omega arith) (lit< tt) _ _
     (told_by cast_says b.before.before.validate-cast-and-convert-metadata.ensures.0 b.map-refusal.given.1)
     (told_by cast_says c.before.before.before.validate-cast-and-convert-metadata2.ensures.0 c.before.elems2.given.1)
 
@@ -47,7 +47,7 @@ returns-3 : tie.Need-returns-3
 returns-3 c =
     let b = c.before.before.before.before.before in
     let k = b.before.before.before.args in
-    serves-as 64 (layout_of k.layout) k.map-addr k.map-len k.spare-addr k.spare-len (omega arith) (lit< tt) _ _
+    serves_as 64 (layout_of k.layout) k.map-addr k.map-len k.spare-addr k.spare-len (omega arith) (lit< tt) _ _
     (told_by cast_says b.before.before.validate-cast-and-convert-metadata.ensures.0 b.map-refusal.given.1)
     (told_by cast_says c.before.before.before.validate-cast-and-convert-metadata2.ensures.0 c.before.spare-refusal.given.1)
 

@@ -6,7 +6,7 @@ use borrow.Author.Rules.{rules}
 use Rattle.util_defs.proofs.Tables.{told_by}
 use Rattle.casts32.specs.View.{cast_says32}
 use Rattle.layouts32.specs.View.{layout_of32}
-use Rattle.front_defs.proofs.Fronts.{serves-as}
+use Rattle.front_defs.proofs.Fronts.{serves_as}
 use Rattle.front32.proofs.which_serves.Statement.{statement}
 use Rattle.front32.proofs.which_serves.Tie as tie
 
@@ -31,14 +31,14 @@ enum-known-spare-refusal c = search rules
 returns : tie.Need-returns
 returns c =
     let k = c.before.before.before.before.args in
-    serves-as 32 (layout_of32 k.layout) k.map-addr k.map-len k.spare-addr k.spare-len (omega arith) (lit< tt) _ _
+    serves_as 32 (layout_of32 k.layout) k.map-addr k.map-len k.spare-addr k.spare-len (omega arith) (lit< tt) _ _
     (told_by cast_says32 c.before.before.before.cast-bytes.ensures.0 c.before.elems.given.1) refl
 
 returns-2 : tie.Need-returns-2
 returns-2 c =
     let b = c.before.before.before.before.before in
     let k = b.before.before.before.args in
-    serves-as 32 (layout_of32 k.layout) k.map-addr k.map-len k.spare-addr k.spare-len (omega arith) (lit< tt) _ _
+    serves_as 32 (layout_of32 k.layout) k.map-addr k.map-len k.spare-addr k.spare-len (omega arith) (lit< tt) _ _
     (told_by cast_says32 b.before.before.cast-bytes.ensures.0 b.map-refusal.given.1)
     (told_by cast_says32 c.before.before.before.cast-bytes2.ensures.0 c.before.elems2.given.1)
 
@@ -46,7 +46,7 @@ returns-3 : tie.Need-returns-3
 returns-3 c =
     let b = c.before.before.before.before.before in
     let k = b.before.before.before.args in
-    serves-as 32 (layout_of32 k.layout) k.map-addr k.map-len k.spare-addr k.spare-len (omega arith) (lit< tt) _ _
+    serves_as 32 (layout_of32 k.layout) k.map-addr k.map-len k.spare-addr k.spare-len (omega arith) (lit< tt) _ _
     (told_by cast_says32 b.before.before.cast-bytes.ensures.0 b.map-refusal.given.1)
     (told_by cast_says32 c.before.before.before.cast-bytes2.ensures.0 c.before.spare-refusal.given.1)
 

@@ -6,7 +6,7 @@ use lib.ListN.{length, drop}
 use Rattle.util_defs.proofs.Tables.{told_by}
 use Rattle.layout.specs.View.{check_says}
 use Rattle.short_defs.specs.Moves.{to_short, tested}
-use Rattle.short_defs.proofs.Lists.{test_on, test-off, test-end}
+use Rattle.short_defs.proofs.Lists.{test_on, test_off, test_end}
 use borrow.Author.Rules.{rules}
 use Rattle.moves.proofs.test_records.Statement.{statement}
 use Rattle.moves.proofs.test_records.Tie as tie
@@ -45,7 +45,7 @@ enum-known-number : tie.Need-enum-known-number invariant-loop decreases-loop
 enum-known-number c = search rules
 
 returns : tie.Need-returns invariant-loop decreases-loop
-returns c = let s = c.before.before.before.before.before.before.before.before.args.records.now in sym (test-off to_short (length s / 48) c.before.before.before.before.before.before.loop.i s c.before.before.before.before.before.loop-test.true (told_by check_says c.before.before.before.test-record.ensures c.before.number.given.1)) ∙ c.before.before.before.before.before.before.loop.invariant
+returns c = let s = c.before.before.before.before.before.before.before.before.args.records.now in sym (test_off to_short (length s / 48) c.before.before.before.before.before.before.loop.i s c.before.before.before.before.before.loop-test.true (told_by check_says c.before.before.before.test-record.ensures c.before.number.given.1)) ∙ c.before.before.before.before.before.before.loop.invariant
 
 add-i : tie.Need-overflow-add-i invariant-loop decreases-loop
 add-i c = search rules
@@ -57,7 +57,7 @@ loop-again : tie.Need-loop-preserved invariant-loop decreases-loop
 loop-again c = let s = c.before.before.before.before.before.before.before.args.records.now in sym (test_on to_short (length s / 48) c.before.before.before.before.before.loop.i s c.before.before.before.before.loop-test.true (told_by check_says c.before.before.test-record.ensures c.enum_told.given.1)) ∙ c.before.before.before.before.before.loop.invariant
 
 returns-2 : tie.Need-returns-2 invariant-loop decreases-loop
-returns-2 c = let s = c.before.before.before.args.records.now in sym (test-end to_short (length s / 48) c.before.loop.i (drop (c.before.loop.i * 48) s) (omega arith)) ∙ c.before.loop.invariant
+returns-2 c = let s = c.before.before.before.args.records.now in sym (test_end to_short (length s / 48) c.before.loop.i (drop (c.before.loop.i * 48) s) (omega arith)) ∙ c.before.loop.invariant
 
 pub test-records-spec : {M : Type 1} → statement M
 test-records-spec =

@@ -6,7 +6,7 @@ use Rattle.util_defs.specs.Placed.{reached}
 use Rattle.short_defs.specs.Moves.{from_short}
 use Rattle.short_defs.proofs.Lists.{moved_length}
 use Rattle.short_defs.proofs.Meaning.{sized}
-use Rattle.short_defs.proofs.Ways.{wide_proper, is-stopped, is-moved}
+use Rattle.short_defs.proofs.Ways.{wide_proper, is_stopped, is_moved}
 use Rattle.moves.specs.View.{test_says}
 use borrow.Author.Rules.{rules}
 use Rattle.moves_back.proofs.widen.Statement.{statement}
@@ -31,10 +31,10 @@ same_length : tie.Need-same-length
 same_length c = search rules
 
 returns : tie.Need-returns
-returns c = let s = c.before.before.before.before.before.before.before.before.before.args.records.now in let old = c.before.before.before.before.before.before.before.before.before.args.out.now in let m = is-moved from_short s old c.before.before.before.before.before.before.before.before.before.requires (sym c.before.before.before.before.before.before.test-shorts.ensures ∙ ap test_says c.before.before.before.before.enum_told.given.1) in (ap reached (sym (moved_length from_short wide_proper.whole (length s / 32) s)) ∙ m.0, c.before.before.write-records.ensures ∙ m.1)
+returns c = let s = c.before.before.before.before.before.before.before.before.before.args.records.now in let old = c.before.before.before.before.before.before.before.before.before.args.out.now in let m = is_moved from_short s old c.before.before.before.before.before.before.before.before.before.requires (sym c.before.before.before.before.before.before.test-shorts.ensures ∙ ap test_says c.before.before.before.before.enum_told.given.1) in (ap reached (sym (moved_length from_short wide_proper.whole (length s / 32) s)) ∙ m.0, c.before.before.write-records.ensures ∙ m.1)
 
 returns-2 : tie.Need-returns-2
-returns-2 c = let s = c.before.before.before.before.before.before.args.records.now in is-stopped from_short s c.before.before.before.before.before.before.args.out.now c.before.before.before.before.before.before.requires (sym c.before.before.before.test-shorts.ensures ∙ ap test_says c.before.number.given.1)
+returns-2 c = let s = c.before.before.before.before.before.before.args.records.now in is_stopped from_short s c.before.before.before.before.before.before.args.out.now c.before.before.before.before.before.before.requires (sym c.before.before.before.test-shorts.ensures ∙ ap test_says c.before.number.given.1)
 
 pub widen_spec : {M : Type 1} → statement M
 widen_spec =

@@ -6,7 +6,7 @@ use native.Mathlib.Omega.{arith}
 use lib.ListN.{length}
 use Rattle.util_defs.specs.Placed.{judged}
 use Rattle.short_defs.specs.Moves.{from_short}
-use Rattle.short_defs.proofs.Lists.{looked, looked_length, tested-each, Writing, writing_begins, writing-length, writing-on, writing-ends}
+use Rattle.short_defs.proofs.Lists.{looked, looked_length, tested_each, Writing, writing_begins, writing_length, writing_on, writing_ends}
 use Rattle.short_defs.proofs.Ways.{wide_proper}
 use borrow.Author.Rules.{rules}
 use Rattle.moves_back.proofs.write_records.Statement.{statement}
@@ -49,10 +49,10 @@ part-write-record-start-2 : tie.Need-slice-bounds-write-record-start-2 invariant
 part-write-record-start-2 c = search rules
 
 part-write-record-end-2 : tie.Need-slice-bounds-write-record-end-2 invariant-loop decreases-loop
-part-write-record-end-2 c = omega (arith, c.before.loop-test.true, c.before.before.before.before.before.requires.1, writing-length from_short wide_proper.whole c.before.before.before.before.before.requires.1 c.before.before.loop.invariant)
+part-write-record-end-2 c = omega (arith, c.before.loop-test.true, c.before.before.before.before.before.requires.1, writing_length from_short wide_proper.whole c.before.before.before.before.before.requires.1 c.before.before.loop.invariant)
 
 write-record-requires : tie.Need-write-record-requires invariant-loop decreases-loop
-write-record-requires c κs = let s = c.before.before.before.before.before.before.args.records.now in let i = c.before.before.before.loop.i in let l = writing-length from_short wide_proper.whole c.before.before.before.before.before.before.requires.1 c.before.before.before.loop.invariant in ((looked_length 32 i s (omega (arith, c.before.before.loop-test.true)), looked_length 48 i c.before.before.before.loop.out (omega (arith, c.before.before.loop-test.true, c.before.before.before.before.before.before.requires.1, l))), ap (λ (z : List ℕ). judged (from_short.causes z)) (looked 32 i s) ∙ tested-each from_short 0 (length s / 32) s c.before.before.before.before.before.before.requires.0 i c.before.before.loop-test.true)
+write-record-requires c κs = let s = c.before.before.before.before.before.before.args.records.now in let i = c.before.before.before.loop.i in let l = writing_length from_short wide_proper.whole c.before.before.before.before.before.before.requires.1 c.before.before.before.loop.invariant in ((looked_length 32 i s (omega (arith, c.before.before.loop-test.true)), looked_length 48 i c.before.before.before.loop.out (omega (arith, c.before.before.loop-test.true, c.before.before.before.before.before.before.requires.1, l))), ap (λ (z : List ℕ). judged (from_short.causes z)) (looked 32 i s) ∙ tested_each from_short 0 (length s / 32) s c.before.before.before.before.before.before.requires.0 i c.before.before.loop-test.true)
 
 add-i : tie.Need-overflow-add-i invariant-loop decreases-loop
 add-i c = search rules
@@ -61,13 +61,13 @@ loop-less : tie.Need-loop-smaller invariant-loop decreases-loop
 loop-less c = search rules
 
 loop-again : tie.Need-loop-preserved invariant-loop decreases-loop
-loop-again c = let s = c.before.before.before.before.before.before.before.before.before.args.records.now in let i = c.before.before.before.before.before.before.loop.i in writing-on from_short wide_proper.whole s c.before.before.before.before.before.before.before.before.before.args.out.now (i * 48 + 48 - i * 48) c.before.before.before.before.before.loop-test.true (omega arith) (c.before.before.write-record.ensures ∙ ap from_short.moved (looked 32 i s)) c.before.before.before.before.before.before.loop.invariant
+loop-again c = let s = c.before.before.before.before.before.before.before.before.before.args.records.now in let i = c.before.before.before.before.before.before.loop.i in writing_on from_short wide_proper.whole s c.before.before.before.before.before.before.before.before.before.args.out.now (i * 48 + 48 - i * 48) c.before.before.before.before.before.loop-test.true (omega arith) (c.before.before.write-record.ensures ∙ ap from_short.moved (looked 32 i s)) c.before.before.before.before.before.before.loop.invariant
 
 same_length : tie.Need-same-length invariant-loop decreases-loop
-same_length c = writing-length from_short wide_proper.whole c.before.before.before.before.requires.1 c.before.loop.invariant
+same_length c = writing_length from_short wide_proper.whole c.before.before.before.before.requires.1 c.before.loop.invariant
 
 returns : tie.Need-returns invariant-loop decreases-loop
-returns c = writing-ends from_short wide_proper.whole c.before.before.before.before.args.records.now c.before.before.before.before.args.out.now (omega arith) c.before.loop.invariant
+returns c = writing_ends from_short wide_proper.whole c.before.before.before.before.args.records.now c.before.before.before.before.args.out.now (omega arith) c.before.loop.invariant
 
 pub write-records-spec : {M : Type 1} → statement M
 write-records-spec =

@@ -8,7 +8,7 @@ use Rattle.layout_defs.specs.Layout.{Layout}
 use Rattle.layout.specs.View.{layout_says}
 use Rattle.record_defs.specs.Record.{Words, record_bytes, words_layout, words_causes, words_for, encode_words_for}
 use Rattle.record.specs.View.{words_in}
-use Rattle.record_defs.proofs.Records.{write_done, write-refused, write-other}
+use Rattle.record_defs.proofs.Records.{write_done, write_refused, write_other}
 use Rattle.record_defs.proofs.RoundTrips.{words_kept}
 use borrow.Author.Rules.{rules}
 use Rattle.record.proofs.encode_words.Statement.{statement}
@@ -50,11 +50,11 @@ unfolding encode_words_for words_for
 returns-2 c = let x = c.before.before.before.before.before.before.args in
     let r = words_in x.w in
     let cs = words_causes 64 r in
-    write-refused cs r x.out.now c.before.before.before.before.if1.true (refused_as cs (words_layout r) tt (told_by layout_says c.before.before.before.layout-from-words.ensures.0 c.before.number.given.1))
+    write_refused cs r x.out.now c.before.before.before.before.if1.true (refused_as cs (words_layout r) tt (told_by layout_says c.before.before.before.layout-from-words.ensures.0 c.before.number.given.1))
 
 returns-3 : tie.Need-returns-3
 unfolding encode_words_for
-returns-3 c = let x = c.before.before.args in write-other (words_causes 64 (words_in x.w)) (words_in x.w) x.out.now c.if1.false
+returns-3 c = let x = c.before.before.args in write_other (words_causes 64 (words_in x.w)) (words_in x.w) x.out.now c.if1.false
 
 pub encode-words-spec : {M : Type 1} → statement M
 encode-words-spec =

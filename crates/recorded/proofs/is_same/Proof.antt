@@ -3,7 +3,7 @@ use mathlib.Core.Path.{◌≡◌, sym, ◌∙◌}
 use Prim.Native.Nat.{◌+◌, ◌-◌, ◌≤◌}
 use native.Mathlib.Omega.{arith}
 use Rattle.recorded_defs.specs.Lines.{same_from}
-use Rattle.recorded_defs.proofs.Reading.{same-on, same-off, same_all, same_begun}
+use Rattle.recorded_defs.proofs.Reading.{same_on, same_off, same_all, same_begun}
 use borrow.Author.Rules.{rules}
 use Rattle.recorded.proofs.is_same.Statement.{statement}
 use Rattle.recorded.proofs.is_same.Tie as tie
@@ -36,7 +36,7 @@ returns : tie.Need-returns invariant-loop decreases-loop
 returns c =
     let x = c.before.before.before.before.args in
     let k = c.before.before.before.loop in
-    sym (same-off x.line.now x.t3 x.length x.from k.k c.before.before.loop-test.true c.if1.true) ∙ k.invariant.1
+    sym (same_off x.line.now x.t3 x.length x.from k.k c.before.before.loop-test.true c.if1.true) ∙ k.invariant.1
 
 add-k : tie.Need-overflow-add-k invariant-loop decreases-loop
 add-k c = search rules
@@ -48,7 +48,7 @@ loop-again : tie.Need-loop-preserved invariant-loop decreases-loop
 loop-again c =
     let x = c.before.before.before.before.args in
     let k = c.before.before.before.loop in
-    (omega arith, sym (same-on x.line.now x.t3 x.length x.from k.k c.before.before.loop-test.true c.if1.false) ∙ k.invariant.1)
+    (omega arith, sym (same_on x.line.now x.t3 x.length x.from k.k c.before.before.loop-test.true c.if1.false) ∙ k.invariant.1)
 
 returns-2 : tie.Need-returns-2 invariant-loop decreases-loop
 returns-2 c =

@@ -6,7 +6,7 @@ use native.Mathlib.Omega.{arith}
 use lib.ListN.{length, drop}
 use Rattle.recorded_defs.specs.Lines.{number, number_from, Read, line_from}
 use Rattle.recorded.specs.View.{number_says, line_out}
-use Rattle.recorded_defs.proofs.Reading.{number_within, line-full, line-last, line_on, line-off}
+use Rattle.recorded_defs.proofs.Reading.{number_within, line_full, line_last, line_on, line_off}
 use Rattle.recorded.proofs.Unread.{unread_out}
 use borrow.Author.Rules.{rules}
 use Rattle.recorded.proofs.read_line.Statement.{statement}
@@ -45,7 +45,7 @@ returns c =
     let e : number_from 0 false l.at (drop l.at x.text.now) ≡ number v.0.0 true v.0.1.0 =
     sym c.before.before.before.before.read_number.ensures ∙ ap number_says v.1 ∙ ap (λ (b : Bool). number v.0.0 b v.0.1.0) c.if1.true in
     let w = number_within x.text.now 0 l.at false e in (
-      ap (λ (o : Read). line_out o (length x.text.now)) (sym (line-last x.text.now l.numbers l.at l.count c.before.before.before.before.before.loop-test.true e) ∙ l.invariant.2),
+      ap (λ (o : Read). line_out o (length x.text.now)) (sym (line_last x.text.now l.numbers l.at l.count c.before.before.before.before.before.loop-test.true e) ∙ l.invariant.2),
       λ h. (omega (arith, w.0, l.invariant.0), w.1),
     )
 
@@ -73,7 +73,7 @@ returns-2 c =
     let x = c.before.before.before.before.before.before.before.args in
     let l = c.before.before.before.before.before.loop in
     let e = sym c.before.before.before.read_number.ensures ∙ ap number_says c.before.enum_told.given.1 in
-    let u = sym (line-off x.text.now l.numbers l.at l.count c.before.before.before.before.loop-test.true e) ∙ l.invariant.2 in
+    let u = sym (line_off x.text.now l.numbers l.at l.count c.before.before.before.before.loop-test.true e) ∙ l.invariant.2 in
     unread_out x.text.now x.from u c.no_line.ensures
 
 no-line-requires-2 : tie.Need-no-line-requires-2 invariant-loop decreases-loop
@@ -83,7 +83,7 @@ returns-3 : tie.Need-returns-3 invariant-loop decreases-loop
 returns-3 c =
     let x = c.before.before.before.before.args in
     let l = c.before.before.loop in
-    unread_out x.text.now x.from (sym (line-full x.text.now l.numbers l.at l.count c.before.loop-test.false) ∙ l.invariant.2) c.no-line2.ensures
+    unread_out x.text.now x.from (sym (line_full x.text.now l.numbers l.at l.count c.before.loop-test.false) ∙ l.invariant.2) c.no-line2.ensures
 
 pub read-line-spec : {M : Type 1} → statement M
 read-line-spec =

@@ -9,7 +9,7 @@ use Rattle.util_defs.specs.Width.{M}
 use lib.Dec.{ltb}
 use lib.ListN.{length, drop}
 use Rattle.recorded_defs.specs.Lines.{number_from}
-use Rattle.recorded_defs.proofs.Reading.{number-ends, number-passes, number-on, number_over}
+use Rattle.recorded_defs.proofs.Reading.{number_ends, number_passes, number_on, number_over}
 use borrow.Author.Rules.{rules}
 use Rattle.recorded.proofs.read_number.Statement.{statement}
 use Rattle.recorded.proofs.read_number.Tie as tie
@@ -40,7 +40,7 @@ returns c =
     let x = c.before.before.before.before.before.before.before.args in
     let l = c.before.before.before.before.before.loop in
     c.end_of_lem.ensures
-    ∙ sym (number-ends x.text.now l.value l.at (ltb x.from l.at) c.before.before.before.before.loop-test.true c.before.before.digit.ensures c.before.if1.true)
+    ∙ sym (number_ends x.text.now l.value l.at (ltb x.from l.at) c.before.before.before.before.loop-test.true c.before.before.digit.ensures c.before.if1.true)
     ∙ l.invariant.1
 
 sub-if2 : tie.Need-overflow-sub-if2 invariant-loop decreases-loop
@@ -50,7 +50,7 @@ returns-2 : tie.Need-returns-2 invariant-loop decreases-loop
 returns-2 c =
     let x = c.before.before.before.before.before.before.before.args in
     let l = c.before.before.before.before.before.loop in
-    sym (number-passes x.text.now l.value l.at (ltb x.from l.at) c.before.before.before.before.loop-test.true c.before.before.digit.ensures c.before.if1.false (omega (arith, c.if2.true)))
+    sym (number_passes x.text.now l.value l.at (ltb x.from l.at) c.before.before.before.before.loop-test.true c.before.before.digit.ensures c.before.if1.false (omega (arith, c.if2.true)))
     ∙ l.invariant.1
 
 mul-value : tie.Need-overflow-mul-value invariant-loop decreases-loop
@@ -72,7 +72,7 @@ loop-again c =
     let d = c.before.before.digit in
     let b : l.value * 10 + d.result ≤ M 64 = omega (arith, c.if2.false) in
     let t : ltb x.from (l.at + 1) ≡ true = lt-ltb x.from (l.at + 1) (omega (arith, l.invariant.0)) in
-    (omega arith, rw t (sym (number-on x.text.now l.value l.at (ltb x.from l.at) c.before.before.before.before.loop-test.true d.ensures c.before.if1.false b) ∙ l.invariant.1))
+    (omega arith, rw t (sym (number_on x.text.now l.value l.at (ltb x.from l.at) c.before.before.before.before.loop-test.true d.ensures c.before.if1.false b) ∙ l.invariant.1))
 
 returns-3 : tie.Need-returns-3 invariant-loop decreases-loop
 returns-3 c =

@@ -3,7 +3,7 @@ use mathlib.Core.Path.{◌≡◌, sym, ◌∙◌}
 use native.Mathlib.Omega.{arith}
 use lib.ListN.{length}
 use Rattle.rewrite.specs.View.{way_of}
-use Rattle.rewrite.proofs.Ways.{turned-room, puts-turned, kept-room, puts-kept}
+use Rattle.rewrite.proofs.Ways.{turned_room, puts_turned, kept_room, puts_kept}
 use borrow.Author.Rules.{rules}
 use Rattle.rewrite.proofs.put_head.Statement.{statement}
 use Rattle.rewrite.proofs.put_head.Tie as tie
@@ -15,19 +15,19 @@ turns-requires : tie.Need-turns-requires
 turns-requires c κs = search rules
 
 put-struct-requires : tie.Need-put-struct-requires
-put-struct-requires c κs = turned-room (way_of c.before.before.before.before.before.before.args.long) c.before.before.before.before.before.before.args.s.now c.before.before.before.before.before.before.args.out.now c.before.before.before.before.before.before.args.at c.before.before.before.before.before.before.args.to c.before.before.before.before.before.before.requires.0 (sym c.before.before.turns.ensures ∙ c.before.if1.true) (length c.before.before.before.before.before.before.args.out.now) c.before.before.before.before.before.before.requires.1
+put-struct-requires c κs = turned_room (way_of c.before.before.before.before.before.before.args.long) c.before.before.before.before.before.before.args.s.now c.before.before.before.before.before.before.args.out.now c.before.before.before.before.before.before.args.at c.before.before.before.before.before.before.args.to c.before.before.before.before.before.before.requires.0 (sym c.before.before.turns.ensures ∙ c.before.if1.true) (length c.before.before.before.before.before.before.args.out.now) c.before.before.before.before.before.before.requires.1
 
 same_length : tie.Need-same-length
 same_length c = search rules
 
 returns : tie.Need-returns
-returns c = puts-turned (way_of c.before.before.before.before.before.before.before.before.before.args.long) c.before.before.before.before.before.before.before.before.before.args.s.now c.before.before.before.before.before.before.before.before.before.args.out.now c.before.before.before.before.before.before.before.before.before.args.at c.before.before.before.before.before.before.before.before.before.args.to c.before.before.before.before.before.before.before.before.before.requires.0 (sym c.before.before.before.before.before.turns.ensures ∙ c.before.before.before.before.if1.true) c.before.before.put-struct.ensures
+returns c = puts_turned (way_of c.before.before.before.before.before.before.before.before.before.args.long) c.before.before.before.before.before.before.before.before.before.args.s.now c.before.before.before.before.before.before.before.before.before.args.out.now c.before.before.before.before.before.before.before.before.before.args.at c.before.before.before.before.before.before.before.before.before.args.to c.before.before.before.before.before.before.before.before.before.requires.0 (sym c.before.before.before.before.before.turns.ensures ∙ c.before.before.before.before.if1.true) c.before.before.put-struct.ensures
 
 head-bytes-requires : tie.Need-head-bytes-requires
 head-bytes-requires c κs = search rules
 
 copy-requires : tie.Need-copy-requires
-copy-requires c κs = kept-room (way_of c.before.before.before.before.before.before.before.args.long) c.before.before.before.before.before.before.before.args.s.now c.before.before.before.before.before.before.before.args.out.now c.before.before.before.before.before.before.before.args.at c.before.before.before.before.before.before.before.args.to c.before.before.before.before.before.before.before.requires.0 (sym c.before.before.before.turns.ensures ∙ c.before.before.if1.false) c.before.head_bytes.ensures (length c.before.before.before.before.before.before.before.args.out.now) c.before.before.before.before.before.before.before.requires.1
+copy-requires c κs = kept_room (way_of c.before.before.before.before.before.before.before.args.long) c.before.before.before.before.before.before.before.args.s.now c.before.before.before.before.before.before.before.args.out.now c.before.before.before.before.before.before.before.args.at c.before.before.before.before.before.before.before.args.to c.before.before.before.before.before.before.before.requires.0 (sym c.before.before.before.turns.ensures ∙ c.before.before.if1.false) c.before.head_bytes.ensures (length c.before.before.before.before.before.before.before.args.out.now) c.before.before.before.before.before.before.before.requires.1
 
 add-result : tie.Need-overflow-add-result
 add-result c = search rules
@@ -36,7 +36,7 @@ same-length-2 : tie.Need-same-length-2
 same-length-2 c = search rules
 
 returns-2 : tie.Need-returns-2
-returns-2 c = puts-kept (way_of c.before.before.before.before.before.before.before.before.before.before.args.long) c.before.before.before.before.before.before.before.before.before.before.args.s.now c.before.before.before.before.before.before.before.before.before.before.args.out.now c.before.before.before.before.before.before.before.before.before.before.args.at c.before.before.before.before.before.before.before.before.before.before.args.to c.before.before.before.before.before.before.before.before.before.before.requires.0 (sym c.before.before.before.before.before.before.turns.ensures ∙ c.before.before.before.before.before.if1.false) c.before.before.before.before.head_bytes.ensures c.before.before.copy.ensures
+returns-2 c = puts_kept (way_of c.before.before.before.before.before.before.before.before.before.before.args.long) c.before.before.before.before.before.before.before.before.before.before.args.s.now c.before.before.before.before.before.before.before.before.before.before.args.out.now c.before.before.before.before.before.before.before.before.before.before.args.at c.before.before.before.before.before.before.before.before.before.before.args.to c.before.before.before.before.before.before.before.before.before.before.requires.0 (sym c.before.before.before.before.before.before.turns.ensures ∙ c.before.before.before.before.before.if1.false) c.before.before.before.before.head_bytes.ensures c.before.before.copy.ensures
 
 pub put-head-spec : {M : Type 1} → statement M
 put-head-spec =

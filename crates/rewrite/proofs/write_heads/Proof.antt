@@ -4,7 +4,7 @@ use Prim.Native.Nat.{◌+◌, ◌-◌}
 use native.Mathlib.Omega.{arith}
 use lib.ListN.{length}
 use Rattle.rewrite.specs.View.{way_of}
-use Rattle.rewrite.proofs.Loops.{Writing, write-begins, write-room, write-on, write-length, write-ends}
+use Rattle.rewrite.proofs.Loops.{Writing, write_begins, write_room, write_on, write_length, write_ends}
 use Rattle.rewrite.proofs.write_heads.Statement.{statement}
 use Rattle.rewrite.proofs.write_heads.Tie as tie
 
@@ -15,10 +15,10 @@ abbrev decreases-loop : tie.decreases-loop
 decreases-loop s out₀ long at₀ to₀ out at to = length s - at
 
 loop-holds : tie.Need-loop-init invariant-loop decreases-loop
-loop-holds c = write-begins (way_of c.before.before.args.long) c.before.before.args.s.now c.before.before.args.out.now c.before.before.requires.0
+loop-holds c = write_begins (way_of c.before.before.args.long) c.before.before.args.s.now c.before.before.args.out.now c.before.before.requires.0
 
 put-head-requires : tie.Need-put-head-requires invariant-loop decreases-loop
-put-head-requires c κs = write-room (way_of c.before.before.before.before.before.args.long) c.before.before.before.before.before.args.s.now c.before.before.before.before.before.args.out.now c.before.before.loop.invariant c.before.before.before.before.before.requires.1 c.before.loop-test.true
+put-head-requires c κs = write_room (way_of c.before.before.before.before.before.args.long) c.before.before.before.before.before.args.s.now c.before.before.before.before.before.args.out.now c.before.before.loop.invariant c.before.before.before.before.before.requires.1 c.before.loop-test.true
 
 shared-slice-read-head-bytes : tie.Need-shared-slice-read-head-bytes invariant-loop decreases-loop
 shared-slice-read-head-bytes c = c.before.before.before.before.before.loop-test.true
@@ -27,19 +27,19 @@ head-bytes-requires : tie.Need-head-bytes-requires invariant-loop decreases-loop
 head-bytes-requires c κs = tt
 
 add_at : tie.Need-overflow-add-at invariant-loop decreases-loop
-add_at c = omega (arith, c.head_bytes.ensures, (write-room (way_of c.before.before.before.before.before.before.before.before.before.before.args.long) c.before.before.before.before.before.before.before.before.before.before.args.s.now c.before.before.before.before.before.before.before.before.before.before.args.out.now c.before.before.before.before.before.before.before.loop.invariant c.before.before.before.before.before.before.before.before.before.before.requires.1 c.before.before.before.before.before.before.loop-test.true).0.1, c.before.before.before.before.before.before.before.before.before.before.well-formed.0.0)
+add_at c = omega (arith, c.head_bytes.ensures, (write_room (way_of c.before.before.before.before.before.before.before.before.before.before.args.long) c.before.before.before.before.before.before.before.before.before.before.args.s.now c.before.before.before.before.before.before.before.before.before.before.args.out.now c.before.before.before.before.before.before.before.loop.invariant c.before.before.before.before.before.before.before.before.before.before.requires.1 c.before.before.before.before.before.before.loop-test.true).0.1, c.before.before.before.before.before.before.before.before.before.before.well-formed.0.0)
 
 loop-less : tie.Need-loop-smaller invariant-loop decreases-loop
-loop-less c = omega (arith, c.head_bytes.ensures, (write-room (way_of c.before.before.before.before.before.before.before.before.before.before.args.long) c.before.before.before.before.before.before.before.before.before.before.args.s.now c.before.before.before.before.before.before.before.before.before.before.args.out.now c.before.before.before.before.before.before.before.loop.invariant c.before.before.before.before.before.before.before.before.before.before.requires.1 c.before.before.before.before.before.before.loop-test.true).0.1, c.before.before.before.before.before.before.loop-test.true)
+loop-less c = omega (arith, c.head_bytes.ensures, (write_room (way_of c.before.before.before.before.before.before.before.before.before.before.args.long) c.before.before.before.before.before.before.before.before.before.before.args.s.now c.before.before.before.before.before.before.before.before.before.before.args.out.now c.before.before.before.before.before.before.before.loop.invariant c.before.before.before.before.before.before.before.before.before.before.requires.1 c.before.before.before.before.before.before.loop-test.true).0.1, c.before.before.before.before.before.before.loop-test.true)
 
 loop-again : tie.Need-loop-preserved invariant-loop decreases-loop
-loop-again c = write-on (way_of c.before.before.before.before.before.before.before.before.before.before.args.long) c.before.before.before.before.before.before.before.before.before.before.args.s.now c.before.before.before.before.before.before.before.before.before.before.args.out.now c.before.before.before.before.before.before.before.loop.invariant c.before.before.before.before.before.before.before.before.before.before.requires.1 c.before.before.before.before.before.before.loop-test.true c.before.before.before.before.put-head.ensures c.head_bytes.ensures
+loop-again c = write_on (way_of c.before.before.before.before.before.before.before.before.before.before.args.long) c.before.before.before.before.before.before.before.before.before.before.args.s.now c.before.before.before.before.before.before.before.before.before.before.args.out.now c.before.before.before.before.before.before.before.loop.invariant c.before.before.before.before.before.before.before.before.before.before.requires.1 c.before.before.before.before.before.before.loop-test.true c.before.before.before.before.put-head.ensures c.head_bytes.ensures
 
 same_length : tie.Need-same-length invariant-loop decreases-loop
-same_length c = write-length (way_of c.before.before.before.before.args.long) c.before.before.before.before.args.s.now c.before.before.before.before.args.out.now c.before.loop.invariant c.before.before.before.before.requires.1
+same_length c = write_length (way_of c.before.before.before.before.args.long) c.before.before.before.before.args.s.now c.before.before.before.before.args.out.now c.before.loop.invariant c.before.before.before.before.requires.1
 
 returns : tie.Need-returns invariant-loop decreases-loop
-returns c = write-ends (way_of c.before.before.before.before.args.long) c.before.before.before.before.args.s.now c.before.before.before.before.args.out.now c.before.loop.invariant c.before.before.before.before.requires.1 c.loop-test.false
+returns c = write_ends (way_of c.before.before.before.before.args.long) c.before.before.before.before.args.s.now c.before.before.before.before.args.out.now c.before.loop.invariant c.before.before.before.before.requires.1 c.loop-test.false
 
 pub write-heads-spec : {M : Type 1} → statement M
 write-heads-spec =

@@ -4,7 +4,7 @@ use native.Mathlib.Omega.{arith}
 use Rattle.util_defs.specs.Placed.{Placed, reached, go_on}
 use Rattle.trailing32.specs.View.{trailing_of32}
 use Rattle.share_defs.specs.Share.{Share}
-use Rattle.share_defs.proofs.Meaning.{sums-some}
+use Rattle.share_defs.proofs.Meaning.{sums_some}
 use Rattle.share_defs.proofs.Told.{share_of_sums, share_told}
 use Rattle.share.specs.View.{low_share}
 use Rattle.share.proofs.Narrowed.{share_low}
@@ -16,7 +16,7 @@ sums-of-counts32-requires : tie.Need-sums-of-counts32-requires
 sums-of-counts32-requires c κs = search rules
 
 share-of-sums-requires : tie.Need-share-of-sums-requires
-share-of-sums-requires c κs = λ x e. sums-some 32 (trailing_of32 c.before.before.args.layout) c.before.before.args.counts.now {x = x} (sym c.sums-of-counts32.ensures ∙ e)
+share-of-sums-requires c κs = λ x e. sums_some 32 (trailing_of32 c.before.before.args.layout) c.before.before.args.counts.now {x = x} (sym c.sums-of-counts32.ensures ∙ e)
 
 low-answer-requires : tie.Need-low-answer-requires
 low-answer-requires c κs = search rules

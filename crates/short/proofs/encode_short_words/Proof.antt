@@ -11,7 +11,7 @@ use Rattle.record_defs.proofs.RoundTrips.{words_kept, words_accepted}
 use Rattle.record.specs.View.{words_in}
 use Rattle.short_defs.specs.Short.{Short, short_bytes, short_of}
 use Rattle.short_defs.proofs.Fields.{Holds}
-use Rattle.short_defs.proofs.Told.{encode-short-own, encode-short-above, encode-short-on, encode_short_length, short_written, short_kept, checked_power, words_align, short_held}
+use Rattle.short_defs.proofs.Told.{encode_short_own, encode_short_above, encode_short_on, encode_short_length, short_written, short_kept, checked_power, words_align, short_held}
 use borrow.Author.Rules.{rules}
 use Rattle.short.proofs.encode_short_words.Statement.{statement}
 use Rattle.short.proofs.encode_short_words.Tie as tie
@@ -41,13 +41,13 @@ same_length : tie.Need-same-length
 same_length c = search rules
 
 returns : tie.Need-returns
-returns c = let r = words_in c.before.before.before.before.before.before.before.before.before.before.before.before.before.before.args.w in let s = c.before.before.before.before.before.before.before.before.before.before.before.before.before.before.args.out.now in let e = told_by layout_says c.before.before.before.before.before.before.before.before.before.before.before.layout-from-words.ensures.0 c.before.before.before.before.before.before.before.before.before.l.given.1 in let o = encode-short-on r (length s) c.before.before.before.before.before.before.before.before.before.before.before.before.if1.true e (sym c.before.before.before.before.before.before.before.fits-short.ensures ∙ c.before.before.before.before.before.before.if2.true) in (sym o, c.before.before.put_short_lem.ensures ∙ ap (λ (z : Short). sets s 0 (short_bytes z)) (c.before.before.before.short-of.ensures ∙ ap short_of (c.before.before.before.before.words-from-layout.ensures ∙ words_kept 64 r e)) ∙ short_written r s c.before.before.before.before.before.before.before.before.before.before.before.before.if1.true o)
+returns c = let r = words_in c.before.before.before.before.before.before.before.before.before.before.before.before.before.before.args.w in let s = c.before.before.before.before.before.before.before.before.before.before.before.before.before.before.args.out.now in let e = told_by layout_says c.before.before.before.before.before.before.before.before.before.before.before.layout-from-words.ensures.0 c.before.before.before.before.before.before.before.before.before.l.given.1 in let o = encode_short_on r (length s) c.before.before.before.before.before.before.before.before.before.before.before.before.if1.true e (sym c.before.before.before.before.before.before.before.fits-short.ensures ∙ c.before.before.before.before.before.before.if2.true) in (sym o, c.before.before.put_short_lem.ensures ∙ ap (λ (z : Short). sets s 0 (short_bytes z)) (c.before.before.before.short-of.ensures ∙ ap short_of (c.before.before.before.before.words-from-layout.ensures ∙ words_kept 64 r e)) ∙ short_written r s c.before.before.before.before.before.before.before.before.before.before.before.before.if1.true o)
 
 returns-2 : tie.Need-returns-2
-returns-2 c = let r = words_in c.before.before.before.before.before.before.before.before.args.w in let s = c.before.before.before.before.before.before.before.before.args.out.now in let o = encode-short-above r (length s) c.before.before.before.before.before.before.if1.true (told_by layout_says c.before.before.before.before.before.layout-from-words.ensures.0 c.before.before.before.l.given.1) (sym c.before.fits-short.ensures ∙ c.if2.false) in (sym o, short_kept r s o)
+returns-2 c = let r = words_in c.before.before.before.before.before.before.before.before.args.w in let s = c.before.before.before.before.before.before.before.before.args.out.now in let o = encode_short_above r (length s) c.before.before.before.before.before.before.if1.true (told_by layout_says c.before.before.before.before.before.layout-from-words.ensures.0 c.before.before.before.l.given.1) (sym c.before.fits-short.ensures ∙ c.if2.false) in (sym o, short_kept r s o)
 
 returns-3 : tie.Need-returns-3
-returns-3 c = let r = words_in c.before.before.before.before.before.before.args.w in let s = c.before.before.before.before.before.before.args.out.now in let o = encode-short-own r (length s) c.before.before.before.before.if1.true (told_by layout_says c.before.before.before.layout-from-words.ensures.0 c.before.number.given.1) in (sym o, short_kept r s o)
+returns-3 c = let r = words_in c.before.before.before.before.before.before.args.w in let s = c.before.before.before.before.before.before.args.out.now in let o = encode_short_own r (length s) c.before.before.before.before.if1.true (told_by layout_says c.before.before.before.layout-from-words.ensures.0 c.before.number.given.1) in (sym o, short_kept r s o)
 
 returns-4 : tie.Need-returns-4
 returns-4 c = let r = words_in c.before.before.args.w in let s = c.before.before.args.out.now in let o = encode_short_length r (length s) c.if1.false in (sym o, short_kept r s o)

@@ -1,0 +1,29 @@
+-- `sums::add_count` meets its contract. Assumes nothing.
+use mathlib.Core.Path.{sym}
+use Prim.Native.Nat.{◌-◌, ◌*◌}
+use native.Mathlib.Omega.{arith}
+use Rattle.util.proofs.Told.{product_told, product_past}
+use Rattle.trailing.specs.View.{trailing_of}
+use Rattle.share_defs.proofs.Told.{most_within, first_size, count_past, add_no_size}
+use Rattle.sums.specs.View.{sums_of, bits_to}
+use Rattle.sums.proofs.add_count.Goals as goal
+
+pub returns-in_default : goal.returns-in_default
+returns-in_default c = let x = c.args in
+    let t = trailing_of x.l.layout in
+    let w = bits_to x.l.max in
+    let o = product_past 64 (x.count * t.elem) c.checked_mul.result c.checked_mul.ensures c.in_default.is in
+    sym (add_no_size w t x.i x.count (sums_of x.x) (first_size w t c.requires.0.1.0 c.requires.0.0.1 c.requires.0.1.1) (count_past w t c.requires.0.1.0 c.requires.0.0.1 c.requires.0.1.1 x.count (omega (arith, most_within w t c.requires.0.1.0 c.requires.0.0.1 c.requires.0.1.1, c.requires.0.0.0))))
+
+pub returns-then-bytes-l : goal.returns-then-bytes-l
+returns-then-bytes-l c = let x = c.args in
+    let t = trailing_of x.l.layout in
+    let w = bits_to x.l.max in
+    let o = product_told 64 (x.count * t.elem) c.checked_mul.result c.checked_mul.ensures c.in-Fits.is in
+    sym (add_no_size w t x.i x.count (sums_of x.x) (first_size w t c.requires.0.1.0 c.requires.0.0.1 c.requires.0.1.1) (count_past w t c.requires.0.1.0 c.requires.0.0.1 c.requires.0.1.1 x.count (omega (arith, o.0))))
+
+pub returns : goal.returns
+returns c = let x = c.args in
+    let t = trailing_of x.l.layout in
+    let o = product_told 64 (x.count * t.elem) c.checked_mul.result c.checked_mul.ensures c.in-Fits.is in
+    c.add_bytes.ensures x.count o.0

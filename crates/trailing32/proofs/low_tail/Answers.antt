@@ -1,0 +1,6 @@
+-- `trailing32::low_tail` meets its contract. Assumes nothing.
+
+use Rattle.trailing32.proofs.low_tail.Goals as goal
+
+pub returns : goal.returns
+returns c = simp (c.low_word.ensures, c.low_word-2.ensures, c.low_word-3.ensures, c.low_word-4.ensures)
