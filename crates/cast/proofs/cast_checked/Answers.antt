@@ -1,0 +1,110 @@
+-- `cast::cast_checked` meets its contract. Assumes nothing.
+use mathlib.Core.Path.{◌≡◌, refl, sym, ap, ap₂, ◌∙◌, subst}
+use mathlib.Core.Bool.{Bool, false}
+use mathlib.Core.List.{[], ◌∷◌}
+use Prim.Native.Nat.{ℕ, ◌+◌, ◌-◌, ◌%◌, ◌^◌, ◌≤◌}
+use lib.Bits.{bit_and}
+use lib.Dec.{lit<}
+use borrow.Author.Tests.{lt-ltb, le-ltb, eq-eqb, ne_eqb}
+use native.Mathlib.Omega.{arith}
+use Rattle.util_defs.specs.Power.{PowerOfTwo}
+use Rattle.util_defs.specs.Refusal.{Outcome, answered, refused, unless}
+use Rattle.util_defs.proofs.Refusals.{no}
+use Rattle.util_defs.proofs.Tables.{told_by, refused_as, accepted_as}
+use Rattle.util_defs.proofs.Powers.{positive}
+use Rattle.util_defs.proofs.Masks.{mask_mod}
+use Rattle.util_defs.proofs.Helpers.{power}
+use Rattle.trailing.specs.View.{trailing_of}
+use Rattle.layout_defs.specs.Layout.{fixed, trailing, no_word}
+use Rattle.layout.specs.declared.SizeInfo.{SizeInfo}
+use Rattle.layout.specs.View.{info_of, layout_of}
+use Rattle.cast_defs.specs.Cast.{Grant, elem_zero, prefix, tested_address, split_at, is_elem_zero, too_small, bytes_causes, greatest_grant}
+use Rattle.cast.specs.View.{side_of, cast_says}
+use Rattle.cast_defs.proofs.Grants.{elem_decided}
+use Rattle.cast.proofs.Told.{fit_told, fit_within}
+use Rattle.cast.proofs.cast_checked.Goals as goal
+use Rattle.cast.proofs.cast_checked.Goals.{Start}
+
+aligned : (k : Start) → PowerOfTwo k.args.layout.align
+aligned k = power 64 k.args.layout.align (omega arith) k.requires.0
+
+abbrev tested : Start → ℕ
+tested k = tested_address (side_of k.args.cast-type) k.args.addr k.args.len
+
+-- the mask of an aligned address
+straight : (k : Start) (v : ℕ) → v ≡ tested k → bit_and v (k.args.layout.align - 1) ≡ 0 → tested k % k.args.layout.align ≡ 0
+straight k v e z = ap (λ (x : ℕ). x % k.args.layout.align) (sym e) ∙ sym (mask_mod v (aligned k)) ∙ z
+
+-- past the tests of 10, 11 and 12 only the size is left
+passed : (k : Start) {b : Bool} → b ≡ false → b ≡ is_elem_zero (info_of k.args.layout.size_info) → k.args.addr + k.args.len ≤ 2 ^ 64 - 1
+    → tested k % k.args.layout.align ≡ 0
+    → let i = info_of k.args.layout.size_info in
+    let side = side_of k.args.cast_type in
+    unless (bytes_causes 64 (layout_of k.args.layout) side k.args.addr k.args.len) (greatest_grant 64 i side k.args.len)
+    ≡ unless (too_small 64 i k.args.len ∷ []) (greatest_grant 64 i side k.args.len)
+unfolding unless
+passed k f e l z = simp (sym e ∙ f, le-ltb (2 ^ 64 - 1) (k.args.addr + k.args.len) l, eq-eqb (tested k % k.args.layout.align) 0 z)
+
+-- what is left to say of a size
+abbrev says : Start → SizeInfo → Outcome Grant
+says k i = unless (too_small 64 (info_of i) k.args.len ∷ []) (greatest_grant 64 (info_of i) (side_of k.args.cast-type) k.args.len)
+
+pub returns-then-elem_size_zero : goal.returns-then-elem_size_zero
+unfolding unless
+returns-then-elem_size_zero c = simp (sym c.elem_size_zero.ensures ∙ c.if-elem_size_zero.true)
+
+pub returns-then-addr-len : goal.returns-then-addr-len
+unfolding unless
+returns-then-addr-len c =
+    simp (sym c.elem_size_zero.ensures ∙ c.if-elem_size_zero.false, lt-ltb (2 ^ 64 - 1) (c.args.addr + c.args.len) (omega arith))
+
+pub overflow_sub-layout : goal.overflow_sub-layout
+overflow_sub-layout c = positive (aligned c.before.before.before.before.before)
+
+pub returns-then-tested_address-layout-ne0 : goal.returns-then-tested_address-layout-ne0
+unfolding unless
+returns-then-tested_address-layout-ne0 c =
+    let n : tested c.before.before.before.before.before.before % c.args.layout.align ≡ 0 → ⊥ = λ z. c.if-tested_address-layout-ne0.true (mask_mod c.tested_address.result (aligned c.before.before.before.before.before.before) ∙ ap (λ (x : ℕ). x % c.args.layout.align) c.tested_address.ensures ∙ z) in
+    simp (sym c.elem_size_zero.ensures ∙ c.if-elem_size_zero.false, le-ltb (2 ^ 64 - 1) (c.args.addr + c.args.len) (omega arith), ne_eqb (tested c.before.before.before.before.before.before % c.args.layout.align) 0 n)
+
+pub fit_trailing-requires : goal.fit_trailing-requires
+fit_trailing-requires c =
+    let g = c.in-SliceDst.is in
+    let w = subst (λ (i : SizeInfo). (no_word (info_of i)).means → ⊥) g c.requires.1.0 in
+    let z = subst (λ (i : SizeInfo). (elem_zero (info_of i)).means → ⊥) g (no (elem_decided (info_of c.args.layout.size_info)) (sym c.elem_size_zero.ensures ∙ c.if-elem_size_zero.false)) in
+    (omega (arith, w), omega (arith, z))
+
+pub split_around-requires-in-Granted : goal.split_around-requires-in-Granted
+split_around-requires-in-Granted c =
+    let g = c.in-SliceDst.is in
+    let w = subst (λ (i : SizeInfo). (no_word (info_of i)).means → ⊥) g c.requires.1.0 in
+    let z = subst (λ (i : SizeInfo). (elem_zero (info_of i)).means → ⊥) g (no (elem_decided (info_of c.args.layout.size_info)) (sym c.elem_size_zero.ensures ∙ c.if-elem_size_zero.false)) in
+    fit_within 64 (trailing (trailing_of c.in-SliceDst.tail)) c.args.len c.fit_trailing.result c.fit_trailing.ensures c.in-Granted.is (lit< tt) w z
+
+pub returns-then-size-len : goal.returns-then-size-len
+unfolding unless
+returns-then-size-len c =
+    let s = c.in-Sized.size in
+    let u : refused 13 ≡ unless (too_small 64 (fixed s) c.args.len ∷ []) (greatest_grant 64 (fixed s) (side_of c.args.cast_type) c.args.len) = simp (lt-ltb c.args.len s c.if-size-len.true) (refl) in
+    u ∙ ap (says c.before.before.before.before.before.before.before.before) (sym c.in-Sized.is) ∙ sym (passed c.before.before.before.before.before.before.before.before c.if-elem_size_zero.false c.elem_size_zero.ensures (omega arith) (straight c.before.before.before.before.before.before.before.before c.tested_address.result c.tested_address.ensures c.if-tested_address-layout-ne0.false))
+
+pub returns-else-size-len : goal.returns-else-size-len
+unfolding unless
+returns-else-size-len c =
+    let s = c.in-Sized.size in
+    let u : answered (record { count = 0; split = split_at (side_of c.args.cast_type) c.args.len s }) ≡ unless (too_small 64 (fixed s) c.args.len ∷ []) (greatest_grant 64 (fixed s) (side_of c.args.cast_type) c.args.len) = simp (le-ltb c.args.len s c.if-size-len.false) (refl) in
+    ap (λ (x : ℕ). answered (record { count = 0; split = x })) c.split_around.ensures ∙ u ∙ ap (says c.before.before.before.before.before.before.before.before.before) (sym c.in-Sized.is) ∙ sym (passed c.before.before.before.before.before.before.before.before.before c.if-elem_size_zero.false c.elem_size_zero.ensures (omega arith) (straight c.before.before.before.before.before.before.before.before.before c.tested_address.result c.tested_address.ensures c.if-tested_address-layout-ne0.false))
+
+pub returns-in-Granted : goal.returns-in-Granted
+returns-in-Granted c =
+    let i = trailing (trailing_of c.in-SliceDst.tail) in
+    let f = fit_told 64 i c.args.len c.fit_trailing.result c.fit_trailing.ensures c.in-Granted.is in
+    let ok = accepted_as (too_small 64 i c.args.len ∷ []) (greatest_grant 64 i prefix c.args.len) (greatest_grant 64 i (side_of c.args.cast_type) c.args.len) (told_by cast_says c.fit_trailing.ensures c.in-Granted.is) in
+    ap₂ (λ (n s : ℕ). answered (record { count = n; split = s })) f.0 (c.split_around-in-Granted.ensures ∙ ap (split_at (side_of c.args.cast_type) c.args.len) f.1)
+    ∙ sym ok ∙ ap (says c.before.before.before.before.before.before.before.before.before.before) (sym c.in-SliceDst.is) ∙ sym (passed c.before.before.before.before.before.before.before.before.before.before c.if-elem_size_zero.false c.elem_size_zero.ensures (omega arith) (straight c.before.before.before.before.before.before.before.before.before.before c.tested_address.result c.tested_address.ensures c.if-tested_address-layout-ne0.false))
+
+pub returns-in-Refused : goal.returns-in-Refused
+returns-in-Refused c =
+    let i = trailing (trailing_of c.in-SliceDst.tail) in
+    let ok = refused_as (too_small 64 i c.args.len ∷ []) (greatest_grant 64 i prefix c.args.len) (greatest_grant 64 i (side_of c.args.cast_type) c.args.len) (told_by cast_says c.fit_trailing.ensures c.in-Refused.is) in
+    sym ok ∙ ap (says c.before.before.before.before.before.before.before.before.before) (sym c.in-SliceDst.is) ∙ sym (passed c.before.before.before.before.before.before.before.before.before c.if-elem_size_zero.false c.elem_size_zero.ensures (omega arith) (straight c.before.before.before.before.before.before.before.before.before c.tested_address.result c.tested_address.ensures c.if-tested_address-layout-ne0.false))

@@ -1,0 +1,44 @@
+-- `cast::metadata_for_exact_size` meets its contract. Assumes nothing.
+use mathlib.Core.Path.{sym, ◌∙◌}
+use mathlib.Core.List.{[], ◌∷◌}
+use lib.Dec.{lit<}
+use native.Mathlib.Omega.{arith}
+use Rattle.util_defs.proofs.Tables.{told_by, refused_first, accepted_first, accepted_none}
+use Rattle.layout_defs.specs.Layout.{layout_causes, check_for}
+use Rattle.layout.specs.View.{layout_of, check_says}
+use Rattle.layout_defs.proofs.Layouts.{layout_decided}
+use Rattle.cast_defs.specs.Cast.{count_in}
+use Rattle.cast_defs.specs.Exact.{no_exact, exact_for}
+use Rattle.cast_defs.proofs.Exact.{exact_meets}
+use Rattle.util_defs.proofs.Refusals.{means}
+use Rattle.cast.proofs.metadata_for_exact_size.Goals as goal
+
+pub exact_checked-requires : goal.exact_checked-requires
+unfolding check_for
+exact_checked-requires c = let l = layout_of c.args.layout in accepted_none (layout_causes 64 l) tt (layout_decided 64 l (omega arith)) (told_by check_says c.check.ensures.answer c.in-Accepted.is)
+
+pub returns-in-Accepted-clause-answer : goal.returns-in-Accepted-clause-answer
+unfolding exact_for check_for
+returns-in-Accepted-clause-answer c =
+    let l = layout_of c.args.layout in
+    let cs = no_exact 64 l c.args.size ∷ [] in
+    let n = count_in 64 l.info c.args.size in c.exact_checked.ensures ∙ sym (accepted_first (layout_causes 64 l) cs tt n (told_by check_says c.check.ensures.answer c.in-Accepted.is))
+
+pub returns-in-Accepted-clause-meaning : goal.returns-in-Accepted-clause-meaning
+returns-in-Accepted-clause-meaning c =
+    let l = layout_of c.args.layout in
+    let cs = no_exact 64 l c.args.size ∷ [] in
+    let n = count_in 64 l.info c.args.size in means (exact_meets 64 l c.args.size (omega arith) (lit< tt)) (returns-in-Accepted-clause-answer c)
+
+pub returns-in-Refused-clause-answer : goal.returns-in-Refused-clause-answer
+unfolding exact_for check_for
+returns-in-Refused-clause-answer c =
+    let l = layout_of c.args.layout in
+    let cs = no_exact 64 l c.args.size ∷ [] in
+    let n = count_in 64 l.info c.args.size in sym (refused_first (layout_causes 64 l) cs tt n (told_by check_says c.check.ensures.answer c.in-Refused.is))
+
+pub returns-in-Refused-clause-meaning : goal.returns-in-Refused-clause-meaning
+returns-in-Refused-clause-meaning c =
+    let l = layout_of c.args.layout in
+    let cs = no_exact 64 l c.args.size ∷ [] in
+    let n = count_in 64 l.info c.args.size in means (exact_meets 64 l c.args.size (omega arith) (lit< tt)) (returns-in-Refused-clause-answer c)

@@ -1,0 +1,47 @@
+-- `cast::validate_cast_and_convert_metadata` meets its contract. Assumes nothing.
+use mathlib.Core.Path.{sym, ◌∙◌}
+use lib.Dec.{lit<}
+use native.Mathlib.Omega.{arith}
+use Rattle.util_defs.proofs.Tables.{told_by, refused_first, accepted_first, accepted_none}
+use Rattle.layout_defs.specs.Layout.{layout_causes, check_for}
+use Rattle.layout.specs.View.{layout_of, check_says}
+use Rattle.layout_defs.proofs.Layouts.{layout_decided}
+use Rattle.cast_defs.specs.Cast.{bytes_causes, greatest_grant, cast_for}
+use Rattle.cast.specs.View.{side_of}
+use Rattle.cast_defs.proofs.Grants.{cast_meets}
+use Rattle.util_defs.proofs.Refusals.{means}
+use Rattle.cast.proofs.validate_cast_and_convert_metadata.Goals as goal
+
+pub cast_checked-requires : goal.cast_checked-requires
+unfolding check_for
+cast_checked-requires c = let l = layout_of c.args.layout in accepted_none (layout_causes 64 l) tt (layout_decided 64 l (omega arith)) (told_by check_says c.check.ensures.answer c.in-Accepted.is)
+
+pub returns-in-Accepted-clause-answer : goal.returns-in-Accepted-clause-answer
+unfolding cast_for check_for
+returns-in-Accepted-clause-answer c =
+    let l = layout_of c.args.layout in
+    let side = side_of c.args.cast_type in
+    let cs = bytes_causes 64 l side c.args.addr c.args.bytes_len in
+    let g = greatest_grant 64 l.info side c.args.bytes_len in c.cast_checked.ensures ∙ sym (accepted_first (layout_causes 64 l) cs tt g (told_by check_says c.check.ensures.answer c.in-Accepted.is))
+
+pub returns-in-Accepted-clause-meaning : goal.returns-in-Accepted-clause-meaning
+returns-in-Accepted-clause-meaning c =
+    let l = layout_of c.args.layout in
+    let side = side_of c.args.cast_type in
+    let cs = bytes_causes 64 l side c.args.addr c.args.bytes_len in
+    let g = greatest_grant 64 l.info side c.args.bytes_len in means (cast_meets 64 l side c.args.addr c.args.bytes_len (omega arith) (lit< tt)) (returns-in-Accepted-clause-answer c)
+
+pub returns-in-Refused-clause-answer : goal.returns-in-Refused-clause-answer
+unfolding cast_for check_for
+returns-in-Refused-clause-answer c =
+    let l = layout_of c.args.layout in
+    let side = side_of c.args.cast_type in
+    let cs = bytes_causes 64 l side c.args.addr c.args.bytes_len in
+    let g = greatest_grant 64 l.info side c.args.bytes_len in sym (refused_first (layout_causes 64 l) cs tt g (told_by check_says c.check.ensures.answer c.in-Refused.is))
+
+pub returns-in-Refused-clause-meaning : goal.returns-in-Refused-clause-meaning
+returns-in-Refused-clause-meaning c =
+    let l = layout_of c.args.layout in
+    let side = side_of c.args.cast_type in
+    let cs = bytes_causes 64 l side c.args.addr c.args.bytes_len in
+    let g = greatest_grant 64 l.info side c.args.bytes_len in means (cast_meets 64 l side c.args.addr c.args.bytes_len (omega arith) (lit< tt)) (returns-in-Refused-clause-answer c)

@@ -1,0 +1,9 @@
+-- `exports_numbers::lukaripe_size_offset` meets its contract. Assumes nothing.
+use mathlib.Core.Path.{ap, ◌∙◌}
+use Rattle.trailing_defs.specs.Size.{Trailing}
+use Rattle.trailing_defs.specs.Calls.{size_offset_for}
+use Rattle.exports_numbers.specs.Numbers.{number_out}
+use Rattle.exports_numbers.proofs.lukaripe_size_offset.Goals as goal
+
+pub returns : goal.returns
+returns c = c.number_out.ensures ∙ ap number_out (c.size_offset.ensures.answer ∙ ap (λ (t : Trailing). size_offset_for 64 t) c.trailing_in.ensures)

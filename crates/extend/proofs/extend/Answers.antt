@@ -1,0 +1,23 @@
+-- `extend::extend` meets its contract. Assumes nothing.
+use Rattle.std.proofs.Common.{sym, subst, arith}
+use Rattle.layout_defs.specs.Extend.{IsTrailing}
+use Rattle.layout.specs.View.{info_of, layout_of}
+use Rattle.layout.specs.declared.SizeInfo.{SizeInfo}
+use Rattle.layout_defs.proofs.Steps.{extend_meets}
+use Rattle.util_defs.proofs.Refusals.{means}
+use Rattle.extend.proofs.extend.Goals as goal
+
+pub after_trailing-requires : goal.after_trailing-requires
+after_trailing-requires c = subst (λ (i : SizeInfo). IsTrailing (info_of i)) (sym c.in-SliceDst.is) tt
+
+pub returns-in-Sized-clause-answer : goal.returns-in-Sized-clause-answer
+returns-in-Sized-clause-answer c = simp c.in-Sized.is c.extend_sized.ensures.answer
+
+pub returns-in-Sized-clause-meaning : goal.returns-in-Sized-clause-meaning
+returns-in-Sized-clause-meaning c = simp c.in-Sized.is c.extend_sized.ensures.meaning
+
+pub returns-in-SliceDst-clause-answer : goal.returns-in-SliceDst-clause-answer
+returns-in-SliceDst-clause-answer c = c.after_trailing.ensures
+
+pub returns-in-SliceDst-clause-meaning : goal.returns-in-SliceDst-clause-meaning
+returns-in-SliceDst-clause-meaning c = means (extend_meets 64 (layout_of c.args.own) (layout_of c.args.field) c.args.repr_packed (omega arith) (omega arith) c.ranges.repr_packed.fits) (returns-in-SliceDst-clause-answer c)

@@ -1,0 +1,23 @@
+-- `extend::extend_onto` meets its contract. Assumes nothing.
+use Rattle.std.proofs.Common.{◌∙◌, arith}
+use Rattle.util_defs.proofs.Helpers.{power}
+use Rattle.util_defs.proofs.Tables.{told_by, accepted_none}
+use Rattle.layout_defs.specs.Layout.{layout_causes, check_for}
+use Rattle.layout.specs.View.{layout_of, sized_of, check_says}
+use Rattle.layout_defs.proofs.Layouts.{layout_decided}
+use Rattle.layout_defs.proofs.Onto.{onto_member, onto_step}
+use Rattle.extend.proofs.extend_onto.Goals as goal
+
+pub extend_checked-requires : goal.extend_checked-requires
+unfolding check_for
+extend_checked-requires c =
+    let m = c.args.field in
+    power 64 m.align (omega arith) (accepted_none (layout_causes 64 (layout_of m)) tt (layout_decided 64 (layout_of m) (omega arith)) (told_by check_says c.check.ensures.answer c.in-Accepted.is)).0
+
+pub returns-in-Accepted : goal.returns-in-Accepted
+returns-in-Accepted c =
+    c.extend_checked.ensures ∙ onto_step 64 (sized_of c.args.own) (layout_of c.args.field) c.args.repr_packed (told_by check_says c.check.ensures.answer c.in-Accepted.is)
+
+pub returns-in-Refused : goal.returns-in-Refused
+returns-in-Refused c =
+    onto_member 64 (sized_of c.args.own) (layout_of c.args.field) c.args.repr_packed (told_by check_says c.check.ensures.answer c.in-Refused.is)

@@ -1,0 +1,41 @@
+-- `padding::pad_to_align` meets its contract. Assumes nothing.
+use mathlib.Core.Path.{sym, ◌∙◌}
+use mathlib.Core.List.{[], ◌∷◌}
+use native.Mathlib.Omega.{arith}
+use Rattle.layout_defs.specs.Layout.{layout_causes, check_for}
+use Rattle.layout_defs.specs.Extend.{rounding_passes}
+use Rattle.padding_defs.specs.Pad.{padded, padding_needs, pad_for}
+use Rattle.layout.specs.View.{layout_of, check_says}
+use Rattle.util_defs.proofs.Tables.{told_by, refused_first, accepted_first, accepted_none}
+use Rattle.layout_defs.proofs.Layouts.{layout_decided}
+use Rattle.padding_defs.proofs.Padding.{pad_meets}
+use Rattle.util_defs.proofs.Refusals.{means}
+use Rattle.padding.proofs.pad_to_align.Goals as goal
+
+pub pad_checked-requires : goal.pad_checked-requires
+unfolding check_for
+pad_checked-requires c =
+    let l = layout_of c.args.layout in
+    accepted_none (layout_causes 64 l) tt (layout_decided 64 l (omega arith)) (told_by check_says c.check.ensures.answer c.in-Accepted.is)
+
+pub returns-in-Accepted-clause-answer : goal.returns-in-Accepted-clause-answer
+unfolding pad_for check_for
+returns-in-Accepted-clause-answer c =
+    let l = layout_of c.args.layout in
+    let ds = rounding_passes 64 (padding_needs 64 l.align l.info) ∷ [] in c.pad_checked.ensures ∙ sym (accepted_first (layout_causes 64 l) ds tt (padded 64 l) (told_by check_says c.check.ensures.answer c.in-Accepted.is))
+
+pub returns-in-Accepted-clause-meaning : goal.returns-in-Accepted-clause-meaning
+returns-in-Accepted-clause-meaning c =
+    let l = layout_of c.args.layout in
+    let ds = rounding_passes 64 (padding_needs 64 l.align l.info) ∷ [] in means (pad_meets 64 l (omega arith)) (returns-in-Accepted-clause-answer c)
+
+pub returns-in-Refused-clause-answer : goal.returns-in-Refused-clause-answer
+unfolding pad_for check_for
+returns-in-Refused-clause-answer c =
+    let l = layout_of c.args.layout in
+    let ds = rounding_passes 64 (padding_needs 64 l.align l.info) ∷ [] in sym (refused_first (layout_causes 64 l) ds tt (padded 64 l) (told_by check_says c.check.ensures.answer c.in-Refused.is))
+
+pub returns-in-Refused-clause-meaning : goal.returns-in-Refused-clause-meaning
+returns-in-Refused-clause-meaning c =
+    let l = layout_of c.args.layout in
+    let ds = rounding_passes 64 (padding_needs 64 l.align l.info) ∷ [] in means (pad_meets 64 l (omega arith)) (returns-in-Refused-clause-answer c)

@@ -1,0 +1,12 @@
+-- `sequence32::same_within` meets its contract. Assumes nothing.
+
+use Rattle.sequence32.proofs.same_within.Goals as goal
+
+pub returns-then-start : goal.returns-then-start
+returns-then-start c = simp (c.in-Is.is, c.if-start.true)
+
+pub returns-else-start : goal.returns-else-start
+returns-else-start c = simp (c.in-Is.is, c.if-start.false)
+
+pub returns-in-Refused : goal.returns-in-Refused
+returns-in-Refused c = simp c.in-Refused.is
