@@ -5,8 +5,8 @@
 
 use compose::ComposeAnswer;
 use layout::{DstLayout, LayoutAnswer, SizeInfo};
-use libc::STDOUT_FILENO;
 use record::Words;
+use std::io;
 use util::Answer;
 
 const CASES: usize = 27305;
@@ -217,24 +217,17 @@ fn tally_of(buffer: &[u8]) -> Tally {
     t
 }
 
-fn report(bytes: u64, t: Tally) {
-    io::print_decimal(STDOUT_FILENO, bytes);
-    io::write_all(STDOUT_FILENO, b" bytes, ");
-    io::print_decimal(STDOUT_FILENO, t.cases);
-    io::write_all(STDOUT_FILENO, b" cases, ");
-    io::print_decimal(STDOUT_FILENO, t.differ);
-    io::write_all(
-        STDOUT_FILENO,
-        b" differ from the rule; from the one without closing padding ",
-    );
-    io::print_decimal(STDOUT_FILENO, t.wrong);
-    io::write_all(STDOUT_FILENO, b"\n");
+fn report(rt: &impl Print, bytes: u64, t: Tally) -> io::Result<()> {
+    println!(rt;
+        "{bytes} bytes, {} cases, {} differ from the rule; from the one without closing padding {}",
+        t.cases, t.differ, t.wrong
+    )
 }
 
-fn main() {
+fn main(rt: HostRuntime) -> io::Result<()> {
     let mut buffer = [0u8; 218440];
     match cases::write_cases(6, &mut buffer) {
-        Answer::Number(bytes) => report(bytes, tally_of(&buffer)),
-        Answer::Refused(number) => report(number, tally_of(&buffer)),
+        Answer::Number(bytes) => report(&rt, bytes, tally_of(&buffer)),
+        Answer::Refused(number) => report(&rt, number, tally_of(&buffer)),
     }
 }

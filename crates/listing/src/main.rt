@@ -1,30 +1,27 @@
 // Reads a member list from standard input and prints the line of what it composes to.
 #![tactic(auto)]
 
-use libc::{STDIN_FILENO, STDOUT_FILENO};
+use std::io;
+use std::io::Write;
 
-// Whether the input went on to its end, or filled the buffer. A read that failed has stopped read_full as the end does; at
-// the end
-// one more read gives 0 bytes.
-fn is_at_end(n: usize, room: usize) -> bool {
-    if n == room {
-        return true;
-    }
-    let mut rest = [0u8; 1];
-    libc::read(STDIN_FILENO, &mut rest) == 0
-}
+// The greatest input that is taken, and the room of a line.
+const INPUT_BYTES: usize = 65536;
 
-// No exit status is to be had: where the input or the output fails, a line on standard error says so, and no layout is printed.
-fn main() {
-    let mut list = io::large_buffer();
-    let n = io::read_full(STDIN_FILENO, &mut list);
-    if !is_at_end(n, list.len()) {
-        os::fail(b"listing: standard input");
-        return;
-    }
-    let mut text = io::buffer();
+const LINE_BYTES: usize = 4096;
+
+// Where the input or the output fails, a line on standard error says so, and no layout is printed.
+fn main(rt: HostRuntime) -> io::Result<()> {
+    let mut list = [0u8; INPUT_BYTES];
+    let n = match reading::read_full(&mut rt.stdin(), &mut list) {
+        Ok(n) => n,
+        Err(error) => {
+            return eprintln!(rt; "listing: standard input: {error}");
+        }
+    };
+    let mut text = [0u8; LINE_BYTES];
     let len = listing_line::line(false, &list[..n], &mut text);
-    if !io::write_all(STDOUT_FILENO, &text[..len]) {
-        os::fail(b"listing: standard output");
+    if let Err(error) = rt.stdout().write_all(&text[..len]) {
+        return eprintln!(rt; "listing: standard output: {error}");
     }
+    Ok(())
 }

@@ -1,46 +1,52 @@
 // Prints the line of each list of data/: the scope's own cases, and the edges of the listing, at both widths.
 #![tactic(auto)]
 
-use libc::STDOUT_FILENO;
+use std::io::Write;
+use std::rt::Files;
+use std::{fs, io};
+
+// The greatest list that is taken, and the room of a line.
+const LIST_BYTES: usize = 65536;
+
+const LINE_BYTES: usize = 4096;
 
 // The name of a list and its line at a width.
-fn list(narrow: bool, name: &[u8]) {
-    let fd = os::open_read(name);
-    if fd < 0 {
-        os::fail(name);
-        return;
-    }
-    let mut list = io::large_buffer();
-    let n = io::read_full(fd, &mut list);
-    libc::close(fd);
-    let mut text = io::buffer();
+fn list<R: Files + Print>(rt: &R, narrow: bool, name: &str) -> io::Result<()> {
+    let mut file = match fs::open(rt, name) {
+        Ok(file) => file,
+        Err(error) => {
+            return eprintln!(rt; "{name}: {error}");
+        }
+    };
+    let mut list = [0u8; LIST_BYTES];
+    let n = reading::read_full(&mut file, &mut list)?;
+    let mut text = [0u8; LINE_BYTES];
     let len = listing_line::line(narrow, &list[..n], &mut text);
-    io::write_all(STDOUT_FILENO, name);
-    io::write_all(STDOUT_FILENO, b": ");
-    io::write_all(STDOUT_FILENO, &text[..len]);
+    print!(rt; "{name}: ")?;
+    io::writer(rt).write_all(&text[..len])
 }
 
 // Every list at a width.
-fn lists(narrow: bool) {
-    list(narrow, b"example");
-    list(narrow, b"empty");
-    list(narrow, b"after");
-    list(narrow, b"uneven");
-    list(narrow, b"longest");
-    list(narrow, b"too_long");
-    list(narrow, b"sum");
-    list(narrow, b"padding");
-    list(narrow, b"modifier");
-    list(narrow, b"modifier_run");
-    list(narrow, b"kind_8");
-    list(narrow, b"sum_at_32");
-    list(narrow, b"passes_width");
-    list(narrow, b"align_2_40");
-    list(narrow, b"align_3_2_40");
+fn lists<R: Files + Print>(rt: &R, narrow: bool) -> io::Result<()> {
+    list(rt, narrow, "example")?;
+    list(rt, narrow, "empty")?;
+    list(rt, narrow, "after")?;
+    list(rt, narrow, "uneven")?;
+    list(rt, narrow, "longest")?;
+    list(rt, narrow, "too_long")?;
+    list(rt, narrow, "sum")?;
+    list(rt, narrow, "padding")?;
+    list(rt, narrow, "modifier")?;
+    list(rt, narrow, "modifier_run")?;
+    list(rt, narrow, "kind_8")?;
+    list(rt, narrow, "sum_at_32")?;
+    list(rt, narrow, "passes_width")?;
+    list(rt, narrow, "align_2_40")?;
+    list(rt, narrow, "align_3_2_40")
 }
 
-fn main() {
-    lists(false);
-    io::write_all(STDOUT_FILENO, b"\nat 32 bits\n");
-    lists(true);
+fn main(rt: HostRuntime) -> io::Result<()> {
+    lists(&rt, false)?;
+    print!(rt; "\nat 32 bits\n")?;
+    lists(&rt, true)
 }

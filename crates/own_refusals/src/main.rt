@@ -6,10 +6,10 @@
 use cast::{CastAnswer, CastType};
 use convert::ComputeAnswer;
 use layout::{Check, DstLayout, LayoutAnswer, SizeInfo};
-use libc::STDOUT_FILENO;
 use record::EncodeAnswer;
 use rounding::RoundingAlignAndPhase;
 use shift::Mode;
+use std::io;
 use trailing::TrailingSliceLayout;
 use util::{Answer, Decision};
 use working::Addition;
@@ -86,29 +86,41 @@ fn cast(l: DstLayout) -> u64 {
     of_cast(cast::validate_cast_and_convert_metadata(l, 0, 16, CastType::Prefix))
 }
 
-fn put(number: u64) {
-    io::write_all(STDOUT_FILENO, b" ");
-    io::print_decimal(STDOUT_FILENO, number);
+fn put(rt: &impl Print, number: u64) -> io::Result<()> {
+    print!(rt; " {number}")
 }
 
 // What one layout is refused by: of a good one, then of the bad ones.
-fn print_one(name: &[u8], good: u64, zero: u64, three: u64, word: u64) {
-    io::write_all(STDOUT_FILENO, name);
-    put(good);
-    put(zero);
-    put(three);
-    put(word);
-    io::write_all(STDOUT_FILENO, b"\n");
+fn print_one(
+    rt: &impl Print,
+    name: &str,
+    good: u64,
+    zero: u64,
+    three: u64,
+    word: u64,
+) -> io::Result<()> {
+    print!(rt; "{name}")?;
+    put(rt, good)?;
+    put(rt, zero)?;
+    put(rt, three)?;
+    put(rt, word)?;
+    println!(rt)
 }
 
 // The same of a second layout, beside a good first one, and of two bad ones.
-fn print_second(zero: u64, word: u64, word_then_zero: u64, zero_then_word: u64) {
-    io::write_all(STDOUT_FILENO, b" second");
-    put(zero);
-    put(word);
-    put(word_then_zero);
-    put(zero_then_word);
-    io::write_all(STDOUT_FILENO, b"\n");
+fn print_second(
+    rt: &impl Print,
+    zero: u64,
+    word: u64,
+    word_then_zero: u64,
+    zero_then_word: u64,
+) -> io::Result<()> {
+    print!(rt; " second")?;
+    put(rt, zero)?;
+    put(rt, word)?;
+    put(rt, word_then_zero)?;
+    put(rt, zero_then_word)?;
+    println!(rt)
 }
 
 fn extended(l: DstLayout, field: DstLayout) -> u64 {
@@ -137,105 +149,118 @@ fn computed(src: DstLayout, dst: DstLayout) -> u64 {
     of_params(convert::try_compute(src, dst, Mode::Ported))
 }
 
-fn print_layouts() {
+fn print_layouts(rt: &impl Print) -> io::Result<()> {
     print_one(
-        b"extend",
+        rt,
+        "extend",
         extended(fixed(4), trailing(5)),
         extended(fixed(0), trailing(5)),
         extended(fixed(3), trailing(5)),
         extended(trailing(0), fixed(4)),
-    );
+    )?;
     print_second(
+        rt,
         extended(fixed(4), fixed(0)),
         extended(fixed(4), trailing(0)),
         extended(trailing(0), fixed(0)),
         extended(fixed(0), trailing(0)),
-    );
+    )?;
     print_one(
-        b"pad_to_align",
+        rt,
+        "pad_to_align",
         of_layout(padding::pad_to_align(trailing(5))),
         of_layout(padding::pad_to_align(fixed(0))),
         of_layout(padding::pad_to_align(fixed(3))),
         of_layout(padding::pad_to_align(trailing(0))),
-    );
+    )?;
     print_one(
-        b"requires_static_padding",
+        rt,
+        "requires_static_padding",
         of_decision(needs::requires_static_padding(trailing(5))),
         of_decision(needs::requires_static_padding(fixed(0))),
         of_decision(needs::requires_static_padding(fixed(3))),
         of_decision(needs::requires_static_padding(trailing(0))),
-    );
+    )?;
     print_one(
-        b"requires_dynamic_padding",
+        rt,
+        "requires_dynamic_padding",
         of_decision(needs::requires_dynamic_padding(trailing(5))),
         of_decision(needs::requires_dynamic_padding(fixed(0))),
         of_decision(needs::requires_dynamic_padding(fixed(3))),
         of_decision(needs::requires_dynamic_padding(trailing(0))),
-    );
+    )?;
     print_one(
-        b"encode",
+        rt,
+        "encode",
         encoded(trailing(5)),
         encoded(fixed(0)),
         encoded(fixed(3)),
         encoded(trailing(0)),
-    );
+    )
 }
 
-fn print_additions() {
+fn print_additions(rt: &impl Print) -> io::Result<()> {
     print_one(
-        b"with_member",
+        rt,
+        "with_member",
         added(fixed(4), trailing(5)),
         added(fixed(0), trailing(5)),
         added(fixed(3), trailing(5)),
         added(trailing(0), fixed(4)),
-    );
+    )?;
     print_second(
+        rt,
         added(fixed(4), fixed(0)),
         added(fixed(4), trailing(0)),
         added(trailing(0), fixed(0)),
         added(fixed(0), trailing(0)),
-    );
+    )?;
     print_one(
-        b"with_record",
+        rt,
+        "with_record",
         added_record(fixed(4)),
         added_record(fixed(0)),
         added_record(fixed(3)),
         added_record(trailing(0)),
-    );
+    )
 }
 
-fn print_converts() {
+fn print_converts(rt: &impl Print) -> io::Result<()> {
     print_one(
-        b"validate_cast_and_convert_metadata",
+        rt,
+        "validate_cast_and_convert_metadata",
         cast(trailing(5)),
         cast(fixed(0)),
         cast(fixed(3)),
         cast(trailing(0)),
-    );
+    )?;
     print_one(
-        b"metadata_for_exact_size",
+        rt,
+        "metadata_for_exact_size",
         of_number(cast::metadata_for_exact_size(trailing(5), 12)),
         of_number(cast::metadata_for_exact_size(fixed(0), 12)),
         of_number(cast::metadata_for_exact_size(fixed(3), 12)),
         of_number(cast::metadata_for_exact_size(trailing(0), 12)),
-    );
+    )?;
     print_one(
-        b"try_compute",
+        rt,
+        "try_compute",
         computed(trailing(5), trailing(5)),
         computed(fixed(0), trailing(5)),
         computed(fixed(3), trailing(5)),
         computed(trailing(0), trailing(5)),
-    );
+    )?;
     print_second(
+        rt,
         computed(trailing(5), fixed(0)),
         computed(trailing(5), trailing(0)),
         computed(trailing(0), fixed(0)),
         computed(fixed(0), trailing(0)),
-    );
+    )
 }
 
-fn main() {
-    print_layouts();
-    print_additions();
-    print_converts();
+fn main(rt: HostRuntime) -> io::Result<()> {
+    print_layouts(&rt)?;
+    print_additions(&rt)?;
+    print_converts(&rt)
 }

@@ -2,10 +2,14 @@
 // rust/differential/recorded.rs says what the numbers of a line are; tools/record writes them.
 #![tactic(auto)]
 
-ghost use Rattle.std.specs.Prelude.{◌≡◌, false, ◌+◌, ◌≤◌, length, drop, replicate};
+ghost use Rattle.std.specs.Prelude.{IfOk, ◌≡◌, false, ◌+◌, ◌≤◌, length, drop, replicate};
 ghost use Rattle.io.specs.Counts.{IsPrefixLen};
 ghost use Rattle.recorded_defs.specs.Lines.{digit_of, end_of, number_from, unread, line_at, Ahead, same_from, agrees_with, one_more};
 ghost use Rattle.recorded.specs.View.{number_says, line_out, counted};
+
+use std::io::ErrorKind;
+use std::rt::Files;
+use std::{fs, io, str};
 
 // A line has no more numbers than this.
 pub const WIDTH: usize = 64;
@@ -62,18 +66,15 @@ pub fn buffer() -> [u8; TEXT_BYTES]
     [0; TEXT_BYTES]
 }
 
-// Reads a file into the text and gives how many bytes were read. A file that cannot be opened is named on standard error.
-pub fn load(name: &[u8], text: &mut [u8]) -> usize
-    ensures { IsPrefixLen result text.new }
+// Reads a file into the text and gives how many bytes were read. A file that cannot be opened or read is the answer.
+pub fn load<R: Files>(rt: &R, name: &[u8], text: &mut [u8]) -> io::Result<usize>
+    ensures { IfOk result (λ n. IsPrefixLen n text.new) }
 {
-    let fd = os::open_read(name);
-    if fd < 0 {
-        os::fail(name);
-        return 0;
-    }
-    let n = io::read_full(fd, text);
-    libc::close(fd);
-    n
+    let Ok(path) = str::from_utf8(name) else {
+        return Err(io::Error::from(ErrorKind::InvalidInput));
+    };
+    let mut file = fs::open(rt, path)?;
+    reading::read_full(&mut file, text)
 }
 
 fn one_more(n: u64) -> u64

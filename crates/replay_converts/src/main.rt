@@ -4,8 +4,9 @@
 mod calls;
 
 use calls::call;
-use libc::STDOUT_FILENO;
 use recorded::Tally;
+use std::io;
+use std::rt::Files;
 
 // How many lines there are, and how many differ from what the calls told.
 fn replay(text: &[u8]) -> Tally {
@@ -24,21 +25,22 @@ fn replay(text: &[u8]) -> Tally {
     tally
 }
 
-fn report(name: &[u8]) {
+fn report<R: Files + Print>(rt: &R, name: &str) -> io::Result<()> {
     let mut text = recorded::buffer();
-    let n = recorded::load(name, &mut text);
+    let n = match recorded::load(rt, name.as_bytes(), &mut text) {
+        Ok(n) => n,
+        Err(error) => {
+            eprintln!(rt; "{name}: {error}")?;
+            0
+        }
+    };
     let tally = replay(&text[..n]);
-    io::write_all(STDOUT_FILENO, name);
-    io::write_all(STDOUT_FILENO, b": ");
-    io::print_decimal(STDOUT_FILENO, tally.lines);
-    io::write_all(STDOUT_FILENO, b" lines, ");
-    io::print_decimal(STDOUT_FILENO, tally.differ);
-    io::write_all(STDOUT_FILENO, b" differ\n");
+    println!(rt; "{name}: {} lines, {} differ", tally.lines, tally.differ)
 }
 
 // The lines of `wrong` are wrong on purpose, in one number or in shape: a replay that misses one writes another count.
-fn main() {
-    report(b"answers");
-    report(b"full");
-    report(b"wrong");
+fn main(rt: HostRuntime) -> io::Result<()> {
+    report(&rt, "answers")?;
+    report(&rt, "full")?;
+    report(&rt, "wrong")
 }

@@ -1,6 +1,6 @@
 -- Powers of two, over any width. Assumes nothing.
 use mathlib.Core.Path.{◌≡◌, refl, sym, ap, ap₂, ◌∙◌, subst}
-use Prim.Native.Nat.{ℕ, zero, suc, ◌+◌, ◌-◌, ◌*◌, ◌/◌, ◌%◌, ◌^◌, ◌≤◌, ◌<◌, max}
+use Prim.Native.Nat.{ℕ, zero, suc, ◌+◌, ◌-◌, ◌*◌, ◌%◌, ◌^◌, ◌≤◌, ◌<◌, max}
 use mathlib.Core.Logic.{◌⊎◌, inl, inr}
 use mathlib.Core.Bool.{Bool, true, false, ◌||◌}
 use native.Mathlib.Nat.{eq-or-lt_of_le, not-le_of_lt, lt_of_not-le, mod_self, mul-mod_left, mod-mod_of_dvd, dvd_of_mod-eq-zero, zero-mod, max-eq_left, max-eq_right, le_of_lt, two-pow-succ}

@@ -29,7 +29,7 @@ aligned : (k : Start) → PowerOfTwo k.args.layout.align
 aligned k = power 64 k.args.layout.align (omega arith) k.requires.0
 
 abbrev tested : Start → ℕ
-tested k = tested_address (side_of k.args.cast-type) k.args.addr k.args.len
+tested k = tested_address (side_of k.args.cast_type) k.args.addr k.args.len
 
 -- the mask of an aligned address
 straight : (k : Start) (v : ℕ) → v ≡ tested k → bit_and v (k.args.layout.align - 1) ≡ 0 → tested k % k.args.layout.align ≡ 0
@@ -47,7 +47,7 @@ passed k f e l z = simp (sym e ∙ f, le-ltb (2 ^ 64 - 1) (k.args.addr + k.args.
 
 -- what is left to say of a size
 abbrev says : Start → SizeInfo → Outcome Grant
-says k i = unless (too_small 64 (info_of i) k.args.len ∷ []) (greatest_grant 64 (info_of i) (side_of k.args.cast-type) k.args.len)
+says k i = unless (too_small 64 (info_of i) k.args.len ∷ []) (greatest_grant 64 (info_of i) (side_of k.args.cast_type) k.args.len)
 
 pub returns-then-elem_size_zero : goal.returns-then-elem_size_zero
 unfolding unless

@@ -1,0 +1,18 @@
+-- `elements::elem_size` meets its contract. Assumes nothing.
+use mathlib.Core.Path.{ap}
+use Rattle.util_defs.proofs.Tables.{told_by}
+use Rattle.layout.specs.View.{info_of, layout_of, check_says}
+use Rattle.describe_defs.proofs.Elements.{element_own, element_trailing, element_sized}
+use Rattle.elements.proofs.elem_size.Goals as goal
+
+pub returns-in-Sized : goal.returns-in-Sized
+returns-in-Sized c =
+    element_sized 64 (layout_of c.args.elem) (told_by check_says c.check.ensures.answer c.in-Accepted.is) (ap info_of c.in-Sized.is)
+
+pub returns-in-SliceDst : goal.returns-in-SliceDst
+returns-in-SliceDst c =
+    element_trailing 64 (layout_of c.args.elem) (told_by check_says c.check.ensures.answer c.in-Accepted.is) (ap info_of c.in-SliceDst.is)
+
+pub returns-in-Refused : goal.returns-in-Refused
+returns-in-Refused c =
+    element_own 64 (layout_of c.args.elem) (told_by check_says c.check.ensures.answer c.in-Refused.is)

@@ -1,0 +1,7 @@
+-- `exports32_layouts::lukaripe32_new_zst` meets its contract. Assumes nothing.
+use mathlib.Core.Path.{ap, ◌∙◌}
+use Rattle.exports32_layouts.specs.Layouts.{layout_out32}
+use Rattle.exports32_layouts.proofs.lukaripe32_new_zst.Goals as goal
+
+pub returns : goal.returns
+returns c = c.layout_out.ensures ∙ ap layout_out32 c.new_zst.ensures.answer

@@ -1,0 +1,15 @@
+-- `exports32_layouts::lukaripe32_requires_static_padding` meets its contract. Assumes nothing.
+use mathlib.Core.Path.{ap, ◌∙◌}
+use Rattle.layout_defs.specs.Layout.{Layout}
+use Rattle.padding_defs.specs.Pad.{static_for}
+use Rattle.exports32_numbers.specs.Numbers.{decision_out32}
+use Rattle.exports32_layouts.proofs.Given.{with_layout_lem, with_refused}
+use Rattle.exports32_layouts.proofs.lukaripe32_requires_static_padding.Goals as goal
+
+pub returns-in-Layout : goal.returns-in-Layout
+returns-in-Layout c =
+    c.decision_out.ensures ∙ ap decision_out32 (c.requires_static_padding.ensures.answer ∙ with_layout_lem 32 c.args.layout (λ (l : Layout). static_for 32 l) c.layout_in.result c.layout_in.ensures c.in-Layout.is)
+
+pub returns-in-Refused : goal.returns-in-Refused
+returns-in-Refused c =
+    c.decision_out-in-Refused.ensures ∙ ap decision_out32 (with_refused 32 c.args.layout (λ (l : Layout). static_for 32 l) c.layout_in.result c.layout_in.ensures c.in-Refused.is)

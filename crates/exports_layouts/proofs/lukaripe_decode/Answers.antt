@@ -1,0 +1,7 @@
+-- `exports_layouts::lukaripe_decode` meets its contract. Assumes nothing.
+use mathlib.Core.Path.{ap, ◌∙◌}
+use Rattle.exports_layouts.specs.Layouts.{layout_out}
+use Rattle.exports_layouts.proofs.lukaripe_decode.Goals as goal
+
+pub returns : goal.returns
+returns c = c.layout_out.ensures ∙ ap layout_out c.decode.ensures.answer

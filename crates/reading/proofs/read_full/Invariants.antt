@@ -1,0 +1,6 @@
+-- What was read lies within the room.
+use Rattle.std.proofs.Common.{◌≤◌, length}
+use Rattle.reading.proofs.read_full.Given as goal
+
+abbrev pub invariant-loop : goal.invariant-loop
+invariant-loop g l = l.done ≤ length l.room

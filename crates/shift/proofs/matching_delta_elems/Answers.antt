@@ -1,0 +1,23 @@
+-- `shift::matching_delta_elems` meets its contract. Assumes nothing.
+use mathlib.Core.Path.{sym, ap, ◌∙◌}
+use Rattle.trailing.specs.View.{trailing_of}
+use Rattle.layout.specs.View.{layout_of}
+use Rattle.shift_defs.specs.Shift.{Shift, by_size, matched_shift, or_else, shift_of}
+use Rattle.shift.specs.View.{mode_of, shift_in}
+use Rattle.shift_defs.specs.Mode.{comparison_of}
+use Rattle.shift.proofs.matching_delta_elems.Goals as goal
+
+pub returns-in-By : goal.returns-in-By
+unfolding shift_of
+returns-in-By c =
+    let s = trailing_of c.args.src in
+    let t = trailing_of c.args.dst in
+    ap (λ (x : Shift). or_else x (matched_shift 64 (comparison_of 64 (mode_of c.args.mode)) s t (by_size 64 s (layout_of c.args.dst_layout)))) (sym (ap shift_in c.in-By.is) ∙ c.matching_offset.ensures)
+
+pub returns-in-Missing : goal.returns-in-Missing
+unfolding shift_of
+returns-in-Missing c =
+    let s = trailing_of c.args.src in
+    let t = trailing_of c.args.dst in
+    c.matching_size.ensures
+    ∙ ap (λ (x : Shift). or_else x (matched_shift 64 (comparison_of 64 (mode_of c.args.mode)) s t (by_size 64 s (layout_of c.args.dst_layout)))) (sym (ap shift_in c.in-Missing.is) ∙ c.matching_offset.ensures)

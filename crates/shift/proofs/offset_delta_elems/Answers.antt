@@ -1,0 +1,64 @@
+-- `shift::offset_delta_elems` meets its contract. Assumes nothing.
+use mathlib.Core.Path.{sym, ap, ◌∙◌}
+use lib.Dec.{lit<}
+use native.Mathlib.Omega.{arith}
+use Rattle.util_defs.specs.Refusal.{answered}
+use Rattle.util_defs.proofs.Tables.{told_by, refused_as, accepted_as, refused_first, accepted_first, accepted_none}
+use Rattle.layout_defs.specs.Layout.{layout_causes, check_for}
+use Rattle.layout.specs.View.{layout_of, check_says}
+use Rattle.layout_defs.proofs.Layouts.{layout_decided}
+use Rattle.shift_defs.specs.Shift.{shift_between, shift_for}
+use Rattle.shift_defs.proofs.Shifts.{shift_meets}
+use Rattle.shift_defs.specs.Mode.{comparison_of}
+use Rattle.shift.specs.View.{mode_of}
+use Rattle.util_defs.proofs.Refusals.{means}
+use Rattle.shift.proofs.offset_delta_elems.Goals as goal
+
+pub checked_delta_elems-requires : goal.checked_delta_elems-requires
+unfolding check_for
+checked_delta_elems-requires c =
+    let s = layout_of c.args.src_layout in
+    let t = layout_of c.args.dst_layout in (
+      (accepted_none (layout_causes 64 s) tt (layout_decided 64 s (omega arith)) (told_by check_says c.check.ensures.answer c.in-Accepted.is)).1.0,
+      (accepted_none (layout_causes 64 t) tt (layout_decided 64 t (omega arith)) (told_by check_says c.check-in-Accepted.ensures.answer c.in-Accepted-check.is)).1.0,
+    )
+
+pub returns-in-Accepted-check-clause-answer : goal.returns-in-Accepted-check-clause-answer
+unfolding shift_for check_for
+returns-in-Accepted-check-clause-answer c =
+    let s = layout_of c.args.src_layout in
+    let t = layout_of c.args.dst_layout in
+    let d = shift_between 64 (comparison_of 64 (mode_of c.args.mode)) s.info t t.info in ap answered c.checked_delta_elems.ensures
+    ∙ sym (accepted_first (layout_causes 64 s) (layout_causes 64 t) tt d (told_by check_says c.check.ensures.answer c.in-Accepted.is) ∙ accepted_as (layout_causes 64 t) tt d (told_by check_says c.check-in-Accepted.ensures.answer c.in-Accepted-check.is))
+
+pub returns-in-Accepted-check-clause-meaning : goal.returns-in-Accepted-check-clause-meaning
+returns-in-Accepted-check-clause-meaning c =
+    let s = layout_of c.args.src_layout in
+    let t = layout_of c.args.dst_layout in
+    let d = shift_between 64 (comparison_of 64 (mode_of c.args.mode)) s.info t t.info in means (shift_meets 64 (comparison_of 64 (mode_of c.args.mode)) s t (omega arith) (omega arith) (lit< tt)) (returns-in-Accepted-check-clause-answer c)
+
+pub returns-in-Refused-check-clause-answer : goal.returns-in-Refused-check-clause-answer
+unfolding shift_for check_for
+returns-in-Refused-check-clause-answer c =
+    let s = layout_of c.args.src_layout in
+    let t = layout_of c.args.dst_layout in
+    let d = shift_between 64 (comparison_of 64 (mode_of c.args.mode)) s.info t t.info in sym (accepted_first (layout_causes 64 s) (layout_causes 64 t) tt d (told_by check_says c.check.ensures.answer c.in-Accepted.is) ∙ refused_as (layout_causes 64 t) tt d (told_by check_says c.check-in-Accepted.ensures.answer c.in-Refused-check.is))
+
+pub returns-in-Refused-check-clause-meaning : goal.returns-in-Refused-check-clause-meaning
+returns-in-Refused-check-clause-meaning c =
+    let s = layout_of c.args.src_layout in
+    let t = layout_of c.args.dst_layout in
+    let d = shift_between 64 (comparison_of 64 (mode_of c.args.mode)) s.info t t.info in means (shift_meets 64 (comparison_of 64 (mode_of c.args.mode)) s t (omega arith) (omega arith) (lit< tt)) (returns-in-Refused-check-clause-answer c)
+
+pub returns-in-Refused-clause-answer : goal.returns-in-Refused-clause-answer
+unfolding shift_for check_for
+returns-in-Refused-clause-answer c =
+    let s = layout_of c.args.src_layout in
+    let t = layout_of c.args.dst_layout in
+    let d = shift_between 64 (comparison_of 64 (mode_of c.args.mode)) s.info t t.info in sym (refused_first (layout_causes 64 s) (layout_causes 64 t) tt d (told_by check_says c.check.ensures.answer c.in-Refused.is))
+
+pub returns-in-Refused-clause-meaning : goal.returns-in-Refused-clause-meaning
+returns-in-Refused-clause-meaning c =
+    let s = layout_of c.args.src_layout in
+    let t = layout_of c.args.dst_layout in
+    let d = shift_between 64 (comparison_of 64 (mode_of c.args.mode)) s.info t t.info in means (shift_meets 64 (comparison_of 64 (mode_of c.args.mode)) s t (omega arith) (omega arith) (lit< tt)) (returns-in-Refused-clause-answer c)
