@@ -4,7 +4,6 @@ use native.Mathlib.Omega.{arith}
 use Rattle.describe_defs.specs.Describe.{array, slice}
 use Rattle.describe_defs.proofs.Heads.{head_told}
 use Rattle.heads.proofs.Ways.{head_cut, head_code, head_unknown, head_array, head_slice, head_struct_by, opened, head_deep}
-use borrow.Enum.Refused.{opened}
 use Rattle.heads.proofs.head.Goals as goal
 
 pub returns-then-s-at : goal.returns-then-s-at

@@ -12,27 +12,24 @@ use Rattle.sums.proofs.add_bytes.Goals as goal
 
 pub returns-then-size-layout : goal.returns-then-size-layout
 returns-then-size-layout c = λ n e.
-    let x = c.args in
-    let t = trailing_of x.l.layout in
-    let w = bits_to x.l.max in
-    let s = c.before.before.type_size.ensures.1 n e in
-    sym (add_above w t x.i n (sums_of x.x) (first_size w t c.requires.0.1.0 c.requires.0.0.1 c.requires.0.1.1) (within_size w t c.requires.0.1.0 c.requires.0.0.1 c.requires.0.1.1 (n * t.elem) (omega arith)) (omega arith))
+    let t = trailing_of c.args.l.layout in
+    let w = bits_to c.args.l.max in
+    let s = c.size_of-size.ensures.1 n e in
+    sym (add_above w t c.args.i n (sums_of c.args.x) (first_size w t c.requires.0.1.0 c.requires.0.0.1 c.requires.0.1.1) (within_size w t c.requires.0.1.0 c.requires.0.0.1 c.requires.0.1.1 (n * t.elem) (omega arith)) (omega arith))
 
 pub returns-then-past_offset-bytes : goal.returns-then-past_offset-bytes
 returns-then-past_offset-bytes c = λ n e.
-    let x = c.args in
-    let t = trailing_of x.l.layout in
-    let w = bits_to x.l.max in
-    let s = c.before.before.before.before.type_size.ensures.1 n e in
-    sym (add_above w t x.i n (sums_of x.x) (first_size w t c.requires.0.1.0 c.requires.0.0.1 c.requires.0.1.1) (within_size w t c.requires.0.1.0 c.requires.0.0.1 c.requires.0.1.1 (n * t.elem) (omega arith)) (omega arith))
+    let t = trailing_of c.args.l.layout in
+    let w = bits_to c.args.l.max in
+    let s = c.size_of-size.ensures.1 n e in
+    sym (add_above w t c.args.i n (sums_of c.args.x) (first_size w t c.requires.0.1.0 c.requires.0.0.1 c.requires.0.1.1) (within_size w t c.requires.0.1.0 c.requires.0.0.1 c.requires.0.1.1 (n * t.elem) (omega arith)) (omega arith))
 
 pub returns : goal.returns
 returns c = λ n e.
-    let x = c.args in
-    let t = trailing_of x.l.layout in
-    let w = bits_to x.l.max in
-    let s = c.before.before.before.before.before.type_size.ensures.1 n e in
-    let q : c.before.before.before.before.before.type_size.result - x.l.layout.offset - x.bytes ≡ whole_padding w t n = omega arith in
+    let t = trailing_of c.args.l.layout in
+    let w = bits_to c.args.l.max in
+    let s = c.size_of-size.ensures.1 n e in
+    let q : c.size_of-size.result - c.args.l.layout.offset - c.args.bytes ≡ whole_padding w t n = omega arith in
     c.add_sized.ensures
-    ∙ ap₂ (λ (s q : ℕ). unless (sum_passes w (x.x.sizes + s) (x.x.paddings + q) ∷ []) (with_count x.i s q (sums_of x.x))) s q
-    ∙ sym (add_sized_lem w t x.i n (sums_of x.x) (first_size w t c.requires.0.1.0 c.requires.0.0.1 c.requires.0.1.1) (within_size w t c.requires.0.1.0 c.requires.0.0.1 c.requires.0.1.1 (n * t.elem) (omega arith)) (omega arith))
+    ∙ ap₂ (λ (s q : ℕ). unless (sum_passes w (c.args.x.sizes + s) (c.args.x.paddings + q) ∷ []) (with_count c.args.i s q (sums_of c.args.x))) s q
+    ∙ sym (add_sized_lem w t c.args.i n (sums_of c.args.x) (first_size w t c.requires.0.1.0 c.requires.0.0.1 c.requires.0.1.1) (within_size w t c.requires.0.1.0 c.requires.0.0.1 c.requires.0.1.1 (n * t.elem) (omega arith)) (omega arith))

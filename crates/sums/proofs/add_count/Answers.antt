@@ -9,21 +9,18 @@ use Rattle.sums.specs.View.{sums_of, bits_to}
 use Rattle.sums.proofs.add_count.Goals as goal
 
 pub returns-in_default : goal.returns-in_default
-returns-in_default c = let x = c.args in
-    let t = trailing_of x.l.layout in
-    let w = bits_to x.l.max in
-    let o = product_past 64 (x.count * t.elem) c.checked_mul.result c.checked_mul.ensures c.in_default.is in
-    sym (add_no_size w t x.i x.count (sums_of x.x) (first_size w t c.requires.0.1.0 c.requires.0.0.1 c.requires.0.1.1) (count_past w t c.requires.0.1.0 c.requires.0.0.1 c.requires.0.1.1 x.count (omega (arith, most_within w t c.requires.0.1.0 c.requires.0.0.1 c.requires.0.1.1, c.requires.0.0.0))))
+returns-in_default c = let t = trailing_of c.args.l.layout in
+    let w = bits_to c.args.l.max in
+    let o = product_past 64 (c.args.count * t.elem) c.checked_mul.result c.checked_mul.ensures c.in_default.is in
+    sym (add_no_size w t c.args.i c.args.count (sums_of c.args.x) (first_size w t c.requires.0.1.0 c.requires.0.0.1 c.requires.0.1.1) (count_past w t c.requires.0.1.0 c.requires.0.0.1 c.requires.0.1.1 c.args.count (omega (arith, most_within w t c.requires.0.1.0 c.requires.0.0.1 c.requires.0.1.1, c.requires.0.0.0))))
 
 pub returns-then-bytes-l : goal.returns-then-bytes-l
-returns-then-bytes-l c = let x = c.args in
-    let t = trailing_of x.l.layout in
-    let w = bits_to x.l.max in
-    let o = product_told 64 (x.count * t.elem) c.checked_mul.result c.checked_mul.ensures c.in-Fits.is in
-    sym (add_no_size w t x.i x.count (sums_of x.x) (first_size w t c.requires.0.1.0 c.requires.0.0.1 c.requires.0.1.1) (count_past w t c.requires.0.1.0 c.requires.0.0.1 c.requires.0.1.1 x.count (omega (arith, o.0))))
+returns-then-bytes-l c = let t = trailing_of c.args.l.layout in
+    let w = bits_to c.args.l.max in
+    let o = product_told 64 (c.args.count * t.elem) c.checked_mul.result c.checked_mul.ensures c.in-Fits.is in
+    sym (add_no_size w t c.args.i c.args.count (sums_of c.args.x) (first_size w t c.requires.0.1.0 c.requires.0.0.1 c.requires.0.1.1) (count_past w t c.requires.0.1.0 c.requires.0.0.1 c.requires.0.1.1 c.args.count (omega (arith, o.0))))
 
 pub returns : goal.returns
-returns c = let x = c.args in
-    let t = trailing_of x.l.layout in
-    let o = product_told 64 (x.count * t.elem) c.checked_mul.result c.checked_mul.ensures c.in-Fits.is in
-    c.add_bytes.ensures x.count o.0
+returns c = let t = trailing_of c.args.l.layout in
+    let o = product_told 64 (c.args.count * t.elem) c.checked_mul.result c.checked_mul.ensures c.in-Fits.is in
+    c.add_bytes.ensures c.args.count o.0

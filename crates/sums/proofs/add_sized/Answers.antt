@@ -7,13 +7,10 @@ use Rattle.share_defs.proofs.Told.{sum_passes_lem, sum_greater, sum_kept}
 use Rattle.sums.proofs.add_sized.Goals as goal
 
 pub returns-then-x-max : goal.returns-then-x-max
-returns-then-x-max c = let x = c.args in
-    sym (sum_passes_lem (bits_to x.max) x.i x.size x.padding (sums_of x.x) (omega (arith, c.requires.0, c.if-x-max.true)))
+returns-then-x-max c = sym (sum_passes_lem (bits_to c.args.max) c.args.i c.args.size c.args.padding (sums_of c.args.x) (omega (arith, c.requires.0, c.if-x-max.true)))
 
 pub returns-then-padding-x : goal.returns-then-padding-x
-returns-then-padding-x c = let x = c.args in
-    sym (sum_greater (bits_to x.max) x.i x.size x.padding (sums_of x.x) c.requires.1.0 c.requires.1.1.0 (omega (arith, c.requires.0)) c.if-padding-x.true)
+returns-then-padding-x c = sym (sum_greater (bits_to c.args.max) c.args.i c.args.size c.args.padding (sums_of c.args.x) c.requires.1.0 c.requires.1.1.0 (omega (arith, c.requires.0)) c.if-padding-x.true)
 
 pub returns : goal.returns
-returns c = let x = c.args in
-    sym (sum_kept (bits_to x.max) x.i x.size x.padding (sums_of x.x) c.requires.1.0 c.requires.1.1.0 (omega (arith, c.requires.0)) (omega arith))
+returns c = sym (sum_kept (bits_to c.args.max) c.args.i c.args.size c.args.padding (sums_of c.args.x) c.requires.1.0 c.requires.1.1.0 (omega (arith, c.requires.0)) (omega arith))

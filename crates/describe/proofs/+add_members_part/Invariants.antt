@@ -1,0 +1,22 @@
+-- The bytes left fall from a part to its members and from them to the part of each; and what the loop over members keeps.
+use Rattle.std.proofs.Common.{◌≡◌, ◌+◌, ◌-◌, ◌*◌, ◌≤◌, length}
+use Rattle.layout.specs.View.{layout_of}
+use Rattle.width.specs.Width.{bits_of, target_of, Held}
+use Rattle.describe_defs.specs.Describe.{add_read, part_for}
+use Rattle.describe.proofs.+add_members_part.Given as goal
+
+abbrev pub decreases-add_members : goal.decreases-add_members
+decreases-add_members l = 2 * (length l.s.now - l.first) + 1
+
+abbrev pub decreases-part : goal.decreases-part
+decreases-part l = 2 * (length l.s.now - l.at)
+
+abbrev pub invariant-add_members-loop-left : goal.invariant-add_members-loop-left
+invariant-add_members-loop-left l =
+    let read = part_for (bits_of l.narrow) (target_of l.narrow) l.depth l.s in
+    (l.first ≤ l.at) × (Held l.narrow (layout_of l.own)
+    × (add_read (bits_of l.narrow) read l.packed l.tag l.left (layout_of l.own) l.at
+    ≡ add_read (bits_of l.narrow) read l.packed l.tag l.count (layout_of l.initial.own) l.first))
+
+abbrev pub decreases-add_members-loop-left : goal.decreases-add_members-loop-left
+decreases-add_members-loop-left l = l.left

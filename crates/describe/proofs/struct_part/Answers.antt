@@ -1,0 +1,19 @@
+-- `describe::struct_part` meets its contract. Assumes nothing.
+use mathlib.Core.Path.{sym, ap, ◌∙◌}
+use Rattle.util_defs.specs.Refusal.{Outcome}
+use Rattle.util_defs.specs.Placed.{Placed, reached, at_place, go_on}
+use Rattle.layout_defs.specs.Layout.{Layout}
+use Rattle.describe.specs.View.{part_says}
+use Rattle.describe_defs.specs.Describe.{Part}
+use Rattle.describe_defs.specs.Heads.{made}
+use Rattle.width.specs.Width.{width_pad}
+use Rattle.describe.proofs.struct_part.Goals as goal
+
+pub returns-in-Part : goal.returns-in-Part
+returns-in-Part c =
+    c.at_tag.ensures ∙ ap (λ (o : Outcome Layout). at_place c.args.tag o (λ l. reached (l, c.in-Part.next))) c.pad_to_align.ensures
+    ∙ sym (ap (λ (p : Placed Part). go_on p (made c.args.tag (width_pad c.args.narrow))) (ap part_says c.in-Part.is))
+
+pub returns-in-Refused : goal.returns-in-Refused
+returns-in-Refused c =
+    sym (ap (λ (p : Placed Part). go_on p (made c.args.tag (width_pad c.args.narrow))) (ap part_says c.in-Refused.is))

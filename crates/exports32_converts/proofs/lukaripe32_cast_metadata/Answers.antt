@@ -1,0 +1,8 @@
+-- `exports32_converts::lukaripe32_cast_metadata` meets its contract. Assumes nothing.
+use mathlib.Core.Path.{ap, ◌∙◌}
+use Rattle.convert_defs.specs.Convert.{Params, metadata_for}
+use Rattle.exports32_numbers.specs.Numbers.{number_out32}
+use Rattle.exports32_converts.proofs.lukaripe32_cast_metadata.Goals as goal
+
+pub returns : goal.returns
+returns c = c.number_out.ensures ∙ ap number_out32 (c.cast_metadata.ensures.answer ∙ ap (λ (q : Params). metadata_for 32 q c.args.src_meta) c.params_in.ensures)

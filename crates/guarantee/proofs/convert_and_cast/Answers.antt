@@ -1,0 +1,33 @@
+-- `guarantee::convert_and_cast` meets its contract. Assumes nothing.
+use mathlib.Core.Path.{sym, ap, ◌∙◌, subst}
+use lib.Dec.{lit<}
+use native.Mathlib.Omega.{arith}
+use Rattle.util_defs.specs.Refusal.{Outcome}
+use Rattle.shift_defs.specs.Mode.{comparison_of}
+use Rattle.shift.specs.View.{mode_of}
+use Rattle.layout.specs.View.{layout_of}
+use Rattle.convert_defs.specs.Convert.{Params}
+use Rattle.guarantee.specs.Demand.{count_after, Demand3Of}
+use Rattle.guarantee.proofs.Demand.{demand_3_at_64, same_answers}
+use Rattle.convert_defs.proofs.Conversions.{compute_accepts}
+use Rattle.guarantee.proofs.convert_and_cast.Goals as goal
+
+pub returns-clause-answer : goal.returns-clause-answer
+returns-clause-answer c =
+    let computed = c.try_compute-computed.ensures.answer in
+    let count = c.converted_count-count.ensures ∙ ap (λ (o : Outcome Params). count_after 64 o c.args.src_meta) computed in
+    let first = c.validate_cast_and_convert_metadata-first.ensures.answer in
+    let e = same_answers computed count first c.validate_cast_and_convert_metadata-second.ensures.answer in e
+
+pub returns-clause-meaning : goal.returns-clause-meaning
+returns-clause-meaning c =
+    let s = layout_of c.args.src_layout in
+    let t = layout_of c.args.dst_layout in
+    let computed = c.try_compute-computed.ensures.answer in
+    let count = c.converted_count-count.ensures ∙ ap (λ (o : Outcome Params). count_after 64 o c.args.src_meta) computed in
+    let first = c.validate_cast_and_convert_metadata-first.ensures.answer in
+    let e = same_answers computed count first c.validate_cast_and_convert_metadata-second.ensures.answer in subst (Demand3Of 64 (comparison_of 64 (mode_of c.args.mode)) s t c.args.src_meta c.args.addr c.args.bytes_len c.args.more_len) (sym e)
+    (λ q acc.
+    let f = compute_accepts 64 (comparison_of 64 (mode_of c.args.mode)) s t q (omega arith) (omega arith) (lit< tt) acc.source acc.target acc.converts in
+    let h = c.try_compute-computed.ensures.fits q (computed ∙ f) in
+    demand_3_at_64 (mode_of c.args.mode) s t c.args.src_meta c.args.addr c.args.bytes_len c.args.more_len h.0 h.1 q acc)
