@@ -1,0 +1,21 @@
+-- `listing_line::line` meets its contract. Assumes nothing.
+use mathlib.Core.Path.{sym, ap, ◌∙◌}
+use lib.ListN.{length}
+use lib.Seq.{sets}
+use Rattle.compose.specs.View.{compose_says}
+use Rattle.listing_line.specs.Line.{words_line}
+use Rattle.listing_line.proofs.Lines.{no_room, written}
+use Rattle.width.specs.Width.{bits_of}
+use Rattle.listing_line.proofs.line.Goals as goal
+
+pub returns-then-out-lt-LINE_ROOM : goal.returns-then-out-lt-LINE_ROOM
+returns-then-out-lt-LINE_ROOM c = let told_here = no_room (bits_of c.args.narrow) c.args.list.now c.args.out.now c.if-out-lt-LINE_ROOM.true in record { answer = told_here.0; bytes = told_here.1.0; within = told_here.1.1 }
+
+pub returns-in-Layout : goal.returns-in-Layout
+returns-in-Layout c =
+    let e = ap words_line c.words_from_layout.ensures in
+    let g = c.put_words.ensures.value in let told_here = written (bits_of c.args.narrow) c.args.list.now c.args.out.now _ _ _ c.if-out-lt-LINE_ROOM.false (sym (ap compose_says c.in-Layout.is) ∙ c.compose_list.ensures)
+    (g.0 ∙ ap length e, g.1 ∙ ap (sets c.args.out.now 0) e) c.put_words.ensures.upper_bound in record { answer = told_here.0; bytes = told_here.1.0; within = told_here.1.1 }
+
+pub returns-in-Refused : goal.returns-in-Refused
+returns-in-Refused c = let told_here = written (bits_of c.args.narrow) c.args.list.now c.args.out.now _ _ _ c.if-out-lt-LINE_ROOM.false (sym (ap compose_says c.in-Refused.is) ∙ c.compose_list.ensures) c.put_refusal.ensures.value c.put_refusal.ensures.upper_bound in record { answer = told_here.0; bytes = told_here.1.0; within = told_here.1.1 }

@@ -1,0 +1,14 @@
+-- `rewrite::rewrite` meets its contract. Assumes nothing.
+use mathlib.Core.Path.{sym, ap, ◌∙◌}
+use Rattle.width.specs.Width.{bits_of, target_of}
+use Rattle.describe.specs.View.{read_says}
+use Rattle.rewrite.specs.View.{way_of}
+use Rattle.rewrite.proofs.Ends.{is_read, ends_unread}
+use Rattle.rewrite.proofs.rewrite.Goals as goal
+
+pub rewrite_read-requires : goal.rewrite_read-requires
+rewrite_read-requires c =
+    is_read (bits_of c.args.narrow) (target_of c.args.narrow) c.args.description.now (sym (ap read_says c.in-Layout.is) ∙ c.read.ensures.answer)
+
+pub returns-in-Refused : goal.returns-in-Refused
+returns-in-Refused c = let told_here = ends_unread (bits_of c.args.narrow) (target_of c.args.narrow) (way_of c.args.long) c.args.description.now c.args.out.now (sym (ap read_says c.in-Refused.is) ∙ c.read.ensures.answer) in record { result_value = told_here.0; out_after = told_here.1 }
