@@ -108,7 +108,7 @@ need() {
         rt) get="it is the command of the Rattle toolchain; put the folder bin/ of its kit there" ;;
         cargo | rustc | rustfmt) get="install Rust, 1.82 or later" ;;
         python3) get="install Python, 3.10 or later" ;;
-        ar | nm) get="install binutils" ;;
+        nm) get="install binutils" ;;
         flock) get="install util-linux" ;;
         *) get="install it" ;;
         esac
@@ -176,14 +176,17 @@ is_stale() {
             for (at in names) add(names[at])
         }
         { sub(/#.*/, "") }
-        /:/ { needs[substr($0, 1, index($0, ":") - 1)] = substr($0, index($0, ":") + 1) }
+        # Behind the name there may be more, as `staticlib`.
+        /:/ { split($0, sides, ":"); split(sides[1], words, " "); needs[words[1]] = sides[2] }
         END { split(wanted, names, " "); for (at in names) add(names[at]) }' crates.txt)
-    # The edits of must-fail/ are no part of what is built.
+    # A folder is newer where a file of it was removed. That of a crate does not count, which is newer where rt makes
+    # out/ in it; nor do out/ itself and must-fail/, whose edits are no part of what is built.
     # shellcheck disable=SC2086
-    [ -n "$(find $crates -mindepth 1 -name must-fail -prune -o -newer "$file" -print -quit)" ]
+    [ -n "$(find $crates -mindepth 1 -regex 'crates/[^/]*/\(out\|must-fail\)' -prune -o \
+        -newer "$file" -print -quit)" ]
 }
 
-# build_start: from here on this tool alone builds; rt does not look whether another rt writes below target/.
+# build_start: from here on this tool alone builds. Another one waits, and then finds what this one has made.
 build_start() {
     need rt flock
     mkdir -p target/tools
@@ -192,17 +195,26 @@ build_start() {
     touch target/tools/start
 }
 
-# build_end FILE: FILE gets the time when the build began, so that what has changed since then is newer.
+# build_end: from here on another tool may build.
 build_end() {
-    touch -r target/tools/start "$1"
     exec 9>&-
 }
 
-# prove WORD..: runs rt, and shows what it said only where it fails.
+# place MADE FILE: FILE becomes a copy of what rt made, with the time when the build began, so that what has changed
+# since then is newer.
+place() {
+    mkdir -p "${2%/*}"
+    # Under another name until it is complete: another tool may be using it.
+    cp "$1" "$2.new"
+    touch -r target/tools/start "$2.new"
+    mv "$2.new" "$2"
+}
+
+# prove CRATE WORD..: runs rt in the crate's folder, and shows what it said only where it fails.
 prove() {
-    if ! rt "$@" >"target/tools/$tool.log" 2>&1 </dev/null; then
+    if ! (cd "crates/$1" && rt "${@:2}") >"target/tools/$tool.log" 2>&1 </dev/null; then
         cat "target/tools/$tool.log" >&2
-        fail "rt $1 failed"
+        fail "rt $2 failed in crates/$1"
     fi
 }
 

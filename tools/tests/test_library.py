@@ -1,30 +1,32 @@
 """When the library is made."""
-from trial import CALLS, LIBRARY, RUNS, TREE, Trial, line, rt_calls
+from trial import BUILT, CALLS, LIBRARY, RUNS, TREE, Trial, line, rt_calls
 
 
 class Library(Trial):
     def test_nothing_is_done_where_it_is_newer(self):
         self.says("tools/library")
         self.touch("crates/util/must-fail", 9)
-        # As where must-fail/ is new.
+        # What rt made there.
+        (TREE / "crates/util/out/rlib").mkdir(parents=True)
+        for made in "rlib", "":
+            self.touch(f"crates/util/out/{made}", 9)
+        # As where must-fail/ or out/ is new.
         self.touch("crates/util", 9)
         self.touch("crates/listing/src/main.rt", 9)
         self.says("tools/library")
         self.assertEqual(rt_calls(), [])
 
     def test_it_is_made_where_a_source_is_newer(self):
-        parts = sorted(path.name for path in (TREE / "crates").glob("exports*_*"))
-        # A file, a file of a dependency, and a folder: that is newer where a file of it was removed.
-        for changed in "exports_layouts/src/lib.rt", "util/src/refusal.rt", "compose/proofs":
+        # A file, files of dependencies, and a folder: that is newer where a file of it was removed.
+        for changed in "lukaripe/src/lib.rt", "exports_layouts/src/lib.rt", "util/src/refusal.rt", "compose/proofs":
             self.build(*self.built)
+            (TREE / LIBRARY).write_bytes(b"")
             self.touch(LIBRARY, -20)
             self.touch(f"crates/{changed}", -10)
             self.says("tools/library", err=line("library", "making", LIBRARY, "minutes"))
-            # What the parts are made of comes first, in one call.
-            below, *made = rt_calls()
-            self.assertRegex(below, r"\Acheck .*\bcompose\b.*\butil\b")
-            self.assertEqual(sorted(made), [f"staticlib {part}" for part in parts])
+            self.assertEqual((TREE / LIBRARY).read_bytes(), (BUILT / "liblukaripe.a").read_bytes())
             self.says("tools/library")
+            self.assertEqual(rt_calls(), ["lukaripe: lib"])
 
     def test_what_changes_while_it_is_made_makes_it_stale(self):
         changed = "crates/util/src/refusal.rt"
@@ -41,4 +43,4 @@ class Library(Trial):
         ran = self.run_shell("tools/library")
         self.assertEqual((ran.returncode, ran.stdout), (1, b""))
         self.assertIn(b"File exists", ran.stderr)
-        self.assertRegex(ran.stderr, rb"\nlibrary: rt check failed\n\Z")
+        self.assertRegex(ran.stderr, rb"\nlibrary: rt lib failed in crates/lukaripe\n\Z")

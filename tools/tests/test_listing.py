@@ -123,13 +123,13 @@ class Listing(WithLists):
 
     def test_it_is_built_where_it_is_not_there(self):
         (TREE / PROGRAM).unlink()
-        # For which rt would take the program as built.
-        stamp = TREE / "target/stamp/listing"
-        stamp.parent.mkdir()
-        stamp.write_text("")
+        # What rt made of other sources is not taken.
+        other = TREE / "crates/listing/out/listing"
+        other.parent.mkdir()
+        other.write_text("#!/bin/sh\n")
+        other.chmod(0o755)
         self.says("tools/listing </dev/null", 0, "1 1 0 0 0 0\n", line("listing", "building", PROGRAM, "minutes"))
-        self.assertEqual(rt_calls(), ["check listing"])
-        self.assertFalse(stamp.exists())
+        self.assertEqual(rt_calls(), ["listing: run"])
 
     def test_it_is_built_where_a_source_is_newer(self):
         for changed in "listing/src/main.rt", "listing_line/src/lib.rt", "util/src/lib.rt":
@@ -138,7 +138,7 @@ class Listing(WithLists):
             self.touch(f"crates/{changed}", -10)
             self.says("tools/listing </dev/null", 0, "1 1 0 0 0 0\n", line("listing", "building", PROGRAM))
             self.says("tools/listing </dev/null", 0, "1 1 0 0 0 0\n")
-            self.assertEqual(rt_calls(), ["check listing"])
+            self.assertEqual(rt_calls(), ["listing: run"])
 
     def test_two_tools_do_not_build_at_once(self):
         self.build()

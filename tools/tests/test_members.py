@@ -81,7 +81,7 @@ class Members(Trial):
 
     def test_a_library_that_is_not_there_is_made(self):
         (TREE / LIBRARY).unlink()
-        said = line("library", "making", "about 15 minutes the first time, some minutes after that")
+        said = line("library", "making", "many minutes the first time, some minutes after that")
         self.says("tools/members u8", 0, record(1, 1, 1, 0, 0, 0), said)
         self.says("tools/members u8", 0, record(1, 1, 1, 0, 0, 0))
 

@@ -34,19 +34,20 @@ LIBRARY, PROGRAM = "target/staticlib/liblukaripe.a", "target/bin/listing"
 # The greatest number.
 M = 2**64 - 1
 
-# Two at a time are a fault. Each part of the library is the whole of it.
+# Two at a time are a fault. It works on the crate in whose folder it is called, and a program that it makes runs too.
 RT = f"""#!/usr/bin/env bash
 set -e
 mkdir "{RUNS}"
-echo "$*" >>"{CALLS}"
+[ -d src ]
+crate=$(basename "$PWD")
+echo "$crate: $*" >>"{CALLS}"
 sleep 0.1
-case $1 in
-staticlib) mkdir -p target/staticlib && cp "{BUILT}/liblukaripe.a" "target/staticlib/lib$2.a" ;;
-check)
-    # Of the library's crates no program comes.
-    case " $* " in
-    *" listing "*) mkdir -p target/bin && cp "{BUILT}/listing" target/bin/ ;;
-    esac
+mkdir -p out
+case "$crate: $*" in
+"lukaripe: lib") cp "{BUILT}/liblukaripe.a" out/ ;;
+"listing: run")
+    cp "{BUILT}/listing" out/
+    out/listing
     ;;
 *) false ;;
 esac
@@ -77,7 +78,7 @@ def make_tree():
         if not (ROOT / built).exists():
             sys.exit(f"no {built}: run tools/check tools, which builds it")
     shutil.rmtree(HOME, ignore_errors=True)
-    shutil.copytree(ROOT, TREE, symlinks=True, ignore=shutil.ignore_patterns("target", ".git"))
+    shutil.copytree(ROOT, TREE, symlinks=True, ignore=shutil.ignore_patterns("target", "out", ".git"))
     BUILT.mkdir()
     for built in LIBRARY, PROGRAM:
         shutil.copy(ROOT / built, BUILT)
@@ -105,8 +106,8 @@ class Trial(unittest.TestCase):
     def build(self, *names):
         """The copy has these things built and nothing else, and its sources are as they were."""
         self.doCleanups()
-        shutil.rmtree(TREE / "target", ignore_errors=True)
-        shutil.rmtree(RUNS, ignore_errors=True)
+        for made in TREE / "target", RUNS, *TREE.glob("crates/*/out"):
+            shutil.rmtree(made, ignore_errors=True)
         CALLS.unlink(missing_ok=True)
         for name in names:
             (TREE / name).parent.mkdir(parents=True, exist_ok=True)

@@ -22,7 +22,7 @@ write_heads-requires c =
 
 pub overflow_add-bytes : goal.overflow_add-bytes
 overflow_add-bytes c =
-    omega (arith, long_bytes (bits_of c.args.narrow) (target_of c.args.narrow) (way_of c.args.long) c.args.description.now c.requires c.args.out.now (sym (ap turned_says c.in-Turned.is) ∙ c.count_turned.ensures) (sym c.has_room.ensures ∙ c.if-has_room.true) (ap way_of c.if-long.true) c.before.before.before.before.before.before.before.before.before.before.before.before.before.well-formed.1.1.0.0)
+    omega (arith, long_bytes (bits_of c.args.narrow) (target_of c.args.narrow) (way_of c.args.long) c.args.description.now c.requires c.args.out.now (sym (ap turned_says c.in-Turned.is) ∙ c.count_turned.ensures) (sym c.has_room.ensures ∙ c.if-has_room.true) (ap way_of c.if-long.true) c.well_formed.1.1.0.0)
 
 pub overflow_sub-bytes : goal.overflow_sub-bytes
 overflow_sub-bytes c =

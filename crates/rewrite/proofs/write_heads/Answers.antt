@@ -18,7 +18,7 @@ pub head_bytes-at-requires : goal.head_bytes-at-requires
 head_bytes-at-requires c = tt
 
 pub overflow_add-at : goal.overflow_add-at
-overflow_add-at c = omega (arith, c.head_bytes-at.ensures, (write_room (way_of c.args.long) c.args.s.now c.args.out.now c.loop-at.invariant c.requires.1 c.loop-at-test.true).0.1, c.before.before.before.before.before.before.before.before.before.before.well-formed.0.0)
+overflow_add-at c = omega (arith, c.head_bytes-at.ensures, (write_room (way_of c.args.long) c.args.s.now c.args.out.now c.loop-at.invariant c.requires.1 c.loop-at-test.true).0.1, c.well_formed.0.0)
 
 pub loop-at-smaller : goal.loop-at-smaller
 loop-at-smaller c = omega (arith, c.head_bytes-at.ensures, (write_room (way_of c.args.long) c.args.s.now c.args.out.now c.loop-at.invariant c.requires.1 c.loop-at-test.true).0.1, c.loop-at-test.true)
