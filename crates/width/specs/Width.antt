@@ -29,7 +29,7 @@ abbrev pub target_of : Bool → Target
 target_of true = target32
 target_of false = target64
 
--- the member step, final padding and an array: at 32 bits by those at 64 (`extend_at`, `pad_at`, `Array-at`)
+-- the member step, final padding and an array: at 32 bits by those at 64 (`extend_at`, `pad_at`, `array_at`)
 abbrev pub width_extend : Bool → Layout → Layout → ℕ → Outcome Layout
 width_extend true l m packing = step_within (M 32) m.info (extend_for 64 l m packing)
 width_extend false l m packing = extend_for 64 l m packing
