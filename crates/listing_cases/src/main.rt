@@ -11,7 +11,7 @@ const LIST_BYTES: usize = 65536;
 const LINE_BYTES: usize = 4096;
 
 // The name of a list and its line at a width.
-fn list<R: Files + Print>(rt: &R, narrow: bool, name: &str) -> io::Result<()> {
+fn list<R: Files + Print + Eprint>(rt: &R, narrow: bool, name: &str) -> io::Result<()> {
     let mut file = match fs::open(rt, name) {
         Ok(file) => file,
         Err(error) => {
@@ -27,7 +27,7 @@ fn list<R: Files + Print>(rt: &R, narrow: bool, name: &str) -> io::Result<()> {
 }
 
 // Every list at a width.
-fn lists<R: Files + Print>(rt: &R, narrow: bool) -> io::Result<()> {
+fn lists<R: Files + Print + Eprint>(rt: &R, narrow: bool) -> io::Result<()> {
     list(rt, narrow, "example")?;
     list(rt, narrow, "empty")?;
     list(rt, narrow, "after")?;

@@ -25,7 +25,7 @@ fn replay(text: &[u8]) -> Tally {
     tally
 }
 
-fn report<R: Files + Print>(rt: &R, name: &str) -> io::Result<()> {
+fn report<R: Files + Print + Eprint>(rt: &R, name: &str) -> io::Result<()> {
     let mut text = recorded::buffer();
     let n = match recorded::load(rt, name.as_bytes(), &mut text) {
         Ok(n) => n,
