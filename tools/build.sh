@@ -108,7 +108,7 @@ need() {
         rt) get="it is the command of the Rattle toolchain; put the folder bin/ of its kit there" ;;
         cargo | rustc | rustfmt) get="install Rust, 1.82 or later" ;;
         python3) get="install Python, 3.10 or later" ;;
-        nm) get="install binutils" ;;
+        ar | nm) get="install binutils" ;;
         flock) get="install util-linux" ;;
         *) get="install it" ;;
         esac

@@ -1,5 +1,5 @@
 """When the library is made."""
-from trial import BUILT, CALLS, LIBRARY, RUNS, TREE, Trial, line, rt_calls
+from trial import CALLS, LIBRARY, RUNS, TREE, Trial, line, rt_calls
 
 
 class Library(Trial):
@@ -17,16 +17,15 @@ class Library(Trial):
         self.assertEqual(rt_calls(), [])
 
     def test_it_is_made_where_a_source_is_newer(self):
+        parts = sorted(path.name for path in (TREE / "crates").glob("exports*_c"))
         # A file, files of dependencies, and a folder: that is newer where a file of it was removed.
-        for changed in "lukaripe/src/lib.rt", "exports_layouts/src/lib.rt", "util/src/refusal.rt", "compose/proofs":
+        for changed in "exports_layouts_c/src/lib.rt", "exports_layouts/src/lib.rt", "util/src/refusal.rt", "compose/proofs":
             self.build(*self.built)
-            (TREE / LIBRARY).write_bytes(b"")
             self.touch(LIBRARY, -20)
             self.touch(f"crates/{changed}", -10)
             self.says("tools/library", err=line("library", "making", LIBRARY, "minutes"))
-            self.assertEqual((TREE / LIBRARY).read_bytes(), (BUILT / "liblukaripe.a").read_bytes())
+            self.assertEqual(sorted(rt_calls()), [f"{part}: lib" for part in parts])
             self.says("tools/library")
-            self.assertEqual(rt_calls(), ["lukaripe: lib"])
 
     def test_what_changes_while_it_is_made_makes_it_stale(self):
         changed = "crates/util/src/refusal.rt"
@@ -43,4 +42,4 @@ class Library(Trial):
         ran = self.run_shell("tools/library")
         self.assertEqual((ran.returncode, ran.stdout), (1, b""))
         self.assertIn(b"File exists", ran.stderr)
-        self.assertRegex(ran.stderr, rb"\nlibrary: rt lib failed in crates/lukaripe\n\Z")
+        self.assertRegex(ran.stderr, rb"\nlibrary: rt lib failed in crates/exports_numbers_c\n\Z")

@@ -35,6 +35,7 @@ LIBRARY, PROGRAM = "target/staticlib/liblukaripe.a", "target/bin/listing"
 M = 2**64 - 1
 
 # Two at a time are a fault. It works on the crate in whose folder it is called, and a program that it makes runs too.
+# Each part of the library is the whole of it.
 RT = f"""#!/usr/bin/env bash
 set -e
 mkdir "{RUNS}"
@@ -44,7 +45,7 @@ echo "$crate: $*" >>"{CALLS}"
 sleep 0.1
 mkdir -p out
 case "$crate: $*" in
-"lukaripe: lib") cp "{BUILT}/liblukaripe.a" out/ ;;
+exports*_c": lib") cp "{BUILT}/liblukaripe.a" "out/lib$crate.a" ;;
 "listing: run")
     cp "{BUILT}/listing" out/
     out/listing

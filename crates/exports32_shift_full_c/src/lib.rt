@@ -1,0 +1,21 @@
+// What C and Rust call of exports32_shift_full: an export for its function, with the same contract, and no logic of its own.
+#![tactic(auto)]
+
+ghost use Rattle.std.specs.Prelude.{◌≡◌};
+ghost use Rattle.full_defs.specs.Full.{sizes_agree};
+ghost use Rattle.shift_defs.specs.Match.{match_for};
+ghost use Rattle.exports32_numbers.specs.Numbers.{decision_out32, trailing_in32};
+
+use exports32_numbers::{Number32, Trailing32};
+
+// Whether the target, shifted, has the sizes of the source, which has a size at 0.
+#[unsafe(no_mangle)]
+pub extern "C" fn lukaripe32_size_sequences_match_full(
+    src: Trailing32,
+    dst: Trailing32,
+    dst_base: u32,
+) -> Number32
+    ensures { result ≡ decision_out32 (match_for 32 (sizes_agree 32) (trailing_in32 src) (trailing_in32 dst) dst_base) }
+{
+    exports32_shift_full::lukaripe32_size_sequences_match_full(src, dst, dst_base)
+}

@@ -1,0 +1,17 @@
+// What C and Rust call of exports_from_short: an export for its function, with the same contract, and no logic of its own.
+#![tactic(auto)]
+
+ghost use Rattle.std.specs.Prelude.{◌≡◌, length};
+ghost use Rattle.short_defs.specs.Moves.{from_short, move_for, moved_for, filled};
+ghost use Rattle.exports_short.specs.Shorts.{moved_out};
+
+use exports_short::MovedOut;
+
+// Moves short records to those of 48 bytes, into the front of out.
+#[unsafe(no_mangle)]
+pub extern "C" fn lukaripe_records_from_short(records: &[u8], out: &mut [u8]) -> MovedOut
+    ensures value { result ≡ moved_out (moved_for from_short records.now (length out.old)) }
+    ensures out_after { out.new ≡ filled (move_for from_short records.now (length out.old)) out.old }
+{
+    exports_from_short::lukaripe_records_from_short(records, out)
+}

@@ -1,0 +1,28 @@
+// What C and Rust call of exports_guarantee: an export for its function, with the same contract, and no logic of its own.
+#![tactic(auto)]
+
+ghost use Rattle.std.specs.Prelude.{◌≡◌};
+ghost use Rattle.util_defs.specs.Refusal.{answered};
+ghost use Rattle.trailing_defs.specs.Sequence.{same_sequence};
+ghost use Rattle.guarantee.specs.Demand.{answers_of};
+ghost use Rattle.exports_layouts.specs.Layouts.{with_layout};
+ghost use Rattle.exports_guarantee.specs.Carried.{carried_out};
+
+use exports_guarantee::CarriedOut;
+use exports_layouts::Layout;
+
+// Converts src_meta elements, and casts bytes at addr to the target over two lengths.
+#[unsafe(no_mangle)]
+pub extern "C" fn lukaripe_convert_and_cast(
+    src: Layout,
+    dst: Layout,
+    src_meta: u64,
+    addr: u64,
+    bytes_len: u64,
+    more_len: u64,
+) -> CarriedOut
+    ensures { result ≡ carried_out (with_layout 64 src (λ l. with_layout 64 dst (λ m.
+        answered (answers_of 64 (same_sequence 64) l m src_meta addr bytes_len more_len)))) }
+{
+    exports_guarantee::lukaripe_convert_and_cast(src, dst, src_meta, addr, bytes_len, more_len)
+}

@@ -1,0 +1,17 @@
+// What C and Rust call of exports_to_short: an export for its function, with the same contract, and no logic of its own.
+#![tactic(auto)]
+
+ghost use Rattle.std.specs.Prelude.{◌≡◌, length};
+ghost use Rattle.short_defs.specs.Moves.{to_short, move_for, moved_for, filled};
+ghost use Rattle.exports_short.specs.Shorts.{moved_out};
+
+use exports_short::MovedOut;
+
+// Moves records of 48 bytes to short ones, into the front of out.
+#[unsafe(no_mangle)]
+pub extern "C" fn lukaripe_records_to_short(records: &[u8], out: &mut [u8]) -> MovedOut
+    ensures value { result ≡ moved_out (moved_for to_short records.now (length out.old)) }
+    ensures out_after { out.new ≡ filled (move_for to_short records.now (length out.old)) out.old }
+{
+    exports_to_short::lukaripe_records_to_short(records, out)
+}
