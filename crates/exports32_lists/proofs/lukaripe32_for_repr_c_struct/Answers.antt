@@ -1,7 +1,0 @@
--- `exports32_lists::lukaripe32_for_repr_c_struct` meets its contract. Assumes nothing.
-use mathlib.Core.Path.{ap, ◌∙◌}
-use Rattle.exports32_lists.specs.Lists.{composed_out32}
-use Rattle.exports32_lists.proofs.lukaripe32_for_repr_c_struct.Goals as goal
-
-pub returns : goal.returns
-returns c = c.composed_out.ensures ∙ ap composed_out32 c.for_repr_c_struct.ensures
