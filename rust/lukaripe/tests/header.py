@@ -163,7 +163,7 @@ def declared_in_crates(sources):
         if source.endswith("/refusal.rt"):
             for name, number in re.findall(r"pub const (\w+): u64 = (\d+);", text):
                 declared.constants["LUKARIPE_REFUSED_" + name] = number
-        for name, body in re.findall(r"#\[repr\(C\)\]\s*pub struct (\w+) \{(.*?)\}", text, re.S):
+        for name, body in re.findall(r"#\[repr\(C\)\]\s*(?:#\[derive.*?\]\s*)?pub struct (\w+) \{(.*?)\}", text, re.S):
             declared.structs[in_c(name)] = crate_fields(body)
         for name, parameters, result in re.findall(r'pub extern "C" fn (\w+)\((.*?)\) -> (\w+)', text, re.S):
             declared.functions[name] = in_c(result), list(crate_parameters(parameters))
