@@ -19,7 +19,8 @@ class Library(Trial):
     def test_it_is_made_where_a_source_is_newer(self):
         parts = sorted(path.name for path in (TREE / "crates").glob("exports*_c"))
         # A file, files of dependencies, and a folder: that is newer where a file of it was removed.
-        for changed in "exports_layouts_c/src/lib.rt", "exports_layouts/src/lib.rt", "util/src/refusal.rt", "compose/proofs":
+        sources = "exports_layouts_c/src/lib.rt", "exports_layouts/src/lib.rt", "util/src/refusal.rt"
+        for changed in *sources, "compose/proofs":
             self.build(*self.built)
             self.touch(LIBRARY, -20)
             self.touch(f"crates/{changed}", -10)
