@@ -8,31 +8,31 @@ ghost use Rattle.rounding.specs.Word.{IsWord};
 ghost use Rattle.trailing_defs.specs.Calls.{advance_causes, advance_for, Advanced};
 ghost use Rattle.trailing.specs.View.{trailing_of, advance_says};
 
-use rounding::{ComponentsAnswer, RoundingAlignAndPhase};
-use trailing::{AdvanceAnswer, TrailingSliceLayout};
-use util::refusal;
+use rounding::{Components, RoundingAlignAndPhase};
+use trailing::TrailingSliceLayout;
+use util::Refusal;
 
 fn advance_at(
-    tail: TrailingSliceLayout,
-    align: u64,
-    phase: u64,
+    tail: TrailingSliceLayout<u64>,
+    parts: Components<u64>,
     bytes: u64,
     elem: u64,
-) -> AdvanceAnswer
-    requires { IsWord tail.size_rounding_align_and_phase.0 align phase }
+) -> Result<TrailingSliceLayout<u64>, Refusal>
+    requires { IsWord tail.size_rounding_align_and_phase.0 parts.align parts.phase }
     ensures { advance_says result ≡ advance_for 64 (trailing_of tail) bytes elem }
 {
+    let Components { align, phase } = parts;
     let align_mask = align - 1;
     let phase_capacity = u64::MAX - (tail.size_base & !align_mask);
     // The base rounded down and the phase fit, so this does not go below 0.
     let max_advance = phase_capacity - phase;
     if bytes > max_advance {
-        return AdvanceAnswer::Refused(refusal::ADVANCE_PASSES_MAX);
+        return Err(Refusal::AdvancePassesMax);
     }
     let advanced_phase = phase + bytes;
     let normalized_phase = advanced_phase & align_mask;
     let whole_bytes = advanced_phase & !align_mask;
-    AdvanceAnswer::Layout(TrailingSliceLayout {
+    Ok(TrailingSliceLayout {
         offset: tail.offset,
         elem_size: elem,
         size_base: tail.size_base + whole_bytes,
@@ -41,15 +41,15 @@ fn advance_at(
 }
 
 // The layout advanced by bytes, with another element size: its sizes are the old ones with that many bytes more.
-pub fn advance(tail: TrailingSliceLayout, bytes: u64, elem_size: u64) -> AdvanceAnswer
+pub fn advance(
+    tail: TrailingSliceLayout<u64>,
+    bytes: u64,
+    elem_size: u64,
+) -> Result<TrailingSliceLayout<u64>, Refusal>
     ensures answer { advance_says result ≡ advance_for 64 (trailing_of tail) bytes elem_size }
     ensures meaning { Meets (advance_causes 64 (trailing_of tail) bytes) (Advanced 64 (trailing_of tail) bytes elem_size) (advance_says result) }
 {
     let word = tail.size_rounding_align_and_phase;
-    match word.components() {
-        ComponentsAnswer::Components { align, phase } => {
-            advance_at(tail, align, phase, bytes, elem_size)
-        }
-        ComponentsAnswer::Refused(number) => AdvanceAnswer::Refused(number),
-    }
+    let parts = word.components()?;
+    advance_at(tail, parts, bytes, elem_size)
 }

@@ -3,11 +3,10 @@
 // a difference writes another count.
 #![tactic(auto)]
 
-use compose::ComposeAnswer;
-use layout::{DstLayout, LayoutAnswer, SizeInfo};
+use layout::{DstLayout, SizeInfo};
 use record::Words;
 use std::io;
-use util::Answer;
+use util::RefusedAt;
 
 const CASES: usize = 27305;
 
@@ -111,7 +110,7 @@ fn closed(r: Rule) -> Rule {
 }
 
 // Whether a composed layout is the one of the rule.
-fn is_rule(l: DstLayout, r: Rule) -> bool {
+fn is_rule(l: DstLayout<u64>, r: Rule) -> bool {
     let size_info = l.size_info;
     let mark = l.statically_shallow_unpadded;
     let modifier = l.align_modifier;
@@ -124,13 +123,15 @@ fn is_rule(l: DstLayout, r: Rule) -> bool {
     }
 }
 
-fn agrees(a: ComposeAnswer, r: Rule) -> bool {
+fn agrees(a: Result<DstLayout<u64>, RefusedAt<u64>>, r: Rule) -> bool {
     match a {
-        ComposeAnswer::Layout(l) => is_rule(l, r),
-        ComposeAnswer::Refused {
-            number: _,
-            place: _,
-        } => false,
+        Ok(l) => is_rule(l, r),
+        Err(
+            RefusedAt {
+                refusal: _,
+                place: _,
+            },
+        ) => false,
     }
 }
 
@@ -147,8 +148,8 @@ fn put_words(list: &mut [u8], at: usize, w: Words) {
 // Writes the record of a scalar; an unused code writes none.
 fn put_member(list: &mut [u8], at: usize, code: u64) {
     match scalar::scalar(code) {
-        LayoutAnswer::Layout(l) => put_words(list, at, record::words_from_layout(l)),
-        LayoutAnswer::Refused(_) => {}
+        Ok(l) => put_words(list, at, record::words_from_layout(l)),
+        Err(_) => {}
     }
 }
 
@@ -170,7 +171,7 @@ fn records_bytes(length: u64) -> usize {
 }
 
 // The composition of the first members of a list.
-fn composed(length: u64, packing: u64, list: &[u8]) -> ComposeAnswer {
+fn composed(length: u64, packing: u64, list: &[u8]) -> Result<DstLayout<u64>, RefusedAt<u64>> {
     let end = records_bytes(length);
     if list.len() < end {
         return compose::for_repr_c_struct(0, packing, list);
@@ -179,7 +180,7 @@ fn composed(length: u64, packing: u64, list: &[u8]) -> ComposeAnswer {
 }
 
 // The record of a case: its length, its packing and its codes.
-fn compose_case(case: u64) -> ComposeAnswer {
+fn compose_case(case: u64) -> Result<DstLayout<u64>, RefusedAt<u64>> {
     let mut list = [0u8; 288];
     put_members(&mut list, case / 0x1_0000);
     composed(case % 256, case / 256 % 256, &list)
@@ -227,7 +228,7 @@ fn report(rt: &impl Print, bytes: u64, t: Tally) -> io::Result<()> {
 fn main(rt: HostRuntime) -> io::Result<()> {
     let mut buffer = [0u8; 218440];
     match cases::write_cases(6, &mut buffer) {
-        Answer::Number(bytes) => report(&rt, bytes, tally_of(&buffer)),
-        Answer::Refused(number) => report(&rt, number, tally_of(&buffer)),
+        Ok(bytes) => report(&rt, bytes, tally_of(&buffer)),
+        Err(refusal) => report(&rt, refusal.number(), tally_of(&buffer)),
     }
 }

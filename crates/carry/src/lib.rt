@@ -10,24 +10,24 @@ ghost use Rattle.convert_defs.specs.Convert.{metadata_causes, metadata_for};
 ghost use Rattle.convert.specs.View.{params_in};
 
 use convert::CastParamsInner;
-use util::{Answer, Product, refusal};
+use util::Refusal;
 
 // base + metadata * multiple, where 64 bits hold it.
-fn add_scaled_metadata(base: u64, metadata: u64, multiple: u64) -> Answer
+fn add_scaled_metadata(base: u64, metadata: u64, multiple: u64) -> Result<u64, Refusal>
     ensures { number_says result ≡ metadata_for 64 (unsized_to_unsized base multiple) metadata }
 {
-    let Product::Fits(scaled) = util::checked_mul(metadata, multiple) else {
-        return Answer::Refused(refusal::CONVERTED_COUNT_PASSES_MAX);
+    let Some(scaled) = util::checked_mul(metadata, multiple) else {
+        return Err(Refusal::ConvertedCountPassesMax);
     };
     if u64::MAX - base < scaled {
-        Answer::Refused(refusal::CONVERTED_COUNT_PASSES_MAX)
+        Err(Refusal::ConvertedCountPassesMax)
     } else {
-        Answer::Number(base + scaled)
+        Ok(base + scaled)
     }
 }
 
 // The count of the target that src_meta of the source becomes.
-pub fn cast_metadata(params: CastParamsInner, src_meta: u64) -> Answer
+pub fn cast_metadata(params: CastParamsInner<u64>, src_meta: u64) -> Result<u64, Refusal>
     ensures answer { number_says result ≡ metadata_for 64 (params_in params) src_meta }
     ensures meaning { Meets (metadata_causes 64 (params_in params) src_meta) (λ n. n ≡ converted (params_in params) src_meta)
         (number_says result) }
@@ -37,7 +37,7 @@ pub fn cast_metadata(params: CastParamsInner, src_meta: u64) -> Answer
             offset_delta_elems,
             elem_multiple,
         } => add_scaled_metadata(offset_delta_elems, src_meta, elem_multiple),
-        CastParamsInner::SizedToUnsized { dst_meta } => Answer::Number(dst_meta),
-        CastParamsInner::SizedToSized => Answer::Number(0),
+        CastParamsInner::SizedToUnsized { dst_meta } => Ok(dst_meta),
+        CastParamsInner::SizedToSized => Ok(0),
     }
 }

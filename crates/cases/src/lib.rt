@@ -9,7 +9,7 @@ ghost use Rattle.cases_defs.specs.Cases.{cases_to, list_count, cases_bytes};
 ghost use Rattle.cases_defs.specs.Write.{cases_for, count_written, filled_with, WriteMeans};
 ghost use Rattle.cases.specs.Grow.{list_bytes, grown_bytes};
 
-use util::{Answer, refusal};
+use util::Refusal;
 
 // The greatest length of a list, and the bytes of a list under its five packings.
 pub const GREATEST_LENGTH: u64 = 6;
@@ -83,18 +83,18 @@ fn cases_bytes(longest: u64) -> u64
 
 // Writes every list of up to longest members under each packing into the front of out; behind them it stays as it was. The
 // answer is the number of bytes written.
-pub fn write_cases(longest: u64, out: &mut [u8]) -> Answer
+pub fn write_cases(longest: u64, out: &mut [u8]) -> Result<u64, Refusal>
     ensures answer { number_says result ≡ count_written (cases_for longest (length out.old)) }
     ensures bytes { out.new ≡ filled_with (cases_for longest (length out.old)) out.old }
     ensures meaning { WriteMeans longest out.old out.new (number_says result) }
 {
     if longest > GREATEST_LENGTH {
-        return Answer::Refused(refusal::LISTS_TOO_LONG);
+        return Err(Refusal::ListsTooLong);
     }
     let bytes = cases_bytes(longest);
     if (out.len() as u64) < bytes {
-        return Answer::Refused(refusal::CASES_SHORT);
+        return Err(Refusal::CasesShort);
     }
     write_all(longest, out);
-    Answer::Number(bytes)
+    Ok(bytes)
 }

@@ -1,4 +1,6 @@
 -- What the answers of casts tell their callers. Assumes nothing.
+use Rattle.util.specs.declared.refusal.Refusal.{Refusal}
+use Rattle.std.specs.Prelude.{Err, Ok, Result}
 use mathlib.Core.Path.{◌≡◌, refl, ap, ◌∙◌}
 use mathlib.Core.Bool.{Bool, true, false, ◌&&◌}
 use mathlib.Core.List.{[], ◌∷◌}
@@ -12,22 +14,21 @@ use Rattle.layout_defs.specs.Layout.{Info, fixed, trailing, Layout, size_in, no_
 use Rattle.layout_defs.specs.Extend.{IsTrailing, is_trailing}
 use Rattle.cast_defs.specs.Cast.{prefix, count_in, elem_zero, too_small, cast_causes, Grant, greatest_grant, cast_for}
 use Rattle.cast_defs.specs.Exact.{split_is, no_exact}
+use Rattle.cast.specs.declared.Granted.{Granted}
 use Rattle.cast.specs.View.{cast_says}
-use Rattle.cast.specs.declared.CastAnswer.{CastAnswer}
-use Rattle.cast.specs.declared.CastAnswer.TheVariants as Answer
 use Rattle.cast_defs.proofs.Grants.{tells_small, greatest_in}
 
 -- a fit in front: the count and its size
-pub fit_told : {n s : ℕ} (w : ℕ) (i : Info) (L : ℕ) (r : CastAnswer) → cast_says r ≡ unless (too_small w i L ∷ []) (greatest_grant w i prefix L) → r ≡ Answer.Granted n s
-    → (n ≡ count_in w i L) × (s ≡ size_in w i (count_in w i L))
-fit_told {n} {s} w i L r e g =
+pub fit_told : {g : Granted ℕ} (w : ℕ) (i : Info) (L : ℕ) (r : Result (Granted ℕ) Refusal) → cast_says r ≡ unless (too_small w i L ∷ []) (greatest_grant w i prefix L) → r ≡ Ok g
+    → (g.elems ≡ count_in w i L) × (g.split_at ≡ size_in w i (count_in w i L))
+fit_told w i L r e g =
     let z = answer_is (too_small w i L ∷ []) (greatest_grant w i prefix L) (told_by cast_says e g) in
     (ap (λ (x : Grant). x.count) z, ap (λ (x : Grant). x.split) z)
 
 -- which is at most the length
-pub fit_within : {n s : ℕ} (w : ℕ) (i : Info) (L : ℕ) (r : CastAnswer) → cast_says r ≡ unless (too_small w i L ∷ []) (greatest_grant w i prefix L) → r ≡ Answer.Granted n s
-    → 0 < w → ((no_word i).means → ⊥) → ((elem_zero i).means → ⊥) → s ≤ L
-fit_within {n} {s} w i L r e g h nw ne =
+pub fit_within : {g : Granted ℕ} (w : ℕ) (i : Info) (L : ℕ) (r : Result (Granted ℕ) Refusal) → cast_says r ≡ unless (too_small w i L ∷ []) (greatest_grant w i prefix L) → r ≡ Ok g
+    → 0 < w → ((no_word i).means → ⊥) → ((elem_zero i).means → ⊥) → g.split_at ≤ L
+fit_within w i L r e g h nw ne =
     let d = tells_small w i L h nw in
     let m = accepted_none (too_small w i L ∷ []) (greatest_grant w i prefix L) (d, λ _. tt) (told_by cast_says e g) in
     let l : size_in w i 0 ≤ L = known (tells_le (size_in w i 0) L) (λ f. m.0 (yes d (told_true (tells_lt L (size_in w i 0)) (omega (arith, f))))) in
@@ -46,19 +47,19 @@ exact_missing : (w : ℕ) (l : Layout) (s : ℕ) → split_is s (cast_for w l pr
 unfolding unless
 exact_missing w l s e = simp (e, and_false (is_trailing l.info))
 
-pub exact_answered : {n z : ℕ} (w : ℕ) (l : Layout) (s : ℕ) (r : CastAnswer) → IsTrailing l.info → cast_says r ≡ cast_for w l prefix 0 s → r ≡ Answer.Granted n z → z ≡ s
-    → answered n ≡ unless (no_exact w l s ∷ []) (count_in w l.info s)
+pub exact_answered : {g : Granted ℕ} (w : ℕ) (l : Layout) (s : ℕ) (r : Result (Granted ℕ) Refusal) → IsTrailing l.info → cast_says r ≡ cast_for w l prefix 0 s → r ≡ Ok g → g.split_at ≡ s
+    → answered g.elems ≡ unless (no_exact w l s ∷ []) (count_in w l.info s)
 unfolding unless cast_for
-exact_answered {n} {z} w l s r x e g q =
+exact_answered {g = y} w l s r x e g q =
     let o = told_by cast_says e g in
     let c = answer_is (cast_causes w l prefix 0 s) (greatest_grant w l.info prefix s) o in
-    simp (is_trailing_lem l.info x, ap (split_is s) o, eq-eqb z s q) (ap (λ (y : Grant). answered y.count) c)
+    simp (is_trailing_lem l.info x, ap (split_is s) o, eq-eqb y.split_at s q) (ap (λ (y : Grant). answered y.count) c)
 
-pub exact_other : {n z : ℕ} (w : ℕ) (l : Layout) (s : ℕ) (r : CastAnswer) → cast_says r ≡ cast_for w l prefix 0 s → r ≡ Answer.Granted n z → (z ≡ s → ⊥)
+pub exact_other : {g : Granted ℕ} (w : ℕ) (l : Layout) (s : ℕ) (r : Result (Granted ℕ) Refusal) → cast_says r ≡ cast_for w l prefix 0 s → r ≡ Ok g → (g.split_at ≡ s → ⊥)
     → refused 14 ≡ unless (no_exact w l s ∷ []) (count_in w l.info s)
-exact_other {n} {z} w l s r e g q = exact_missing w l s (ap (split_is s) (told_by cast_says e g) ∙ ne_eqb z s q)
+exact_other {g = y} w l s r e g q = exact_missing w l s (ap (split_is s) (told_by cast_says e g) ∙ ne_eqb y.split_at s q)
 
-pub exact_none : {k : ℕ} (w : ℕ) (l : Layout) (s : ℕ) (r : CastAnswer) → cast_says r ≡ cast_for w l prefix 0 s → r ≡ Answer.Refused k
+pub exact_none : {k : Refusal} (w : ℕ) (l : Layout) (s : ℕ) (r : Result (Granted ℕ) Refusal) → cast_says r ≡ cast_for w l prefix 0 s → r ≡ Err k
     → refused 14 ≡ unless (no_exact w l s ∷ []) (count_in w l.info s)
 exact_none w l s r e g = exact_missing w l s (ap (split_is s) (told_by cast_says e g))
 

@@ -13,16 +13,9 @@ ghost use Rattle.compose_defs.specs.Compose.{ported, strict, compose_for, struct
 ghost use Rattle.compose_defs.specs.Strict.{StrictList};
 ghost use Rattle.compose.specs.View.{compose_says};
 
-use layout::{DstLayout, LayoutAnswer, SizeInfo, SizedLayout};
+use layout::{DstLayout, SizeInfo, SizedLayout};
 use record::RECORD_BYTES;
-use util::refusal;
-
-// A composed layout, or the number of the refusal and its place.
-#[derive(Clone, Copy)]
-pub enum ComposeAnswer {
-    Layout(DstLayout),
-    Refused { number: u64, place: u64 },
-}
+use util::{Refusal, RefusedAt};
 
 // Whether one modifier is refused beside the other.
 pub fn at_odds(heed: bool, aligned: bool, packed: bool) -> bool
@@ -36,44 +29,46 @@ pub fn at_odds(heed: bool, aligned: bool, packed: bool) -> bool
 }
 
 // The empty layout that a composition begins with.
-fn begin(heed: bool, repr_align: u64, repr_packed: u64) -> LayoutAnswer
+fn begin(heed: bool, repr_align: u64, repr_packed: u64) -> Result<DstLayout<u64>, Refusal>
     ensures { layout_says result ≡ begin_for 64 heed repr_align repr_packed }
 {
-    match make::new_zst(repr_align) {
-        LayoutAnswer::Layout(empty) => {
-            if at_odds(heed, repr_align != 0, repr_packed != 0) {
-                LayoutAnswer::Refused(refusal::ALIGN_AND_PACKED)
-            } else {
-                LayoutAnswer::Layout(empty)
-            }
-        }
-        LayoutAnswer::Refused(number) => LayoutAnswer::Refused(number),
+    let empty = make::new_zst(repr_align)?;
+    if at_odds(heed, repr_align != 0, repr_packed != 0) {
+        Err(Refusal::AlignAndPacked)
+    } else {
+        Ok(empty)
     }
 }
 
 // The layout with one member more, whose record is given.
-fn member_step(l: DstLayout, heed: bool, repr_packed: u64, member: &[u8]) -> LayoutAnswer
+fn member_step(
+    l: DstLayout<u64>,
+    heed: bool,
+    repr_packed: u64,
+    member: &[u8],
+) -> Result<DstLayout<u64>, Refusal>
     ensures { layout_says result ≡ member_step 64 heed repr_packed (layout_of l) (decode_for 64 member.now) }
 {
-    match record::decode(member) {
-        LayoutAnswer::Layout(field) => {
-            if at_odds(heed, repr_packed != 0, field.align_modifier) {
-                LayoutAnswer::Refused(refusal::ALIGN_MODIFIER_IN_PACKED)
-            } else {
-                extend::extend(l, field, repr_packed)
-            }
-        }
-        LayoutAnswer::Refused(number) => LayoutAnswer::Refused(number),
+    let field = record::decode(member)?;
+    if at_odds(heed, repr_packed != 0, field.align_modifier) {
+        Err(Refusal::AlignModifierInPacked)
+    } else {
+        extend::extend(l, field, repr_packed)
     }
 }
 
 // The step of a member with a size onto a layout with a size, whose alignment is not tested again.
-fn step_of_sized(own: SizedLayout, heed: bool, repr_packed: u64, field: DstLayout) -> LayoutAnswer
+fn step_of_sized(
+    own: SizedLayout,
+    heed: bool,
+    repr_packed: u64,
+    field: DstLayout<u64>,
+) -> Result<DstLayout<u64>, Refusal>
     requires { power_of_two 64 own.align ≡ true }
     ensures { layout_says result ≡ member_step 64 heed repr_packed (sized_of own) (answered (layout_of field)) }
 {
     if at_odds(heed, repr_packed != 0, field.align_modifier) {
-        LayoutAnswer::Refused(refusal::ALIGN_MODIFIER_IN_PACKED)
+        Err(Refusal::AlignModifierInPacked)
     } else {
         extend::extend_onto(own, field, repr_packed)
     }
@@ -84,12 +79,12 @@ fn step_of_trailing(
     own: SizedLayout,
     heed: bool,
     repr_packed: u64,
-    field: DstLayout,
-) -> LayoutAnswer
+    field: DstLayout<u64>,
+) -> Result<DstLayout<u64>, Refusal>
     ensures { layout_says result ≡ member_step 64 heed repr_packed (sized_of own) (answered (layout_of field)) }
 {
     if at_odds(heed, repr_packed != 0, field.align_modifier) {
-        LayoutAnswer::Refused(refusal::ALIGN_MODIFIER_IN_PACKED)
+        Err(Refusal::AlignModifierInPacked)
     } else {
         extend::extend_sized(own, field, repr_packed)
     }
@@ -97,31 +92,32 @@ fn step_of_trailing(
 
 // The layout with one member more of a layout with a size. The two kinds go apart, so that the loop below keeps in registers
 // what a member with a size needs and no more.
-fn sized_step(own: SizedLayout, heed: bool, repr_packed: u64, member: &[u8]) -> LayoutAnswer
+fn sized_step(
+    own: SizedLayout,
+    heed: bool,
+    repr_packed: u64,
+    member: &[u8],
+) -> Result<DstLayout<u64>, Refusal>
     requires { power_of_two 64 own.align ≡ true }
     ensures { layout_says result ≡ member_step 64 heed repr_packed (sized_of own) (decode_for 64 member.now) }
 {
-    match record::decode(member) {
-        LayoutAnswer::Layout(field) => {
-            let size_info = field.size_info;
-            match size_info {
-                SizeInfo::Sized { size: _ } => step_of_sized(own, heed, repr_packed, field),
-                SizeInfo::SliceDst(_) => step_of_trailing(own, heed, repr_packed, field),
-            }
-        }
-        LayoutAnswer::Refused(number) => LayoutAnswer::Refused(number),
+    let field = record::decode(member)?;
+    let size_info = field.size_info;
+    match size_info {
+        SizeInfo::Sized { size: _ } => step_of_sized(own, heed, repr_packed, field),
+        SizeInfo::SliceDst(_) => step_of_trailing(own, heed, repr_packed, field),
     }
 }
 
 // Each member in turn from the one at from on, at the end of the layout. This goes on behind a trailing member, where the next
 // one is refused.
 fn add_members(
-    start: DstLayout,
+    start: DstLayout<u64>,
     heed: bool,
     repr_packed: u64,
     members: &[u8],
     from: usize,
-) -> ComposeAnswer
+) -> Result<DstLayout<u64>, RefusedAt<u64>>
     ensures { compose_says result ≡ add_members (member_step 64 heed repr_packed) from (layout_of start)
         (members_from 64 from members.now) }
 {
@@ -131,24 +127,29 @@ fn add_members(
     while place < count {
         let at = place * RECORD_BYTES;
         match member_step(l, heed, repr_packed, &members[at..at + RECORD_BYTES]) {
-            LayoutAnswer::Layout(next) => {
+            Ok(next) => {
                 l = next;
             }
-            LayoutAnswer::Refused(number) => {
-                return ComposeAnswer::Refused {
-                    number,
+            Err(refusal) => {
+                return Err(RefusedAt {
+                    refusal,
                     place: place as u64,
-                };
+                });
             }
         }
         place += 1;
     }
-    ComposeAnswer::Layout(l)
+    Ok(l)
 }
 
 // Each member in turn at the end of a layout with a size. A trailing member leaves this loop, which so carries four words and
 // no whole layout.
-fn add_to_sized(start: SizedLayout, heed: bool, repr_packed: u64, members: &[u8]) -> ComposeAnswer
+fn add_to_sized(
+    start: SizedLayout,
+    heed: bool,
+    repr_packed: u64,
+    members: &[u8],
+) -> Result<DstLayout<u64>, RefusedAt<u64>>
     requires { power_of_two 64 start.align ≡ true }
     ensures { compose_says result ≡ add_members (member_step 64 heed repr_packed) 0 (sized_of start)
         (members_of 64 (length members.now / 48) members.now) }
@@ -159,7 +160,7 @@ fn add_to_sized(start: SizedLayout, heed: bool, repr_packed: u64, members: &[u8]
     while i < count {
         let at = i * RECORD_BYTES;
         match sized_step(own, heed, repr_packed, &members[at..at + RECORD_BYTES]) {
-            LayoutAnswer::Layout(next) => {
+            Ok(next) => {
                 let size_info = next.size_info;
                 match size_info {
                     SizeInfo::Sized { size } => {
@@ -175,16 +176,16 @@ fn add_to_sized(start: SizedLayout, heed: bool, repr_packed: u64, members: &[u8]
                     }
                 }
             }
-            LayoutAnswer::Refused(number) => {
-                return ComposeAnswer::Refused {
-                    number,
+            Err(refusal) => {
+                return Err(RefusedAt {
+                    refusal,
                     place: i as u64,
-                };
+                });
             }
         }
         i += 1;
     }
-    ComposeAnswer::Layout(DstLayout {
+    Ok(DstLayout {
         align: own.align,
         size_info: SizeInfo::Sized { size: own.size },
         statically_shallow_unpadded: own.statically_shallow_unpadded,
@@ -193,12 +194,17 @@ fn add_to_sized(start: SizedLayout, heed: bool, repr_packed: u64, members: &[u8]
 }
 
 // The members of a list one after the other, without padding after the last.
-fn compose_list(heed: bool, repr_align: u64, repr_packed: u64, members: &[u8]) -> ComposeAnswer
+fn compose_list(
+    heed: bool,
+    repr_align: u64,
+    repr_packed: u64,
+    members: &[u8],
+) -> Result<DstLayout<u64>, RefusedAt<u64>>
     ensures { compose_says result ≡ compose_for 64 heed repr_align repr_packed members.now }
 {
     if members.len() % RECORD_BYTES == 0 {
         match begin(heed, repr_align, repr_packed) {
-            LayoutAnswer::Layout(empty) => add_to_sized(
+            Ok(empty) => add_to_sized(
                 SizedLayout {
                     align: empty.align,
                     size: 0,
@@ -209,58 +215,71 @@ fn compose_list(heed: bool, repr_align: u64, repr_packed: u64, members: &[u8]) -
                 repr_packed,
                 members,
             ),
-            LayoutAnswer::Refused(number) => ComposeAnswer::Refused { number, place: 0 },
+            Err(refusal) => Err(RefusedAt { refusal, place: 0 }),
         }
     } else {
-        ComposeAnswer::Refused {
-            number: refusal::RECORD_LENGTH,
+        Err(RefusedAt {
+            refusal: Refusal::RecordLength,
             place: 0,
-        }
+        })
     }
 }
 
 // The padding after the last of count members; a refusal of it is placed at their count.
-fn pad_composed(l: DstLayout, count: u64) -> ComposeAnswer
+fn pad_composed(l: DstLayout<u64>, count: u64) -> Result<DstLayout<u64>, RefusedAt<u64>>
     ensures { compose_says result ≡ and_then (pad_for 64 (layout_of l)) count composed }
 {
     match padding::pad_to_align(l) {
-        LayoutAnswer::Layout(padded) => ComposeAnswer::Layout(padded),
-        LayoutAnswer::Refused(number) => ComposeAnswer::Refused {
-            number,
+        Ok(padded) => Ok(padded),
+        Err(refusal) => Err(RefusedAt {
+            refusal,
             place: count,
-        },
+        }),
     }
 }
 
 // The same with it.
-fn struct_of_list(heed: bool, repr_align: u64, repr_packed: u64, members: &[u8]) -> ComposeAnswer
+fn struct_of_list(
+    heed: bool,
+    repr_align: u64,
+    repr_packed: u64,
+    members: &[u8],
+) -> Result<DstLayout<u64>, RefusedAt<u64>>
     ensures { compose_says result ≡ struct_for 64 heed repr_align repr_packed members.now }
 {
-    match compose_list(heed, repr_align, repr_packed, members) {
-        ComposeAnswer::Layout(l) => {
-            let count = members.len() / RECORD_BYTES;
-            pad_composed(l, count as u64)
-        }
-        ComposeAnswer::Refused { number, place } => ComposeAnswer::Refused { number, place },
-    }
+    let l = compose_list(heed, repr_align, repr_packed, members)?;
+    let count = members.len() / RECORD_BYTES;
+    pad_composed(l, count as u64)
 }
 
 // The members of a list one after the other, without padding after the last.
-pub fn compose(repr_align: u64, repr_packed: u64, members: &[u8]) -> ComposeAnswer
+pub fn compose(
+    repr_align: u64,
+    repr_packed: u64,
+    members: &[u8],
+) -> Result<DstLayout<u64>, RefusedAt<u64>>
     ensures { compose_says result ≡ compose_for 64 ported repr_align repr_packed members.now }
 {
     compose_list(false, repr_align, repr_packed, members)
 }
 
 // The layout of a repr(C) struct with these members.
-pub fn for_repr_c_struct(repr_align: u64, repr_packed: u64, members: &[u8]) -> ComposeAnswer
+pub fn for_repr_c_struct(
+    repr_align: u64,
+    repr_packed: u64,
+    members: &[u8],
+) -> Result<DstLayout<u64>, RefusedAt<u64>>
     ensures { compose_says result ≡ struct_for 64 ported repr_align repr_packed members.now }
 {
     struct_of_list(false, repr_align, repr_packed, members)
 }
 
 // The same where the Reference allows it: no alignment modifier together with a packed one, nor inside a packed type.
-pub fn for_repr_c_struct_strict(repr_align: u64, repr_packed: u64, members: &[u8]) -> ComposeAnswer
+pub fn for_repr_c_struct_strict(
+    repr_align: u64,
+    repr_packed: u64,
+    members: &[u8],
+) -> Result<DstLayout<u64>, RefusedAt<u64>>
     ensures answer { compose_says result ≡ struct_for 64 strict repr_align repr_packed members.now }
     ensures meaning { StrictList 64 repr_align repr_packed members.now (compose_says result) }
 {

@@ -13,39 +13,39 @@ ghost use Rattle.describe_defs.specs.Faults.{PartMeans, ReadMeans};
 ghost use Rattle.heads.specs.View.{head_says};
 ghost use Rattle.describe.specs.View.{part_says, read_says};
 
-use heads::{COUNT_BYTES, HeadAnswer};
-use layout::{DstLayout, LayoutAnswer, SizeInfo};
-use util::refusal;
+use heads::{COUNT_BYTES, PartHead};
+use layout::{DstLayout, SizeInfo};
+use util::{Refusal, RefusedAt};
 
 // As many structs, arrays and slices may be open.
 pub const MAX_DEPTH: usize = 16;
 
-// The layout of a part and the place behind its last byte, or the number of the refusal and its place.
+// The layout of a part that was read, and what comes behind it.
 #[derive(Clone, Copy)]
-pub enum PartAnswer {
-    Part { layout: DstLayout, next: usize },
-    Refused { number: u64, place: usize },
-}
-
-// The layout of a description, or the number of the refusal and its place.
-#[derive(Clone, Copy)]
-pub enum ReadAnswer {
-    Layout(DstLayout),
-    Refused { number: u64, place: u64 },
+pub struct ReadPart<N> {
+    pub layout: DstLayout<N>,
+    pub next: usize,
 }
 
 // The part that ends before next; a refusal of its layout stands at its tag.
-fn at_tag(answer: LayoutAnswer, next: usize, tag: usize) -> PartAnswer
+fn at_tag(
+    answer: Result<DstLayout<u64>, Refusal>,
+    next: usize,
+    tag: usize,
+) -> Result<ReadPart<u64>, RefusedAt<usize>>
     ensures { part_says result ≡ at_place tag (layout_says answer) (λ l. reached (l, next)) }
 {
     match answer {
-        LayoutAnswer::Layout(layout) => PartAnswer::Part { layout, next },
-        LayoutAnswer::Refused(number) => PartAnswer::Refused { number, place: tag },
+        Ok(layout) => Ok(ReadPart { layout, next }),
+        Err(refusal) => Err(RefusedAt {
+            refusal,
+            place: tag,
+        }),
     }
 }
 
 // The head of a part.
-fn head_of(narrow: bool, s: &[u8], at: usize, depth: usize) -> HeadAnswer
+fn head_of(narrow: bool, s: &[u8], at: usize, depth: usize) -> Result<PartHead, RefusedAt<usize>>
     ensures answer { head_says result ≡ head_at (bits_of narrow) depth s.now at }
     ensures meaning { HeadMeans (bits_of narrow) depth s.now at (head_says result) }
 {
@@ -53,48 +53,56 @@ fn head_of(narrow: bool, s: &[u8], at: usize, depth: usize) -> HeadAnswer
 }
 
 // An array of an element that was read.
-fn array_part(narrow: bool, element: PartAnswer, count: u64, tag: usize) -> PartAnswer
+fn array_part(
+    narrow: bool,
+    element: Result<ReadPart<u64>, RefusedAt<usize>>,
+    count: u64,
+    tag: usize,
+) -> Result<ReadPart<u64>, RefusedAt<usize>>
     ensures { part_says result ≡ go_on (part_says element) (made tag (λ l. width_array narrow l count)) }
 {
-    match element {
-        PartAnswer::Part { layout, next } => {
-            at_tag(width::for_array(narrow, layout, count), next, tag)
-        }
-        PartAnswer::Refused { number, place } => PartAnswer::Refused { number, place },
-    }
+    let read = element?;
+    at_tag(width::for_array(narrow, read.layout, count), read.next, tag)
 }
 
 // A slice of it.
-fn slice_part(element: PartAnswer, tag: usize) -> PartAnswer
+fn slice_part(
+    element: Result<ReadPart<u64>, RefusedAt<usize>>,
+    tag: usize,
+) -> Result<ReadPart<u64>, RefusedAt<usize>>
     ensures { part_says result ≡ go_on (part_says element) (made tag (slice_of_for 64)) }
 {
-    match element {
-        PartAnswer::Part { layout, next } => at_tag(elements::for_slice_of(layout), next, tag),
-        PartAnswer::Refused { number, place } => PartAnswer::Refused { number, place },
-    }
+    let read = element?;
+    at_tag(elements::for_slice_of(read.layout), read.next, tag)
 }
 
 // A struct whose members were read: closing padding.
-fn struct_part(narrow: bool, members: PartAnswer, tag: usize) -> PartAnswer
+fn struct_part(
+    narrow: bool,
+    members: Result<ReadPart<u64>, RefusedAt<usize>>,
+    tag: usize,
+) -> Result<ReadPart<u64>, RefusedAt<usize>>
     ensures { part_says result ≡ go_on (part_says members) (made tag (width_pad narrow)) }
 {
-    match members {
-        PartAnswer::Part { layout, next } => {
-            at_tag(width::pad_to_align(narrow, layout), next, tag)
-        }
-        PartAnswer::Refused { number, place } => PartAnswer::Refused { number, place },
-    }
+    let read = members?;
+    at_tag(width::pad_to_align(narrow, read.layout), read.next, tag)
 }
 
 // The part at at, with depth parts more that may be open. It may open a struct.
 #[cycle(add_members_part)]
-pub fn part(narrow: bool, s: &[u8], at: usize, depth: usize) -> PartAnswer
+pub fn part(
+    narrow: bool,
+    s: &[u8],
+    at: usize,
+    depth: usize,
+) -> Result<ReadPart<u64>, RefusedAt<usize>>
     ensures answer { part_says result ≡ part_for (bits_of narrow) (target_of narrow) depth s.now at }
     ensures meaning { PartMeans (bits_of narrow) (target_of narrow) s.now depth at (part_says result) }
 {
-    match head_of(narrow, s, at, depth) {
-        HeadAnswer::Scalar(code) => at_tag(width::scalar(narrow, code), at + 1, at),
-        HeadAnswer::Array { count } => {
+    let head = head_of(narrow, s, at, depth)?;
+    match head {
+        PartHead::Scalar(code) => at_tag(width::scalar(narrow, code), at + 1, at),
+        PartHead::Array { count } => {
             array_part(
                 narrow,
                 part(narrow, s, at + 1 + COUNT_BYTES, depth - 1),
@@ -102,23 +110,22 @@ pub fn part(narrow: bool, s: &[u8], at: usize, depth: usize) -> PartAnswer
                 at,
             )
         }
-        HeadAnswer::Struct {
+        PartHead::Struct {
             align,
             packed,
             count,
             first,
         } => match make::new_zst(align) {
-            LayoutAnswer::Layout(empty) => {
+            Ok(empty) => {
                 struct_part(
                     narrow,
                     add_members(narrow, s, first, depth - 1, count, empty, packed, at),
                     at,
                 )
             }
-            LayoutAnswer::Refused(number) => PartAnswer::Refused { number, place: at },
+            Err(refusal) => Err(RefusedAt { refusal, place: at }),
         },
-        HeadAnswer::Slice => slice_part(part(narrow, s, at + 1, depth - 1), at),
-        HeadAnswer::Refused { number, place } => PartAnswer::Refused { number, place },
+        PartHead::Slice => slice_part(part(narrow, s, at + 1, depth - 1), at),
     }
 }
 
@@ -131,10 +138,10 @@ fn add_members(
     first: usize,
     depth: usize,
     count: u64,
-    empty: DstLayout,
+    empty: DstLayout<u64>,
     packed: u64,
     tag: usize,
-) -> PartAnswer
+) -> Result<ReadPart<u64>, RefusedAt<usize>>
     requires { Held narrow (layout_of empty) × (packed < 2 ^ bits_of narrow) }
     ensures { part_says result ≡ add_read (bits_of narrow) (part_for (bits_of narrow) (target_of narrow) depth s.now) packed tag count
         (layout_of empty) first }
@@ -143,47 +150,46 @@ fn add_members(
     let mut at = first;
     let mut left = count;
     while left > 0 {
-        match part(narrow, s, at, depth) {
-            PartAnswer::Part { layout, next } => match width::extend(narrow, own, layout, packed) {
-                LayoutAnswer::Layout(grown) => {
-                    own = grown;
-                    at = next;
-                    left -= 1;
-                }
-                LayoutAnswer::Refused(number) => {
-                    return PartAnswer::Refused { number, place: tag };
-                }
-            },
-            PartAnswer::Refused { number, place } => {
-                return PartAnswer::Refused { number, place };
+        let read = part(narrow, s, at, depth)?;
+        match width::extend(narrow, own, read.layout, packed) {
+            Ok(grown) => {
+                own = grown;
+                at = read.next;
+                left -= 1;
+            }
+            Err(refusal) => {
+                return Err(RefusedAt {
+                    refusal,
+                    place: tag,
+                });
             }
         }
     }
-    PartAnswer::Part {
+    Ok(ReadPart {
         layout: own,
         next: at,
-    }
+    })
 }
 
 // The layout that the bytes describe.
-pub fn read(narrow: bool, description: &[u8]) -> ReadAnswer
+pub fn read(narrow: bool, description: &[u8]) -> Result<DstLayout<u64>, RefusedAt<u64>>
     ensures answer { read_says result ≡ described_for (bits_of narrow) (target_of narrow) description.now }
     ensures meaning { ReadMeans (bits_of narrow) (target_of narrow) description.now (read_says result) }
 {
     match part(narrow, description, 0, MAX_DEPTH) {
-        PartAnswer::Part { layout, next } => {
+        Ok(ReadPart { layout, next }) => {
             if next == description.len() {
-                ReadAnswer::Layout(layout)
+                Ok(layout)
             } else {
-                ReadAnswer::Refused {
-                    number: refusal::BYTES_LEFT_OVER,
+                Err(RefusedAt {
+                    refusal: Refusal::BytesLeftOver,
                     place: next as u64,
-                }
+                })
             }
         }
-        PartAnswer::Refused { number, place } => ReadAnswer::Refused {
-            number,
+        Err(RefusedAt { refusal, place }) => Err(RefusedAt {
+            refusal,
             place: place as u64,
-        },
+        }),
     }
 }

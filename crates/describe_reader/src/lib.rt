@@ -5,8 +5,9 @@ ghost use Rattle.std.specs.Prelude.{◌≡◌};
 ghost use Rattle.describe.specs.View.{part_says};
 ghost use Rattle.describe_reader.specs.At.{read_at};
 
-use describe::{MAX_DEPTH, PartAnswer};
+use describe::{MAX_DEPTH, ReadPart};
 use layout::{DstLayout, SizeInfo};
+use util::RefusedAt;
 use width::Width;
 
 // In the order in which `part_at` takes them.
@@ -18,7 +19,11 @@ pub struct Reader<'a> {
 }
 
 // The part at a place, none open around it.
-pub fn part_at(width: Width, description: &[u8], place: usize) -> PartAnswer
+pub fn part_at(
+    width: Width,
+    description: &[u8],
+    place: usize,
+) -> Result<ReadPart<u64>, RefusedAt<usize>>
     ensures { part_says result ≡ read_at width description.now place }
 {
     describe::part(width::narrow(width), description, place, MAX_DEPTH)
@@ -36,7 +41,7 @@ pub fn new<'a>(width: Width, description: &'a [u8]) -> Reader<'a>
 }
 
 // The part at the reader's place.
-pub fn next<'a>(reader: Reader<'a>) -> PartAnswer
+pub fn next<'a>(reader: Reader<'a>) -> Result<ReadPart<u64>, RefusedAt<usize>>
     ensures { part_says result ≡ read_at reader.entry.width reader.entry.description.now reader.entry.place }
 {
     part_at(reader.width, reader.description, reader.place)
@@ -54,7 +59,7 @@ pub fn moved<'a>(reader: Reader<'a>, place: usize) -> Reader<'a>
 }
 
 // The first part of a description.
-pub fn first(width: Width, description: &[u8]) -> PartAnswer
+pub fn first(width: Width, description: &[u8]) -> Result<ReadPart<u64>, RefusedAt<usize>>
     ensures { part_says result ≡ read_at width description.now 0 }
 {
     next(new(width, description))

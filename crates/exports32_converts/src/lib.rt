@@ -1,30 +1,27 @@
 // The functions of casts and conversions at 32 bits for C and Rust: no logic of their own. include/lukaripe32.h is their C side.
 #![tactic(auto)]
 
+ghost use Rattle.convert.specs.View.{params_in, compute_says};
 ghost use Rattle.std.specs.Prelude.{◌≡◌};
 ghost use Rattle.trailing_defs.specs.Sequence.{same_sequence};
 ghost use Rattle.cast_defs.specs.Cast.{cast_for};
 ghost use Rattle.cast_defs.specs.Exact.{exact_for};
-ghost use Rattle.cast.specs.View.{side_of};
+ghost use Rattle.cast.specs.View.{side_of, cast_says};
 ghost use Rattle.shift_defs.specs.Mode.{comparison_of};
 ghost use Rattle.shift.specs.View.{mode_of};
 ghost use Rattle.convert_defs.specs.Convert.{compute_for, metadata_for};
-ghost use Rattle.casts32.specs.View.{cast_says32};
-ghost use Rattle.converts32.specs.View.{params_in32, compute_says32};
 ghost use Rattle.exports_converts.specs.Converts.{side_given};
 ghost use Rattle.exports32_numbers.specs.Numbers.{number_out32};
 ghost use Rattle.exports32_layouts.specs.Layouts.{with_layout32};
 ghost use Rattle.exports32_converts.specs.Converts.{cast_out32, params_given32, params_numbers32, no_params32};
 ghost use Rattle.exports32_converts.specs.Converts.{params_out32};
 
-use cast::CastType;
-use casts32::CastAnswer32;
-use converts32::{CastParamsInner32, ComputeAnswer32};
+use cast::{CastType, Granted};
+use convert::CastParamsInner;
 use exports32_layouts::Layout32;
 use exports32_numbers::Number32;
-use layouts32::LayoutAnswer32;
-use numbers32::Answer32;
 use shift::Mode;
+use util::Refusal;
 
 #[repr(C)]
 #[derive(Clone, Copy)]
@@ -51,17 +48,17 @@ pub struct CastParamsOut32 {
 }
 
 // A granted cast, or the refusal.
-pub fn cast_out(a: CastAnswer32) -> CastOut32
-    ensures { result ≡ cast_out32 (cast_says32 a) }
+pub fn cast_out(a: Result<Granted<u32>, Refusal>) -> CastOut32
+    ensures { result ≡ cast_out32 (cast_says a) }
 {
     match a {
-        CastAnswer32::Granted { elems, split_at } => CastOut32 {
+        Ok(Granted { elems, split_at }) => CastOut32 {
             refusal: 0,
             count: elems,
             split: split_at,
         },
-        CastAnswer32::Refused(refusal) => CastOut32 {
-            refusal,
+        Err(refusal) => CastOut32 {
+            refusal: refusal.number(),
             count: 0,
             split: 0,
         },
@@ -69,11 +66,11 @@ pub fn cast_out(a: CastAnswer32) -> CastOut32
 }
 
 // The parameters of a conversion, by their kind.
-fn params_given(params: CastParamsInner32) -> CastParams32
-    ensures { result ≡ params_numbers32 (params_in32 params) }
+fn params_given(params: CastParamsInner<u32>) -> CastParams32
+    ensures { result ≡ params_numbers32 (params_in params) }
 {
     match params {
-        CastParamsInner32::UnsizedToUnsized {
+        CastParamsInner::UnsizedToUnsized {
             offset_delta_elems,
             elem_multiple,
         } => CastParams32 {
@@ -82,13 +79,13 @@ fn params_given(params: CastParamsInner32) -> CastParams32
             elem_multiple,
             dst_meta: 0,
         },
-        CastParamsInner32::SizedToUnsized { dst_meta } => CastParams32 {
+        CastParamsInner::SizedToUnsized { dst_meta } => CastParams32 {
             kind: 1,
             offset_delta_elems: 0,
             elem_multiple: 0,
             dst_meta,
         },
-        CastParamsInner32::SizedToSized => no_params(),
+        CastParamsInner::SizedToSized => no_params(),
     }
 }
 
@@ -105,33 +102,33 @@ fn no_params() -> CastParams32
 }
 
 // The parameters of a conversion, or the refusal.
-pub fn params_out(a: ComputeAnswer32) -> CastParamsOut32
-    ensures { result ≡ params_out32 (compute_says32 a) }
+pub fn params_out(a: Result<CastParamsInner<u32>, Refusal>) -> CastParamsOut32
+    ensures { result ≡ params_out32 (compute_says a) }
 {
     match a {
-        ComputeAnswer32::Params(params) => CastParamsOut32 {
+        Ok(params) => CastParamsOut32 {
             refusal: 0,
             params: params_given(params),
         },
-        ComputeAnswer32::Refused(refusal) => CastParamsOut32 {
-            refusal,
+        Err(refusal) => CastParamsOut32 {
+            refusal: refusal.number(),
             params: no_params(),
         },
     }
 }
 
-fn params_in(q: CastParams32) -> CastParamsInner32
-    ensures { params_in32 result ≡ params_given32 q }
+fn params_in(q: CastParams32) -> CastParamsInner<u32>
+    ensures { params_in result ≡ params_given32 q }
 {
     if q.kind == 0 {
-        return CastParamsInner32::SizedToSized;
+        return CastParamsInner::SizedToSized;
     }
     if q.kind == 1 {
-        return CastParamsInner32::SizedToUnsized {
+        return CastParamsInner::SizedToUnsized {
             dst_meta: q.dst_meta,
         };
     }
-    CastParamsInner32::UnsizedToUnsized {
+    CastParamsInner::UnsizedToUnsized {
         offset_delta_elems: q.offset_delta_elems,
         elem_multiple: q.elem_multiple,
     }
@@ -159,10 +156,8 @@ pub extern "C" fn lukaripe32_validate_cast_and_convert_metadata(
 {
     let side = cast_type(suffix);
     match exports32_layouts::layout_in(layout) {
-        LayoutAnswer32::Layout(l) => cast_out(casts32::validate_cast_and_convert_metadata(
-            l, addr, bytes_len, side,
-        )),
-        LayoutAnswer32::Refused(refusal) => cast_out(CastAnswer32::Refused(refusal)),
+        Ok(l) => cast_out(casts32::validate_cast_and_convert_metadata(l, addr, bytes_len, side)),
+        Err(refusal) => cast_out(Err(refusal)),
     }
 }
 
@@ -172,12 +167,8 @@ pub extern "C" fn lukaripe32_metadata_for_exact_size(layout: Layout32, size: u32
     ensures { result ≡ number_out32 (with_layout32 32 layout (λ l. exact_for 32 l size)) }
 {
     match exports32_layouts::layout_in(layout) {
-        LayoutAnswer32::Layout(l) => exports32_numbers::number_out(casts32::metadata_for_exact_size(
-            l, size,
-        )),
-        LayoutAnswer32::Refused(refusal) => exports32_numbers::number_out(Answer32::Refused(
-            refusal,
-        )),
+        Ok(l) => exports32_numbers::number_out(casts32::metadata_for_exact_size(l, size)),
+        Err(refusal) => exports32_numbers::number_out(Err(refusal)),
     }
 }
 
@@ -186,11 +177,11 @@ pub fn compute_out(src: Layout32, dst: Layout32, mode: Mode) -> CastParamsOut32
     ensures { result ≡ params_out32 (with_layout32 32 src (λ l. with_layout32 32 dst (λ m. compute_for 32 (comparison_of 32 (mode_of mode)) l m))) }
 {
     match exports32_layouts::layout_in(src) {
-        LayoutAnswer32::Layout(l) => match exports32_layouts::layout_in(dst) {
-            LayoutAnswer32::Layout(m) => params_out(converts32::try_compute(l, m, mode)),
-            LayoutAnswer32::Refused(refusal) => params_out(ComputeAnswer32::Refused(refusal)),
+        Ok(l) => match exports32_layouts::layout_in(dst) {
+            Ok(m) => params_out(converts32::try_compute(l, m, mode)),
+            Err(refusal) => params_out(Err(refusal)),
         },
-        LayoutAnswer32::Refused(refusal) => params_out(ComputeAnswer32::Refused(refusal)),
+        Err(refusal) => params_out(Err(refusal)),
     }
 }
 

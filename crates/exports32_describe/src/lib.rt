@@ -6,34 +6,19 @@ ghost use Rattle.std.specs.Prelude.{◌≡◌, length};
 ghost use Rattle.describe_defs.specs.Describe.{described_for};
 ghost use Rattle.rewrite_defs.specs.Rewrite.{longer, shorter, rewrite_for, bytes_for, filled};
 ghost use Rattle.scalar32.specs.Target.{target32};
-ghost use Rattle.describe32.specs.View.{read_says32};
-ghost use Rattle.compose32.specs.View.{compose_says32};
 ghost use Rattle.exports_describe.specs.Read.{as_composed};
 ghost use Rattle.exports_short.specs.Shorts.{moved_out};
 ghost use Rattle.exports32_lists.specs.Lists.{composed_out32};
 
-use compose32::ComposeAnswer32;
-use describe32::ReadAnswer32;
 use exports_short::MovedOut;
 use exports32_lists::ComposedOut32;
-use rewrite::RewriteAnswer;
-
-// A description that was read, as a composition.
-fn as_composed(a: ReadAnswer32) -> ComposeAnswer32
-    ensures { compose_says32 result ≡ as_composed (read_says32 a) }
-{
-    match a {
-        ReadAnswer32::Layout(l) => ComposeAnswer32::Layout(l),
-        ReadAnswer32::Refused { number, place } => ComposeAnswer32::Refused { number, place },
-    }
-}
 
 // The layout that the bytes describe.
 #[unsafe(no_mangle)]
 pub extern "C" fn lukaripe32_read(description: &[u8]) -> ComposedOut32
     ensures { result ≡ composed_out32 (as_composed (described_for 32 target32 description.now)) }
 {
-    exports32_lists::composed_out(as_composed(describe32::read(description)))
+    exports32_lists::composed_out(describe32::read(description))
 }
 
 // The description with each member count in two bytes, into the front of out.

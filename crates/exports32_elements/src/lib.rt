@@ -7,7 +7,6 @@ ghost use Rattle.describe_defs.specs.Elements.{array_for, slice_of_for};
 ghost use Rattle.exports32_layouts.specs.Layouts.{layout_out32, with_layout32};
 
 use exports32_layouts::{Layout32, LayoutOut32};
-use layouts32::LayoutAnswer32;
 
 // The layout of an array of count elements.
 #[unsafe(no_mangle)]
@@ -15,10 +14,8 @@ pub extern "C" fn lukaripe32_for_array(elem: Layout32, count: u32) -> LayoutOut3
     ensures { result ≡ layout_out32 (with_layout32 32 elem (λ l. array_for 32 l count)) }
 {
     match exports32_layouts::layout_in(elem) {
-        LayoutAnswer32::Layout(l) => exports32_layouts::layout_out(elements32::for_array(l, count)),
-        LayoutAnswer32::Refused(refusal) => exports32_layouts::layout_out(LayoutAnswer32::Refused(
-            refusal,
-        )),
+        Ok(l) => exports32_layouts::layout_out(elements32::for_array(l, count)),
+        Err(refusal) => exports32_layouts::layout_out(Err(refusal)),
     }
 }
 
@@ -28,9 +25,7 @@ pub extern "C" fn lukaripe32_for_slice_of(elem: Layout32) -> LayoutOut32
     ensures { result ≡ layout_out32 (with_layout32 32 elem (λ l. slice_of_for 32 l)) }
 {
     match exports32_layouts::layout_in(elem) {
-        LayoutAnswer32::Layout(l) => exports32_layouts::layout_out(elements32::for_slice_of(l)),
-        LayoutAnswer32::Refused(number) => exports32_layouts::layout_out(LayoutAnswer32::Refused(
-            number,
-        )),
+        Ok(l) => exports32_layouts::layout_out(elements32::for_slice_of(l)),
+        Err(cause) => exports32_layouts::layout_out(Err(cause)),
     }
 }

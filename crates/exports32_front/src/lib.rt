@@ -3,16 +3,15 @@
 // than 32 bits number.
 #![tactic(auto)]
 
+ghost use Rattle.front.specs.View.{serving_says};
 ghost use Rattle.std.specs.Prelude.{◌≡◌};
 ghost use Rattle.util_defs.specs.Refusal.{answered};
 ghost use Rattle.front_defs.specs.Front.{serving_for};
-ghost use Rattle.front32.specs.View.{serving_says32};
 ghost use Rattle.exports32_layouts.specs.Layouts.{with_layout32};
 ghost use Rattle.exports32_front.specs.Serving.{serving_out32, serving_out_of32};
 
 use exports32_layouts::Layout32;
-use front32::Serving32;
-use layouts32::LayoutAnswer32;
+use front::Serving;
 
 #[repr(C)]
 #[derive(Clone, Copy)]
@@ -24,34 +23,34 @@ pub struct ServingOut32 {
     pub split: u32,
 }
 
-fn serving_out(a: Serving32) -> ServingOut32
-    ensures { result ≡ serving_out32 (serving_says32 a) }
+fn serving_out(a: Serving<u32>) -> ServingOut32
+    ensures { result ≡ serving_out32 (serving_says a) }
 {
     match a {
-        Serving32::Map { elems, split_at } => ServingOut32 {
+        Serving::Map { elems, split_at } => ServingOut32 {
             map_refusal: 0,
             spare_refusal: 0,
             serves: 1,
             count: elems,
             split: split_at,
         },
-        Serving32::Spare {
+        Serving::Spare {
             map_refusal,
             elems,
             split_at,
         } => ServingOut32 {
-            map_refusal,
+            map_refusal: map_refusal.number(),
             spare_refusal: 0,
             serves: 2,
             count: elems,
             split: split_at,
         },
-        Serving32::Neither {
+        Serving::Neither {
             map_refusal,
             spare_refusal,
         } => ServingOut32 {
-            map_refusal,
-            spare_refusal,
+            map_refusal: map_refusal.number(),
+            spare_refusal: spare_refusal.number(),
             serves: 0,
             count: 0,
             split: 0,
@@ -72,10 +71,8 @@ pub extern "C" fn lukaripe32_which_serves(
         answered (serving_for 32 l map_addr map_len spare_addr spare_len))) }
 {
     match exports32_layouts::layout_in(layout) {
-        LayoutAnswer32::Layout(l) => {
-            serving_out(front32::which_serves(l, map_addr, map_len, spare_addr, spare_len))
-        }
-        LayoutAnswer32::Refused(refusal) => serving_out(Serving32::Neither {
+        Ok(l) => { serving_out(front32::which_serves(l, map_addr, map_len, spare_addr, spare_len)) }
+        Err(refusal) => serving_out(Serving::Neither {
             map_refusal: refusal,
             spare_refusal: refusal,
         }),

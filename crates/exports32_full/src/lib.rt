@@ -2,15 +2,16 @@
 // their C side.
 #![tactic(auto)]
 
+ghost use Rattle.full.specs.View.{form_says};
 ghost use Rattle.std.specs.Prelude.{◌≡◌};
 ghost use Rattle.full_defs.specs.Full.{agree_for};
 ghost use Rattle.full_defs.specs.Form.{form_for};
-ghost use Rattle.sequence32.specs.View.{form_says32};
 ghost use Rattle.exports32_numbers.specs.Numbers.{decision_out32, trailing_in32};
 ghost use Rattle.exports32_full.specs.Forms.{form_out32};
 
 use exports32_numbers::{Number32, Trailing32};
-use sequence32::FormAnswer32;
+use full::NormalForm;
+use util::Refusal;
 
 // A normal form has no offset and no alignment.
 #[repr(C)]
@@ -23,11 +24,11 @@ pub struct NormalFormOut32 {
 }
 
 // A normal form, or the refusal.
-fn form_out(a: FormAnswer32) -> NormalFormOut32
-    ensures { result ≡ form_out32 (form_says32 a) }
+fn form_out(a: Result<NormalForm<u32>, Refusal>) -> NormalFormOut32
+    ensures { result ≡ form_out32 (form_says a) }
 {
     match a {
-        FormAnswer32::Form(form) => {
+        Ok(form) => {
             let word = form.size_rounding_align_and_phase;
             NormalFormOut32 {
                 refusal: 0,
@@ -36,8 +37,8 @@ fn form_out(a: FormAnswer32) -> NormalFormOut32
                 word: word.0,
             }
         }
-        FormAnswer32::Refused(refusal) => NormalFormOut32 {
-            refusal,
+        Err(refusal) => NormalFormOut32 {
+            refusal: refusal.number(),
             size_base: 0,
             elem_size: 0,
             word: 0,

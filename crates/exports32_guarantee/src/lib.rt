@@ -2,25 +2,23 @@
 // so that in the exports of casts and conversions each of these functions is called once, and inlined.
 #![tactic(auto)]
 
+ghost use Rattle.guarantee.specs.View.{answers_in};
 ghost use Rattle.std.specs.Prelude.{◌≡◌};
+ghost use Rattle.util.specs.View.{number_of};
 ghost use Rattle.util_defs.specs.Refusal.{answered, refused};
 ghost use Rattle.trailing_defs.specs.Sequence.{same_sequence};
 ghost use Rattle.shift_defs.specs.Mode.{comparison_of};
 ghost use Rattle.shift.specs.View.{mode_of};
 ghost use Rattle.guarantee.specs.Demand.{answers_of};
-ghost use Rattle.guarantee32.specs.View.{answers_in32};
 ghost use Rattle.exports32_layouts.specs.Layouts.{with_layout32};
 ghost use Rattle.exports32_guarantee.specs.Carried.{carried_out32};
 
-use casts32::CastAnswer32;
-use converts32::ComputeAnswer32;
 use exports32_converts::{CastOut32, CastParamsOut32};
 use exports32_layouts::Layout32;
 use exports32_numbers::Number32;
-use guarantee32::Carried32;
-use layouts32::LayoutAnswer32;
-use numbers32::Answer32;
+use guarantee::Carried;
 use shift::Mode;
+use util::Refusal;
 
 #[repr(C)]
 #[derive(Clone, Copy)]
@@ -32,8 +30,8 @@ pub struct CarriedOut32 {
 }
 
 // What the four calls of a conversion and of two casts gave.
-fn carried_out(r: Carried32) -> CarriedOut32
-    ensures { result ≡ carried_out32 (answered (answers_in32 r)) }
+fn carried_out(r: Carried<u32>) -> CarriedOut32
+    ensures { result ≡ carried_out32 (answered (answers_in r)) }
 {
     let computed = r.computed;
     let count = r.count;
@@ -48,14 +46,14 @@ fn carried_out(r: Carried32) -> CarriedOut32
 }
 
 // A layout that is refused refuses all four.
-fn none_carried(refusal: u64) -> CarriedOut32
-    ensures { result ≡ carried_out32 (refused refusal) }
+fn none_carried(refusal: Refusal) -> CarriedOut32
+    ensures { result ≡ carried_out32 (refused (number_of refusal)) }
 {
     CarriedOut32 {
-        computed: exports32_converts::params_out(ComputeAnswer32::Refused(refusal)),
-        count: exports32_numbers::number_out(Answer32::Refused(refusal)),
-        first: exports32_converts::cast_out(CastAnswer32::Refused(refusal)),
-        second: exports32_converts::cast_out(CastAnswer32::Refused(refusal)),
+        computed: exports32_converts::params_out(Err(refusal)),
+        count: exports32_numbers::number_out(Err(refusal)),
+        first: exports32_converts::cast_out(Err(refusal)),
+        second: exports32_converts::cast_out(Err(refusal)),
     }
 }
 
@@ -73,15 +71,15 @@ pub fn convert_and_cast_out(
         answered (answers_of 32 (comparison_of 32 (mode_of mode)) l m src_meta addr bytes_len more_len)))) }
 {
     match exports32_layouts::layout_in(src) {
-        LayoutAnswer32::Layout(l) => match exports32_layouts::layout_in(dst) {
-            LayoutAnswer32::Layout(m) => {
+        Ok(l) => match exports32_layouts::layout_in(dst) {
+            Ok(m) => {
                 carried_out(guarantee32::convert_and_cast(
                     l, m, src_meta, addr, bytes_len, more_len, mode,
                 ))
             }
-            LayoutAnswer32::Refused(refusal) => none_carried(refusal),
+            Err(refusal) => none_carried(refusal),
         },
-        LayoutAnswer32::Refused(refusal) => none_carried(refusal),
+        Err(refusal) => none_carried(refusal),
     }
 }
 

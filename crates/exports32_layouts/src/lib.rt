@@ -1,6 +1,7 @@
 // The functions of layouts and of scalars at 32 bits for C and Rust: no logic of their own. include/lukaripe32.h is their C side.
 #![tactic(auto)]
 
+ghost use Rattle.layout.specs.View.{layout_of, layout_says};
 ghost use Rattle.std.specs.Prelude.{◌≡◌, true, false};
 ghost use Rattle.make.specs.Make.{new_zst_for, type_for, slice_for};
 ghost use Rattle.layout_defs.specs.Extend.{extend_for};
@@ -8,17 +9,15 @@ ghost use Rattle.padding_defs.specs.Pad.{pad_for, static_for, dynamic_for};
 ghost use Rattle.scalar.specs.Scalar.{scalar_for};
 ghost use Rattle.record_defs.specs.Record.{words_of, words_for};
 ghost use Rattle.record.specs.View.{words_in};
-ghost use Rattle.layouts32.specs.View.{layout_of32, layout_says32};
 ghost use Rattle.scalar32.specs.Target.{target32};
 ghost use Rattle.exports32_numbers.specs.Numbers.{decision_out32};
 ghost use Rattle.exports32_layouts.specs.Layouts.{low_words, words_given32, words_out32, no_layout32, layout_out32};
 ghost use Rattle.exports32_layouts.specs.Layouts.{with_layout32};
 
 use exports32_numbers::Number32;
-use layout::LayoutAnswer;
-use layouts32::{DstLayout32, LayoutAnswer32};
+use layout::DstLayout;
 use record::Words;
-use util::Decision;
+use util::Refusal;
 
 // A layout, as the six words of its record.
 #[repr(C)]
@@ -41,8 +40,8 @@ pub struct LayoutOut32 {
 }
 
 // A layout that was handed over: its words are tested as a record's are.
-pub fn layout_in(l: Layout32) -> LayoutAnswer32
-    ensures { layout_says32 result ≡ words_for 32 (words_given32 l) }
+pub fn layout_in(l: Layout32) -> Result<DstLayout<u32>, Refusal>
+    ensures { layout_says result ≡ words_for 32 (words_given32 l) }
 {
     layouts32::low_answer(record::layout_from_words(Words {
         align: l.align as u64,
@@ -69,8 +68,8 @@ fn low_words(words: Words) -> Layout32
 }
 
 // The words of a layout, which 32 bits hold.
-pub fn words_out(l: DstLayout32) -> Layout32
-    ensures { result ≡ words_out32 (words_of (layout_of32 l)) }
+pub fn words_out(l: DstLayout<u32>) -> Layout32
+    ensures { result ≡ words_out32 (words_of (layout_of l)) }
 {
     low_words(record::words_from_layout(layouts32::wide_layout(l)))
 }
@@ -90,16 +89,16 @@ pub fn no_layout() -> Layout32
 }
 
 // A layout as it crosses to C.
-pub fn layout_out(a: LayoutAnswer32) -> LayoutOut32
-    ensures { result ≡ layout_out32 (layout_says32 a) }
+pub fn layout_out(a: Result<DstLayout<u32>, Refusal>) -> LayoutOut32
+    ensures { result ≡ layout_out32 (layout_says a) }
 {
     match a {
-        LayoutAnswer32::Layout(l) => LayoutOut32 {
+        Ok(l) => LayoutOut32 {
             refusal: 0,
             layout: words_out(l),
         },
-        LayoutAnswer32::Refused(refusal) => LayoutOut32 {
-            refusal,
+        Err(refusal) => LayoutOut32 {
+            refusal: refusal.number(),
             layout: no_layout(),
         },
     }
@@ -147,11 +146,11 @@ pub extern "C" fn lukaripe32_extend(
     ensures { result ≡ layout_out32 (with_layout32 32 layout (λ l. with_layout32 32 field (λ m. extend_for 32 l m repr_packed))) }
 {
     match layout_in(layout) {
-        LayoutAnswer32::Layout(l) => match layout_in(field) {
-            LayoutAnswer32::Layout(m) => layout_out(steps32::extend(l, m, repr_packed)),
-            LayoutAnswer32::Refused(refusal) => layout_out(LayoutAnswer32::Refused(refusal)),
+        Ok(l) => match layout_in(field) {
+            Ok(m) => layout_out(steps32::extend(l, m, repr_packed)),
+            Err(refusal) => layout_out(Err(refusal)),
         },
-        LayoutAnswer32::Refused(refusal) => layout_out(LayoutAnswer32::Refused(refusal)),
+        Err(refusal) => layout_out(Err(refusal)),
     }
 }
 
@@ -161,8 +160,8 @@ pub extern "C" fn lukaripe32_pad_to_align(layout: Layout32) -> LayoutOut32
     ensures { result ≡ layout_out32 (with_layout32 32 layout (λ l. pad_for 32 l)) }
 {
     match layout_in(layout) {
-        LayoutAnswer32::Layout(l) => layout_out(steps32::pad_to_align(l)),
-        LayoutAnswer32::Refused(refusal) => layout_out(LayoutAnswer32::Refused(refusal)),
+        Ok(l) => layout_out(steps32::pad_to_align(l)),
+        Err(refusal) => layout_out(Err(refusal)),
     }
 }
 
@@ -172,12 +171,8 @@ pub extern "C" fn lukaripe32_requires_static_padding(layout: Layout32) -> Number
     ensures { result ≡ decision_out32 (with_layout32 32 layout (λ l. static_for 32 l)) }
 {
     match layout_in(layout) {
-        LayoutAnswer32::Layout(l) => exports32_numbers::decision_out(
-            layouts32::requires_static_padding(l),
-        ),
-        LayoutAnswer32::Refused(refusal) => exports32_numbers::decision_out(Decision::Refused(
-            refusal,
-        )),
+        Ok(l) => exports32_numbers::decision_out(layouts32::requires_static_padding(l)),
+        Err(refusal) => exports32_numbers::decision_out(Err(refusal)),
     }
 }
 
@@ -187,12 +182,8 @@ pub extern "C" fn lukaripe32_requires_dynamic_padding(layout: Layout32) -> Numbe
     ensures { result ≡ decision_out32 (with_layout32 32 layout (λ l. dynamic_for 32 l)) }
 {
     match layout_in(layout) {
-        LayoutAnswer32::Layout(l) => exports32_numbers::decision_out(
-            layouts32::requires_dynamic_padding(l),
-        ),
-        LayoutAnswer32::Refused(refusal) => exports32_numbers::decision_out(Decision::Refused(
-            refusal,
-        )),
+        Ok(l) => exports32_numbers::decision_out(layouts32::requires_dynamic_padding(l)),
+        Err(refusal) => exports32_numbers::decision_out(Err(refusal)),
     }
 }
 

@@ -1,16 +1,16 @@
 // The compositions of member lists at 32 bits for C and Rust: no logic of their own. include/lukaripe32.h is their C side.
 #![tactic(auto)]
 
+ghost use Rattle.compose.specs.View.{compose_says};
 ghost use Rattle.std.specs.Prelude.{◌≡◌, length};
 ghost use Rattle.make.specs.Make.{empty_layout};
 ghost use Rattle.compose_defs.specs.Compose.{ported, strict, compose_for, struct_for};
 ghost use Rattle.compose_defs.specs.Places.{listed, places_of, gaps_of, places_for, written};
-ghost use Rattle.compose32.specs.View.{compose_says32};
 ghost use Rattle.exports32_lists.specs.Lists.{composed_out32};
 
-use compose32::ComposeAnswer32;
 use exports32_layouts::Layout32;
-use layouts32::LayoutAnswer32;
+use layout::DstLayout;
+use util::RefusedAt;
 
 // A composed layout, or its refusal and where.
 #[repr(C)]
@@ -22,17 +22,17 @@ pub struct ComposedOut32 {
 }
 
 // A composition as it crosses to C.
-pub fn composed_out(a: ComposeAnswer32) -> ComposedOut32
-    ensures { result ≡ composed_out32 (compose_says32 a) }
+pub fn composed_out(a: Result<DstLayout<u32>, RefusedAt<u64>>) -> ComposedOut32
+    ensures { result ≡ composed_out32 (compose_says a) }
 {
     match a {
-        ComposeAnswer32::Layout(l) => ComposedOut32 {
+        Ok(l) => ComposedOut32 {
             refusal: 0,
             place: 0,
             layout: exports32_layouts::words_out(l),
         },
-        ComposeAnswer32::Refused { number, place } => ComposedOut32 {
-            refusal: number,
+        Err(RefusedAt { refusal, place }) => ComposedOut32 {
+            refusal: refusal.number(),
             place,
             layout: exports32_layouts::no_layout(),
         },

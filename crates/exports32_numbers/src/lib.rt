@@ -2,21 +2,20 @@
 // their C side.
 #![tactic(auto)]
 
+ghost use Rattle.trailing.specs.View.{trailing_of, advance_says};
 ghost use Rattle.std.specs.Prelude.{◌≡◌};
 ghost use Rattle.util_defs.specs.Power.{power_of_two};
 ghost use Rattle.util_defs.specs.Helpers.{padding_for, round_down_for, max_for, min_for};
-ghost use Rattle.util.specs.View.{decision_says};
+ghost use Rattle.util.specs.View.{decision_says, number_says};
 ghost use Rattle.rounding.specs.Word.{new_for, components_for, align_for};
 ghost use Rattle.trailing_defs.specs.Calls.{size_offset_for, max_trailing_for, padding_for_elems, advance_for, same_for};
 ghost use Rattle.trailing_defs.specs.Sized.{size_given};
-ghost use Rattle.numbers32.specs.View.{number_says32};
-ghost use Rattle.trailing32.specs.View.{trailing_of32, advance_says32};
 ghost use Rattle.exports32_numbers.specs.Numbers.{number_out32, size_out32, decision_out32, components_out32};
 ghost use Rattle.exports32_numbers.specs.Numbers.{trailing_in32, trailing_words32, no_trailing32, trailing_out32};
 
-use numbers32::{Answer32, ComponentsAnswer32, NewAnswer32, RoundingAlignAndPhase32};
-use trailing32::{AdvanceAnswer32, SizeAnswer32, TrailingSliceLayout32};
-use util::{Decision, refusal};
+use rounding::RoundingAlignAndPhase;
+use trailing::{SizeRefusal, TrailingSliceLayout};
+use util::Refusal;
 
 #[repr(C)]
 #[derive(Clone, Copy)]
@@ -51,21 +50,24 @@ pub struct TrailingAnswer32 {
 }
 
 // A number: an answer of a function of numbers.
-pub fn number_out(a: Answer32) -> Number32
-    ensures { result ≡ number_out32 (number_says32 a) }
+pub fn number_out(a: Result<u32, Refusal>) -> Number32
+    ensures { result ≡ number_out32 (number_says a) }
 {
     match a {
-        Answer32::Number(value) => Number32 { refusal: 0, value },
-        Answer32::Refused(refusal) => Number32 { refusal, value: 0 },
+        Ok(value) => Number32 { refusal: 0, value },
+        Err(refusal) => Number32 {
+            refusal: refusal.number(),
+            value: 0,
+        },
     }
 }
 
 // A yes or no as a number.
-pub fn decision_out(a: Decision) -> Number32
+pub fn decision_out(a: Result<bool, Refusal>) -> Number32
     ensures { result ≡ decision_out32 (decision_says a) }
 {
     match a {
-        Decision::Is(yes) => {
+        Ok(yes) => {
             if yes {
                 Number32 {
                     refusal: 0,
@@ -78,25 +80,28 @@ pub fn decision_out(a: Decision) -> Number32
                 }
             }
         }
-        Decision::Refused(refusal) => Number32 { refusal, value: 0 },
+        Err(refusal) => Number32 {
+            refusal: refusal.number(),
+            value: 0,
+        },
     }
 }
 
 // A trailing layout that was handed over.
-pub fn trailing_in(t: Trailing32) -> TrailingSliceLayout32
-    ensures { trailing_of32 result ≡ trailing_in32 t }
+pub fn trailing_in(t: Trailing32) -> TrailingSliceLayout<u32>
+    ensures { trailing_of result ≡ trailing_in32 t }
 {
-    TrailingSliceLayout32 {
+    TrailingSliceLayout {
         offset: t.offset,
         elem_size: t.elem_size,
         size_base: t.size_base,
-        size_rounding_align_and_phase: RoundingAlignAndPhase32(t.word),
+        size_rounding_align_and_phase: RoundingAlignAndPhase(t.word),
     }
 }
 
 // The words of a trailing layout.
-fn trailing_of(t: TrailingSliceLayout32) -> Trailing32
-    ensures { result ≡ trailing_words32 (trailing_of32 t) }
+fn trailing_of(t: TrailingSliceLayout<u32>) -> Trailing32
+    ensures { result ≡ trailing_words32 (trailing_of t) }
 {
     let word = t.size_rounding_align_and_phase;
     Trailing32 {
@@ -119,16 +124,16 @@ fn no_trailing() -> Trailing32
     }
 }
 
-fn trailing_out(a: AdvanceAnswer32) -> TrailingAnswer32
-    ensures { result ≡ trailing_out32 (advance_says32 a) }
+fn trailing_out(a: Result<TrailingSliceLayout<u32>, Refusal>) -> TrailingAnswer32
+    ensures { result ≡ trailing_out32 (advance_says a) }
 {
     match a {
-        AdvanceAnswer32::Layout(t) => TrailingAnswer32 {
+        Ok(t) => TrailingAnswer32 {
             refusal: 0,
             layout: trailing_of(t),
         },
-        AdvanceAnswer32::Refused(refusal) => TrailingAnswer32 {
-            refusal,
+        Err(refusal) => TrailingAnswer32 {
+            refusal: refusal.number(),
             layout: no_trailing(),
         },
     }
@@ -182,12 +187,15 @@ pub extern "C" fn lukaripe32_min(a: u32, b: u32) -> Number32
 pub extern "C" fn lukaripe32_rounding_new(align: u32, phase: u32) -> Number32
     ensures { result ≡ number_out32 (new_for 32 align phase) }
 {
-    match RoundingAlignAndPhase32::new(align, phase) {
-        NewAnswer32::Word(word) => Number32 {
+    match numbers32::new(align, phase) {
+        Ok(word) => Number32 {
             refusal: 0,
             value: word.0,
         },
-        NewAnswer32::Refused(refusal) => Number32 { refusal, value: 0 },
+        Err(refusal) => Number32 {
+            refusal: refusal.number(),
+            value: 0,
+        },
     }
 }
 
@@ -196,14 +204,14 @@ pub extern "C" fn lukaripe32_rounding_new(align: u32, phase: u32) -> Number32
 pub extern "C" fn lukaripe32_rounding_components(word: u32) -> Components32
     ensures { result ≡ components_out32 (components_for 32 word) }
 {
-    match RoundingAlignAndPhase32(word).components() {
-        ComponentsAnswer32::Components { align, phase } => Components32 {
+    match numbers32::components(RoundingAlignAndPhase(word)) {
+        Ok(rounding::Components { align, phase }) => Components32 {
             refusal: 0,
             align,
             phase,
         },
-        ComponentsAnswer32::Refused(refusal) => Components32 {
-            refusal,
+        Err(refusal) => Components32 {
+            refusal: refusal.number(),
             align: 0,
             phase: 0,
         },
@@ -215,7 +223,7 @@ pub extern "C" fn lukaripe32_rounding_components(word: u32) -> Components32
 pub extern "C" fn lukaripe32_rounding_align(word: u32) -> Number32
     ensures { result ≡ number_out32 (align_for 32 word) }
 {
-    number_out(RoundingAlignAndPhase32(word).align())
+    number_out(numbers32::align(RoundingAlignAndPhase(word)))
 }
 
 // The size offset of a trailing layout.
@@ -223,7 +231,7 @@ pub extern "C" fn lukaripe32_rounding_align(word: u32) -> Number32
 pub extern "C" fn lukaripe32_size_offset(layout: Trailing32) -> Number32
     ensures { result ≡ number_out32 (size_offset_for 32 (trailing_in32 layout)) }
 {
-    number_out(trailing_in(layout).size_offset())
+    number_out(trailing32::size_offset(trailing_in(layout)))
 }
 
 // The greatest number of trailing bytes whose size is at most available_bytes.
@@ -234,7 +242,7 @@ pub extern "C" fn lukaripe32_max_trailing_bytes(
 ) -> Number32
     ensures { result ≡ number_out32 (max_trailing_for 32 (trailing_in32 layout) available_bytes) }
 {
-    number_out(trailing_in(layout).max_trailing_bytes(available_bytes))
+    number_out(trailing32::max_trailing_bytes(trailing_in(layout), available_bytes))
 }
 
 // The padding after elems elements, modulo 2^32.
@@ -242,7 +250,7 @@ pub extern "C" fn lukaripe32_max_trailing_bytes(
 pub extern "C" fn lukaripe32_padding_for_elems(layout: Trailing32, elems: u32) -> Number32
     ensures { result ≡ number_out32 (padding_for_elems 32 (trailing_in32 layout) elems) }
 {
-    number_out(trailing_in(layout).padding_for_elems(elems))
+    number_out(trailing32::padding_for_elems(trailing_in(layout), elems))
 }
 
 // The size at elems elements; beside 15 the value is the greatest count that has a size.
@@ -250,14 +258,14 @@ pub extern "C" fn lukaripe32_padding_for_elems(layout: Trailing32, elems: u32) -
 pub extern "C" fn lukaripe32_size_for_elems(layout: Trailing32, elems: u32) -> Number32
     ensures { result ≡ size_out32 (size_given 32 (trailing_in32 layout) elems) }
 {
-    match trailing_in(layout).size_for_elems(elems) {
-        SizeAnswer32::Size(value) => Number32 { refusal: 0, value },
-        SizeAnswer32::NoSize { greatest } => Number32 {
-            refusal: refusal::NO_SIZE,
+    match trailing32::size_for_elems(trailing_in(layout), elems) {
+        Ok(value) => Number32 { refusal: 0, value },
+        Err(SizeRefusal::NoSize { greatest }) => Number32 {
+            refusal: Refusal::NoSize.number(),
             value: greatest,
         },
-        SizeAnswer32::Refused(number) => Number32 {
-            refusal: number,
+        Err(SizeRefusal::Refused(refusal)) => Number32 {
+            refusal: refusal.number(),
             value: 0,
         },
     }

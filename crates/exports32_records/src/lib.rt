@@ -10,7 +10,7 @@ ghost use Rattle.exports_layouts.specs.Layouts.{refusal_out};
 ghost use Rattle.exports32_layouts.specs.Layouts.{words_given32, layout_out32};
 
 use exports32_layouts::{Layout32, LayoutOut32};
-use record::{EncodeAnswer, Words};
+use record::Words;
 
 // The words of a layout that was handed over.
 fn wide_words(l: Layout32) -> Words
@@ -41,8 +41,8 @@ pub extern "C" fn lukaripe32_encode(layout: Layout32, out: &mut [u8]) -> u64
     ensures out_after { out.new ≡ encoded_words_into 32 (words_given32 layout) out.old }
 {
     match record::encode_words(wide_words(layout), out) {
-        EncodeAnswer::Encoded => 0,
-        EncodeAnswer::Refused(number) => number,
+        Ok(()) => 0,
+        Err(refusal) => refusal.number(),
     }
 }
 
@@ -61,7 +61,7 @@ pub extern "C" fn lukaripe32_encode_short(layout: Layout32, out: &mut [u8]) -> u
     ensures out_after { out.new ≡ encoded_short_words_into (words_given32 layout) out.old }
 {
     match short::encode_short_words(wide_words(layout), out) {
-        EncodeAnswer::Encoded => 0,
-        EncodeAnswer::Refused(number) => number,
+        Ok(()) => 0,
+        Err(refusal) => refusal.number(),
     }
 }

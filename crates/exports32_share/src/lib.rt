@@ -2,14 +2,15 @@
 // apart, so that what it calls is called once here, and inlined.
 #![tactic(auto)]
 
+ghost use Rattle.share.specs.View.{share_says};
 ghost use Rattle.std.specs.Prelude.{◌≡◌};
 ghost use Rattle.share_defs.specs.Share.{share_for};
-ghost use Rattle.share.specs.View.{share_says32};
 ghost use Rattle.exports32_numbers.specs.Numbers.{trailing_in32};
 ghost use Rattle.exports32_share.specs.Shares.{share_out32};
 
 use exports32_numbers::Trailing32;
-use share::ShareAnswer32;
+use share::Share;
+use util::RefusedAt;
 
 // Total padding over total size and the mean size as fractions in lowest terms, the greatest padding and its first index; or the
 // refusal and where. There may be more counts than 32 bits number: how many there are and an index have 64 bits.
@@ -27,11 +28,11 @@ pub struct PaddingOut32 {
 }
 
 // The padding over counts as it crosses to C.
-fn share_out(a: ShareAnswer32) -> PaddingOut32
-    ensures { result ≡ share_out32 (share_says32 a) }
+fn share_out(a: Result<Share<u32>, RefusedAt<u64>>) -> PaddingOut32
+    ensures { result ≡ share_out32 (share_says a) }
 {
     match a {
-        ShareAnswer32::Share(share) => {
+        Ok(share) => {
             let padding = share.padding;
             let mean = share.mean;
             PaddingOut32 {
@@ -45,8 +46,8 @@ fn share_out(a: ShareAnswer32) -> PaddingOut32
                 index: share.index,
             }
         }
-        ShareAnswer32::Refused { number, place } => PaddingOut32 {
-            refusal: number,
+        Err(RefusedAt { refusal, place }) => PaddingOut32 {
+            refusal: refusal.number(),
             place,
             padding_numerator: 0,
             padding_denominator: 0,

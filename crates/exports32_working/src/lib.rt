@@ -3,18 +3,16 @@
 // stands apart, in exports32_working_record, so that what an export calls is called once, and inlined.
 #![tactic(auto)]
 
+ghost use Rattle.working.specs.View.{add_says};
 ghost use Rattle.std.specs.Prelude.{◌≡◌};
 ghost use Rattle.make.specs.Make.{new_zst_for};
 ghost use Rattle.record_defs.specs.Record.{words_for};
-ghost use Rattle.working32.specs.View.{add_says32};
 ghost use Rattle.exports_working.specs.Working.{working_for};
 ghost use Rattle.exports32_layouts.specs.Layouts.{words_given32, layout_out32};
 ghost use Rattle.exports32_working.specs.Working.{worked_out32};
 
 use exports32_layouts::{Layout32, LayoutOut32};
-use layout::Check;
-use layouts32::LayoutAnswer32;
-use working32::Addition32;
+use working::Addition;
 
 // What an addition gives: the refusal, or 0, and the words of the working layout after it.
 #[derive(Clone, Copy)]
@@ -24,17 +22,17 @@ pub struct Worked32 {
 }
 
 // An addition as it crosses: on a refusal the words are those that were lent.
-pub fn worked_out(lent: Layout32, addition: Addition32) -> Worked32
-    ensures { result ≡ worked_out32 (add_says32 addition.answer addition.layout) lent }
+pub fn worked_out(lent: Layout32, addition: Addition<u32>) -> Worked32
+    ensures { result ≡ worked_out32 (add_says addition.answer addition.layout) lent }
 {
     let answer = addition.answer;
     match answer {
-        Check::Accepted => Worked32 {
+        Ok(()) => Worked32 {
             refusal: 0,
             layout: exports32_layouts::words_out(addition.layout),
         },
-        Check::Refused(refusal) => Worked32 {
-            refusal,
+        Err(refusal) => Worked32 {
+            refusal: refusal.number(),
             layout: lent,
         },
     }
@@ -45,17 +43,15 @@ pub fn add_words(lent: Layout32, field: Layout32, repr_packed: u32) -> Worked32
     ensures { result ≡ worked_out32 (working_for 32 repr_packed (words_given32 lent) (words_for 32 (words_given32 field))) lent }
 {
     match exports32_layouts::layout_in(lent) {
-        LayoutAnswer32::Layout(own) => match exports32_layouts::layout_in(field) {
-            LayoutAnswer32::Layout(member) => {
-                worked_out(lent, working32::with_member(own, member, repr_packed))
-            }
-            LayoutAnswer32::Refused(refusal) => Worked32 {
-                refusal,
+        Ok(own) => match exports32_layouts::layout_in(field) {
+            Ok(member) => { worked_out(lent, working32::with_member(own, member, repr_packed)) }
+            Err(refusal) => Worked32 {
+                refusal: refusal.number(),
                 layout: lent,
             },
         },
-        LayoutAnswer32::Refused(refusal) => Worked32 {
-            refusal,
+        Err(refusal) => Worked32 {
+            refusal: refusal.number(),
             layout: lent,
         },
     }

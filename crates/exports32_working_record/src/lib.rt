@@ -10,18 +10,17 @@ ghost use Rattle.exports32_working.specs.Working.{worked_out32};
 
 use exports32_layouts::Layout32;
 use exports32_working::Worked32;
-use layouts32::LayoutAnswer32;
 
 // The addition of a member by its record, to words by value.
 pub fn add_record_words(lent: Layout32, member: &[u8], repr_packed: u32) -> Worked32
     ensures { result ≡ worked_out32 (working_for 32 repr_packed (words_given32 lent) (decode_for 32 member.now)) lent }
 {
     match exports32_layouts::layout_in(lent) {
-        LayoutAnswer32::Layout(own) => {
+        Ok(own) => {
             exports32_working::worked_out(lent, working32::with_record(own, member, repr_packed))
         }
-        LayoutAnswer32::Refused(refusal) => Worked32 {
-            refusal,
+        Err(refusal) => Worked32 {
+            refusal: refusal.number(),
             layout: lent,
         },
     }

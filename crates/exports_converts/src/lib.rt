@@ -15,13 +15,12 @@ ghost use Rattle.exports_layouts.specs.Layouts.{with_layout};
 ghost use Rattle.exports_converts.specs.Converts.{cast_out, side_given, params_given, params_numbers, no_params};
 ghost use Rattle.exports_converts.specs.Converts.{params_out};
 
-use cast::{CastAnswer, CastType};
-use convert::{CastParamsInner, ComputeAnswer};
+use cast::{CastType, Granted};
+use convert::CastParamsInner;
 use exports_layouts::Layout;
 use exports_numbers::Number;
-use layout::LayoutAnswer;
 use shift::Mode;
-use util::Answer;
+use util::Refusal;
 
 #[repr(C)]
 #[derive(Clone, Copy)]
@@ -48,17 +47,17 @@ pub struct CastParamsOut {
 }
 
 // A granted cast, or the refusal.
-pub fn cast_out(a: CastAnswer) -> CastOut
+pub fn cast_out(a: Result<Granted<u64>, Refusal>) -> CastOut
     ensures { result ≡ cast_out (cast_says a) }
 {
     match a {
-        CastAnswer::Granted { elems, split_at } => CastOut {
+        Ok(Granted { elems, split_at }) => CastOut {
             refusal: 0,
             count: elems,
             split: split_at,
         },
-        CastAnswer::Refused(refusal) => CastOut {
-            refusal,
+        Err(refusal) => CastOut {
+            refusal: refusal.number(),
             count: 0,
             split: 0,
         },
@@ -66,7 +65,7 @@ pub fn cast_out(a: CastAnswer) -> CastOut
 }
 
 // The parameters of a conversion, by their kind.
-fn params_given(params: CastParamsInner) -> CastParams
+fn params_given(params: CastParamsInner<u64>) -> CastParams
     ensures { result ≡ params_numbers (params_in params) }
 {
     match params {
@@ -102,22 +101,22 @@ fn no_params() -> CastParams
 }
 
 // The parameters of a conversion, or the refusal.
-pub fn params_out(a: ComputeAnswer) -> CastParamsOut
+pub fn params_out(a: Result<CastParamsInner<u64>, Refusal>) -> CastParamsOut
     ensures { result ≡ params_out (compute_says a) }
 {
     match a {
-        ComputeAnswer::Params(params) => CastParamsOut {
+        Ok(params) => CastParamsOut {
             refusal: 0,
             params: params_given(params),
         },
-        ComputeAnswer::Refused(refusal) => CastParamsOut {
-            refusal,
+        Err(refusal) => CastParamsOut {
+            refusal: refusal.number(),
             params: no_params(),
         },
     }
 }
 
-fn params_in(q: CastParams) -> CastParamsInner
+fn params_in(q: CastParams) -> CastParamsInner<u64>
     ensures { params_in result ≡ params_given q }
 {
     if q.kind == 0 {
@@ -156,10 +155,8 @@ pub extern "C" fn lukaripe_validate_cast_and_convert_metadata(
 {
     let side = cast_type(suffix);
     match exports_layouts::layout_in(layout) {
-        LayoutAnswer::Layout(l) => cast_out(cast::validate_cast_and_convert_metadata(
-            l, addr, bytes_len, side,
-        )),
-        LayoutAnswer::Refused(refusal) => cast_out(CastAnswer::Refused(refusal)),
+        Ok(l) => cast_out(cast::validate_cast_and_convert_metadata(l, addr, bytes_len, side)),
+        Err(refusal) => cast_out(Err(refusal)),
     }
 }
 
@@ -169,10 +166,8 @@ pub extern "C" fn lukaripe_metadata_for_exact_size(layout: Layout, size: u64) ->
     ensures { result ≡ number_out (with_layout 64 layout (λ l. exact_for 64 l size)) }
 {
     match exports_layouts::layout_in(layout) {
-        LayoutAnswer::Layout(l) => exports_numbers::number_out(cast::metadata_for_exact_size(
-            l, size,
-        )),
-        LayoutAnswer::Refused(refusal) => exports_numbers::number_out(Answer::Refused(refusal)),
+        Ok(l) => exports_numbers::number_out(cast::metadata_for_exact_size(l, size)),
+        Err(refusal) => exports_numbers::number_out(Err(refusal)),
     }
 }
 
@@ -181,11 +176,11 @@ pub fn compute_out(src: Layout, dst: Layout, mode: Mode) -> CastParamsOut
     ensures { result ≡ params_out (with_layout 64 src (λ l. with_layout 64 dst (λ m. compute_for 64 (comparison_of 64 (mode_of mode)) l m))) }
 {
     match exports_layouts::layout_in(src) {
-        LayoutAnswer::Layout(l) => match exports_layouts::layout_in(dst) {
-            LayoutAnswer::Layout(m) => params_out(convert::try_compute(l, m, mode)),
-            LayoutAnswer::Refused(refusal) => params_out(ComputeAnswer::Refused(refusal)),
+        Ok(l) => match exports_layouts::layout_in(dst) {
+            Ok(m) => params_out(convert::try_compute(l, m, mode)),
+            Err(refusal) => params_out(Err(refusal)),
         },
-        LayoutAnswer::Refused(refusal) => params_out(ComputeAnswer::Refused(refusal)),
+        Err(refusal) => params_out(Err(refusal)),
     }
 }
 

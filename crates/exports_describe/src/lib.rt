@@ -4,30 +4,16 @@
 
 ghost use Rattle.std.specs.Prelude.{◌≡◌};
 ghost use Rattle.scalar.specs.Scalar.{target64};
-ghost use Rattle.compose.specs.View.{compose_says};
 ghost use Rattle.describe_defs.specs.Describe.{described_for};
-ghost use Rattle.describe.specs.View.{read_says};
 ghost use Rattle.exports_layouts.specs.Layouts.{composed_out};
 ghost use Rattle.exports_describe.specs.Read.{as_composed};
 
-use compose::ComposeAnswer;
-use describe::ReadAnswer;
 use exports_layouts::ComposedOut;
-
-// A description that was read, as a composition.
-fn as_composed(a: ReadAnswer) -> ComposeAnswer
-    ensures { compose_says result ≡ as_composed (read_says a) }
-{
-    match a {
-        ReadAnswer::Layout(l) => ComposeAnswer::Layout(l),
-        ReadAnswer::Refused { number, place } => ComposeAnswer::Refused { number, place },
-    }
-}
 
 // The layout that the bytes describe.
 #[unsafe(no_mangle)]
 pub extern "C" fn lukaripe_read(description: &[u8]) -> ComposedOut
     ensures { result ≡ composed_out (as_composed (described_for 64 target64 description.now)) }
 {
-    exports_layouts::composed_out(as_composed(describe::read(false, description)))
+    exports_layouts::composed_out(describe::read(false, description))
 }

@@ -7,7 +7,6 @@ ghost use Rattle.describe_defs.specs.Elements.{array_for, slice_of_for};
 ghost use Rattle.exports_layouts.specs.Layouts.{layout_out, with_layout};
 
 use exports_layouts::{Layout, LayoutOut};
-use layout::LayoutAnswer;
 
 // The layout of an array of count elements.
 #[unsafe(no_mangle)]
@@ -15,10 +14,8 @@ pub extern "C" fn lukaripe_for_array(elem: Layout, count: u64) -> LayoutOut
     ensures { result ≡ layout_out (with_layout 64 elem (λ l. array_for 64 l count)) }
 {
     match exports_layouts::layout_in(elem) {
-        LayoutAnswer::Layout(l) => exports_layouts::layout_out(elements::for_array(l, count)),
-        LayoutAnswer::Refused(refusal) => exports_layouts::layout_out(LayoutAnswer::Refused(
-            refusal,
-        )),
+        Ok(l) => exports_layouts::layout_out(elements::for_array(l, count)),
+        Err(refusal) => exports_layouts::layout_out(Err(refusal)),
     }
 }
 
@@ -28,7 +25,7 @@ pub extern "C" fn lukaripe_for_slice_of(elem: Layout) -> LayoutOut
     ensures { result ≡ layout_out (with_layout 64 elem (λ l. slice_of_for 64 l)) }
 {
     match exports_layouts::layout_in(elem) {
-        LayoutAnswer::Layout(l) => exports_layouts::layout_out(elements::for_slice_of(l)),
-        LayoutAnswer::Refused(number) => exports_layouts::layout_out(LayoutAnswer::Refused(number)),
+        Ok(l) => exports_layouts::layout_out(elements::for_slice_of(l)),
+        Err(cause) => exports_layouts::layout_out(Err(cause)),
     }
 }

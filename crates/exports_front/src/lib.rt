@@ -11,7 +11,6 @@ ghost use Rattle.exports_front.specs.Serving.{serving_out, serving_out_of};
 
 use exports_layouts::Layout;
 use front::Serving;
-use layout::LayoutAnswer;
 
 #[repr(C)]
 #[derive(Clone, Copy)]
@@ -23,7 +22,7 @@ pub struct ServingOut {
     pub split: u64,
 }
 
-fn serving_out(a: Serving) -> ServingOut
+fn serving_out(a: Serving<u64>) -> ServingOut
     ensures { result ≡ serving_out (serving_says a) }
 {
     match a {
@@ -39,7 +38,7 @@ fn serving_out(a: Serving) -> ServingOut
             elems,
             split_at,
         } => ServingOut {
-            map_refusal,
+            map_refusal: map_refusal.number(),
             spare_refusal: 0,
             serves: 2,
             count: elems,
@@ -49,8 +48,8 @@ fn serving_out(a: Serving) -> ServingOut
             map_refusal,
             spare_refusal,
         } => ServingOut {
-            map_refusal,
-            spare_refusal,
+            map_refusal: map_refusal.number(),
+            spare_refusal: spare_refusal.number(),
             serves: 0,
             count: 0,
             split: 0,
@@ -71,10 +70,8 @@ pub extern "C" fn lukaripe_which_serves(
         answered (serving_for 64 l map_addr map_len spare_addr spare_len))) }
 {
     match exports_layouts::layout_in(layout) {
-        LayoutAnswer::Layout(l) => {
-            serving_out(front::which_serves(l, map_addr, map_len, spare_addr, spare_len))
-        }
-        LayoutAnswer::Refused(refusal) => serving_out(Serving::Neither {
+        Ok(l) => { serving_out(front::which_serves(l, map_addr, map_len, spare_addr, spare_len)) }
+        Err(refusal) => serving_out(Serving::Neither {
             map_refusal: refusal,
             spare_refusal: refusal,
         }),

@@ -9,7 +9,8 @@ ghost use Rattle.exports_numbers.specs.Numbers.{decision_out, trailing_in};
 ghost use Rattle.exports_full.specs.Forms.{form_out};
 
 use exports_numbers::{Number, Trailing};
-use full::FormAnswer;
+use full::NormalForm;
+use util::Refusal;
 
 // A normal form has no offset and no alignment.
 #[repr(C)]
@@ -22,11 +23,11 @@ pub struct NormalFormOut {
 }
 
 // A normal form, or the refusal.
-fn form_out(a: FormAnswer) -> NormalFormOut
+fn form_out(a: Result<NormalForm<u64>, Refusal>) -> NormalFormOut
     ensures { result ≡ form_out (form_says a) }
 {
     match a {
-        FormAnswer::Form(form) => {
+        Ok(form) => {
             let word = form.size_rounding_align_and_phase;
             NormalFormOut {
                 refusal: 0,
@@ -35,8 +36,8 @@ fn form_out(a: FormAnswer) -> NormalFormOut
                 word: word.0,
             }
         }
-        FormAnswer::Refused(refusal) => NormalFormOut {
-            refusal,
+        Err(refusal) => NormalFormOut {
+            refusal: refusal.number(),
             size_base: 0,
             elem_size: 0,
             word: 0,

@@ -3,6 +3,7 @@
 #![tactic(auto)]
 
 ghost use Rattle.std.specs.Prelude.{◌≡◌};
+ghost use Rattle.util.specs.View.{number_of};
 ghost use Rattle.util_defs.specs.Refusal.{answered, refused};
 ghost use Rattle.trailing_defs.specs.Sequence.{same_sequence};
 ghost use Rattle.shift_defs.specs.Mode.{comparison_of};
@@ -12,15 +13,12 @@ ghost use Rattle.guarantee.specs.View.{answers_in};
 ghost use Rattle.exports_layouts.specs.Layouts.{with_layout};
 ghost use Rattle.exports_guarantee.specs.Carried.{carried_out};
 
-use cast::CastAnswer;
-use convert::ComputeAnswer;
 use exports_converts::{CastOut, CastParamsOut};
 use exports_layouts::Layout;
 use exports_numbers::Number;
 use guarantee::Carried;
-use layout::LayoutAnswer;
 use shift::Mode;
-use util::Answer;
+use util::Refusal;
 
 #[repr(C)]
 #[derive(Clone, Copy)]
@@ -32,7 +30,7 @@ pub struct CarriedOut {
 }
 
 // What the four calls of a conversion and of two casts gave.
-fn carried_out(r: Carried) -> CarriedOut
+fn carried_out(r: Carried<u64>) -> CarriedOut
     ensures { result ≡ carried_out (answered (answers_in r)) }
 {
     let computed = r.computed;
@@ -48,14 +46,14 @@ fn carried_out(r: Carried) -> CarriedOut
 }
 
 // A layout that is refused refuses all four.
-fn none_carried(refusal: u64) -> CarriedOut
-    ensures { result ≡ carried_out (refused refusal) }
+fn none_carried(refusal: Refusal) -> CarriedOut
+    ensures { result ≡ carried_out (refused (number_of refusal)) }
 {
     CarriedOut {
-        computed: exports_converts::params_out(ComputeAnswer::Refused(refusal)),
-        count: exports_numbers::number_out(Answer::Refused(refusal)),
-        first: exports_converts::cast_out(CastAnswer::Refused(refusal)),
-        second: exports_converts::cast_out(CastAnswer::Refused(refusal)),
+        computed: exports_converts::params_out(Err(refusal)),
+        count: exports_numbers::number_out(Err(refusal)),
+        first: exports_converts::cast_out(Err(refusal)),
+        second: exports_converts::cast_out(Err(refusal)),
     }
 }
 
@@ -73,15 +71,15 @@ pub fn convert_and_cast_out(
         answered (answers_of 64 (comparison_of 64 (mode_of mode)) l m src_meta addr bytes_len more_len)))) }
 {
     match exports_layouts::layout_in(src) {
-        LayoutAnswer::Layout(l) => match exports_layouts::layout_in(dst) {
-            LayoutAnswer::Layout(m) => {
+        Ok(l) => match exports_layouts::layout_in(dst) {
+            Ok(m) => {
                 carried_out(guarantee::convert_and_cast(
                     l, m, src_meta, addr, bytes_len, more_len, mode,
                 ))
             }
-            LayoutAnswer::Refused(refusal) => none_carried(refusal),
+            Err(refusal) => none_carried(refusal),
         },
-        LayoutAnswer::Refused(refusal) => none_carried(refusal),
+        Err(refusal) => none_carried(refusal),
     }
 }
 

@@ -1,21 +1,22 @@
 -- A layout that was handed over: accepted, the function is called on it; refused, the refusal is passed on. Assumes nothing.
+use Rattle.util.specs.declared.refusal.Refusal.{Refusal}
+use Rattle.std.specs.Prelude.{Err, Ok, Result}
 use mathlib.Core.Path.{◌≡◌, sym, ap}
 use Prim.Native.Nat.{ℕ}
 use Rattle.util_defs.specs.Refusal.{Outcome, refused}
+use Rattle.util.specs.View.{number_of}
 use Rattle.util_defs.proofs.Tables.{told_by}
 use Rattle.layout_defs.specs.Layout.{Layout}
 use Rattle.layout.specs.declared.DstLayout.{DstLayout}
-use Rattle.layout.specs.declared.LayoutAnswer.{LayoutAnswer}
-use Rattle.layout.specs.declared.LayoutAnswer.TheVariants as Answer
 use Rattle.layout.specs.View.{layout_of, layout_says}
 use Rattle.record_defs.specs.Record.{words_for}
 use Rattle.exports_layouts.specs.declared.Layout as given
 use Rattle.exports_layouts.specs.Layouts.{bind_outcome, words_given, with_layout}
 
-pub with_layout_lem : {T : Type 0} {x : DstLayout} (w : ℕ) (l : given.Layout) (f : Layout → Outcome T) (r : LayoutAnswer) → layout_says r ≡ words_for w (words_given l) → r ≡ Answer.Layout x
+pub with_layout_lem : {T : Type 0} {x : DstLayout ℕ} (w : ℕ) (l : given.Layout) (f : Layout → Outcome T) (r : Result (DstLayout ℕ) Refusal) → layout_says r ≡ words_for w (words_given l) → r ≡ Ok x
     → f (layout_of x) ≡ with_layout w l f
 with_layout_lem {T} w l f r e g = ap (λ (o : Outcome Layout). bind_outcome o f) (sym (told_by layout_says e g))
 
-pub with_refused : {T : Type 0} {k : ℕ} (w : ℕ) (l : given.Layout) (f : Layout → Outcome T) (r : LayoutAnswer) → layout_says r ≡ words_for w (words_given l) → r ≡ Answer.Refused k
-    → refused k ≡ with_layout w l f
+pub with_refused : {T : Type 0} {k : Refusal} (w : ℕ) (l : given.Layout) (f : Layout → Outcome T) (r : Result (DstLayout ℕ) Refusal) → layout_says r ≡ words_for w (words_given l) → r ≡ Err k
+    → refused (number_of k) ≡ with_layout w l f
 with_refused {T} w l f r e g = ap (λ (o : Outcome Layout). bind_outcome o f) (sym (told_by layout_says e g))

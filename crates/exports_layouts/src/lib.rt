@@ -15,11 +15,10 @@ ghost use Rattle.exports_numbers.specs.Numbers.{decision_out};
 ghost use Rattle.exports_layouts.specs.Layouts.{words_given, words_out, no_layout, layout_out, with_layout};
 ghost use Rattle.exports_layouts.specs.Layouts.{composed_out, refusal_out};
 
-use compose::ComposeAnswer;
 use exports_numbers::Number;
-use layout::{DstLayout, LayoutAnswer, SizeInfo, SizedLayout};
-use record::{EncodeAnswer, Words};
-use util::Decision;
+use layout::{DstLayout, SizeInfo, SizedLayout};
+use record::Words;
+use util::{Refusal, RefusedAt};
 
 // A layout, as the six words of its record.
 #[repr(C)]
@@ -50,7 +49,7 @@ pub struct ComposedOut {
 }
 
 // A layout that was handed over: its words are tested as a record's are.
-pub fn layout_in(l: Layout) -> LayoutAnswer
+pub fn layout_in(l: Layout) -> Result<DstLayout<u64>, Refusal>
     ensures { layout_says result ≡ words_for 64 (words_given l) }
 {
     record::layout_from_words(Words {
@@ -64,7 +63,11 @@ pub fn layout_in(l: Layout) -> LayoutAnswer
 }
 
 // `extend`, by the functions of its two kinds, which the compiler inlines: a call would lend both layouts by memory.
-fn with_member(l: DstLayout, m: DstLayout, repr_packed: u64) -> LayoutAnswer
+fn with_member(
+    l: DstLayout<u64>,
+    m: DstLayout<u64>,
+    repr_packed: u64,
+) -> Result<DstLayout<u64>, Refusal>
     ensures { layout_says result ≡ extend_for 64 (layout_of l) (layout_of m) repr_packed }
 {
     let size_info = l.size_info;
@@ -79,7 +82,7 @@ fn with_member(l: DstLayout, m: DstLayout, repr_packed: u64) -> LayoutAnswer
             m,
             repr_packed,
         ),
-        SizeInfo::SliceDst(tail) => LayoutAnswer::Refused(extend::extend_trailing(
+        SizeInfo::SliceDst(tail) => Err(extend::extend_trailing(
             l.align,
             tail,
             l.statically_shallow_unpadded,
@@ -119,33 +122,33 @@ fn no_layout() -> Layout
 }
 
 // A layout as it crosses to C.
-pub fn layout_out(a: LayoutAnswer) -> LayoutOut
+pub fn layout_out(a: Result<DstLayout<u64>, Refusal>) -> LayoutOut
     ensures { result ≡ layout_out (layout_says a) }
 {
     match a {
-        LayoutAnswer::Layout(l) => LayoutOut {
+        Ok(l) => LayoutOut {
             refusal: 0,
             layout: words_out(record::words_from_layout(l)),
         },
-        LayoutAnswer::Refused(refusal) => LayoutOut {
-            refusal,
+        Err(refusal) => LayoutOut {
+            refusal: refusal.number(),
             layout: no_layout(),
         },
     }
 }
 
 // A composition as it crosses to C.
-pub fn composed_out(a: ComposeAnswer) -> ComposedOut
+pub fn composed_out(a: Result<DstLayout<u64>, RefusedAt<u64>>) -> ComposedOut
     ensures { result ≡ composed_out (compose_says a) }
 {
     match a {
-        ComposeAnswer::Layout(l) => ComposedOut {
+        Ok(l) => ComposedOut {
             refusal: 0,
             place: 0,
             layout: words_out(record::words_from_layout(l)),
         },
-        ComposeAnswer::Refused { number, place } => ComposedOut {
-            refusal: number,
+        Err(RefusedAt { refusal, place }) => ComposedOut {
+            refusal: refusal.number(),
             place,
             layout: no_layout(),
         },
@@ -190,11 +193,11 @@ pub extern "C" fn lukaripe_extend(layout: Layout, field: Layout, repr_packed: u6
     ensures { result ≡ layout_out (with_layout 64 layout (λ l. with_layout 64 field (λ m. extend_for 64 l m repr_packed))) }
 {
     match layout_in(layout) {
-        LayoutAnswer::Layout(l) => match layout_in(field) {
-            LayoutAnswer::Layout(m) => layout_out(with_member(l, m, repr_packed)),
-            LayoutAnswer::Refused(refusal) => layout_out(LayoutAnswer::Refused(refusal)),
+        Ok(l) => match layout_in(field) {
+            Ok(m) => layout_out(with_member(l, m, repr_packed)),
+            Err(refusal) => layout_out(Err(refusal)),
         },
-        LayoutAnswer::Refused(refusal) => layout_out(LayoutAnswer::Refused(refusal)),
+        Err(refusal) => layout_out(Err(refusal)),
     }
 }
 
@@ -204,8 +207,8 @@ pub extern "C" fn lukaripe_pad_to_align(layout: Layout) -> LayoutOut
     ensures { result ≡ layout_out (with_layout 64 layout (λ l. pad_for 64 l)) }
 {
     match layout_in(layout) {
-        LayoutAnswer::Layout(l) => layout_out(padding::pad_to_align(l)),
-        LayoutAnswer::Refused(refusal) => layout_out(LayoutAnswer::Refused(refusal)),
+        Ok(l) => layout_out(padding::pad_to_align(l)),
+        Err(refusal) => layout_out(Err(refusal)),
     }
 }
 
@@ -215,8 +218,8 @@ pub extern "C" fn lukaripe_requires_static_padding(layout: Layout) -> Number
     ensures { result ≡ decision_out (with_layout 64 layout (λ l. static_for 64 l)) }
 {
     match layout_in(layout) {
-        LayoutAnswer::Layout(l) => exports_numbers::decision_out(needs::requires_static_padding(l)),
-        LayoutAnswer::Refused(refusal) => exports_numbers::decision_out(Decision::Refused(refusal)),
+        Ok(l) => exports_numbers::decision_out(needs::requires_static_padding(l)),
+        Err(refusal) => exports_numbers::decision_out(Err(refusal)),
     }
 }
 
@@ -226,10 +229,8 @@ pub extern "C" fn lukaripe_requires_dynamic_padding(layout: Layout) -> Number
     ensures { result ≡ decision_out (with_layout 64 layout (λ l. dynamic_for 64 l)) }
 {
     match layout_in(layout) {
-        LayoutAnswer::Layout(l) => exports_numbers::decision_out(needs::requires_dynamic_padding(
-            l,
-        )),
-        LayoutAnswer::Refused(refusal) => exports_numbers::decision_out(Decision::Refused(refusal)),
+        Ok(l) => exports_numbers::decision_out(needs::requires_dynamic_padding(l)),
+        Err(refusal) => exports_numbers::decision_out(Err(refusal)),
     }
 }
 
@@ -256,8 +257,8 @@ pub extern "C" fn lukaripe_encode(layout: Layout, out: &mut [u8]) -> u64
         word: layout.word,
     };
     match record::encode_words(words, out) {
-        EncodeAnswer::Encoded => 0,
-        EncodeAnswer::Refused(number) => number,
+        Ok(()) => 0,
+        Err(refusal) => refusal.number(),
     }
 }
 

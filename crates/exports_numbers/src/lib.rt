@@ -12,9 +12,9 @@ ghost use Rattle.trailing.specs.View.{trailing_of, advance_says};
 ghost use Rattle.exports_numbers.specs.Numbers.{number_out, size_out, decision_out, components_out};
 ghost use Rattle.exports_numbers.specs.Numbers.{trailing_in, trailing_words, no_trailing, trailing_out};
 
-use rounding::{ComponentsAnswer, NewAnswer, RoundingAlignAndPhase};
-use trailing::{AdvanceAnswer, SizeAnswer, TrailingSliceLayout};
-use util::{Answer, Decision, refusal};
+use rounding::RoundingAlignAndPhase;
+use trailing::{SizeRefusal, TrailingSliceLayout};
+use util::Refusal;
 
 #[repr(C)]
 #[derive(Clone, Copy)]
@@ -49,21 +49,24 @@ pub struct TrailingAnswer {
 }
 
 // A number: an answer of a function of numbers.
-pub fn number_out(a: Answer) -> Number
+pub fn number_out(a: Result<u64, Refusal>) -> Number
     ensures { result ≡ number_out (number_says a) }
 {
     match a {
-        Answer::Number(value) => Number { refusal: 0, value },
-        Answer::Refused(refusal) => Number { refusal, value: 0 },
+        Ok(value) => Number { refusal: 0, value },
+        Err(refusal) => Number {
+            refusal: refusal.number(),
+            value: 0,
+        },
     }
 }
 
 // A yes or no as a number.
-pub fn decision_out(a: Decision) -> Number
+pub fn decision_out(a: Result<bool, Refusal>) -> Number
     ensures { result ≡ decision_out (decision_says a) }
 {
     match a {
-        Decision::Is(yes) => {
+        Ok(yes) => {
             if yes {
                 Number {
                     refusal: 0,
@@ -76,12 +79,15 @@ pub fn decision_out(a: Decision) -> Number
                 }
             }
         }
-        Decision::Refused(refusal) => Number { refusal, value: 0 },
+        Err(refusal) => Number {
+            refusal: refusal.number(),
+            value: 0,
+        },
     }
 }
 
 // A trailing layout that was handed over.
-pub fn trailing_in(t: Trailing) -> TrailingSliceLayout
+pub fn trailing_in(t: Trailing) -> TrailingSliceLayout<u64>
     ensures { trailing_of result ≡ trailing_in t }
 {
     TrailingSliceLayout {
@@ -93,7 +99,7 @@ pub fn trailing_in(t: Trailing) -> TrailingSliceLayout
 }
 
 // The words of a trailing layout.
-fn trailing_of(t: TrailingSliceLayout) -> Trailing
+fn trailing_of(t: TrailingSliceLayout<u64>) -> Trailing
     ensures { result ≡ trailing_words (trailing_of t) }
 {
     let word = t.size_rounding_align_and_phase;
@@ -117,16 +123,16 @@ fn no_trailing() -> Trailing
     }
 }
 
-fn trailing_out(a: AdvanceAnswer) -> TrailingAnswer
+fn trailing_out(a: Result<TrailingSliceLayout<u64>, Refusal>) -> TrailingAnswer
     ensures { result ≡ trailing_out (advance_says a) }
 {
     match a {
-        AdvanceAnswer::Layout(t) => TrailingAnswer {
+        Ok(t) => TrailingAnswer {
             refusal: 0,
             layout: trailing_of(t),
         },
-        AdvanceAnswer::Refused(refusal) => TrailingAnswer {
-            refusal,
+        Err(refusal) => TrailingAnswer {
+            refusal: refusal.number(),
             layout: no_trailing(),
         },
     }
@@ -178,11 +184,14 @@ pub extern "C" fn lukaripe_rounding_new(align: u64, phase: u64) -> Number
     ensures { result ≡ number_out (new_for 64 align phase) }
 {
     match RoundingAlignAndPhase::new(align, phase) {
-        NewAnswer::Word(word) => Number {
+        Ok(word) => Number {
             refusal: 0,
             value: word.0,
         },
-        NewAnswer::Refused(refusal) => Number { refusal, value: 0 },
+        Err(refusal) => Number {
+            refusal: refusal.number(),
+            value: 0,
+        },
     }
 }
 
@@ -192,13 +201,13 @@ pub extern "C" fn lukaripe_rounding_components(word: u64) -> Components
     ensures { result ≡ components_out (components_for 64 word) }
 {
     match RoundingAlignAndPhase(word).components() {
-        ComponentsAnswer::Components { align, phase } => Components {
+        Ok(rounding::Components { align, phase }) => Components {
             refusal: 0,
             align,
             phase,
         },
-        ComponentsAnswer::Refused(refusal) => Components {
-            refusal,
+        Err(refusal) => Components {
+            refusal: refusal.number(),
             align: 0,
             phase: 0,
         },
@@ -243,13 +252,13 @@ pub extern "C" fn lukaripe_size_for_elems(layout: Trailing, elems: u64) -> Numbe
     ensures { result ≡ size_out (size_given 64 (trailing_in layout) elems) }
 {
     match trailing_in(layout).size_for_elems(elems) {
-        SizeAnswer::Size(value) => Number { refusal: 0, value },
-        SizeAnswer::NoSize { greatest } => Number {
-            refusal: refusal::NO_SIZE,
+        Ok(value) => Number { refusal: 0, value },
+        Err(SizeRefusal::NoSize { greatest }) => Number {
+            refusal: Refusal::NoSize.number(),
             value: greatest,
         },
-        SizeAnswer::Refused(number) => Number {
-            refusal: number,
+        Err(SizeRefusal::Refused(refusal)) => Number {
+            refusal: refusal.number(),
             value: 0,
         },
     }

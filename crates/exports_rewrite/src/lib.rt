@@ -8,20 +8,20 @@ ghost use Rattle.rewrite.specs.View.{rewrite_says};
 ghost use Rattle.exports_short.specs.Shorts.{moved_out};
 
 use exports_short::MovedOut;
-use rewrite::RewriteAnswer;
+use util::RefusedAt;
 
 // A rewriting as it crosses to C.
-pub fn rewritten_out(a: RewriteAnswer) -> MovedOut
+pub fn rewritten_out(a: Result<u64, RefusedAt<u64>>) -> MovedOut
     ensures { result ≡ moved_out (rewrite_says a) }
 {
     match a {
-        RewriteAnswer::Written(written) => MovedOut {
+        Ok(written) => MovedOut {
             refusal: 0,
             place: 0,
             written,
         },
-        RewriteAnswer::Refused { number, place } => MovedOut {
-            refusal: number,
+        Err(RefusedAt { refusal, place }) => MovedOut {
+            refusal: refusal.number(),
             place,
             written: 0,
         },

@@ -9,7 +9,8 @@ ghost use Rattle.exports_numbers.specs.Numbers.{trailing_in};
 ghost use Rattle.exports_share.specs.Shares.{share_out};
 
 use exports_numbers::Trailing;
-use share::ShareAnswer;
+use share::Share;
+use util::RefusedAt;
 
 // Total padding over total size and the mean size as fractions in lowest terms, the greatest padding and its first index; or the
 // refusal and where.
@@ -27,11 +28,11 @@ pub struct PaddingOut {
 }
 
 // The padding over counts as it crosses to C.
-fn share_out(a: ShareAnswer) -> PaddingOut
+fn share_out(a: Result<Share<u64>, RefusedAt<u64>>) -> PaddingOut
     ensures { result ≡ share_out (share_says a) }
 {
     match a {
-        ShareAnswer::Share(share) => {
+        Ok(share) => {
             let padding = share.padding;
             let mean = share.mean;
             PaddingOut {
@@ -45,8 +46,8 @@ fn share_out(a: ShareAnswer) -> PaddingOut
                 index: share.index,
             }
         }
-        ShareAnswer::Refused { number, place } => PaddingOut {
-            refusal: number,
+        Err(RefusedAt { refusal, place }) => PaddingOut {
+            refusal: refusal.number(),
             place,
             padding_numerator: 0,
             padding_denominator: 0,

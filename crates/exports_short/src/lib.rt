@@ -9,8 +9,8 @@ ghost use Rattle.moves.specs.View.{move_says};
 ghost use Rattle.exports_short.specs.Shorts.{moved_out};
 
 use exports_layouts::{Layout, LayoutOut};
-use moves::MoveAnswer;
-use record::{EncodeAnswer, Words};
+use record::Words;
+use util::RefusedAt;
 
 // The number of bytes that a move wrote, or its refusal and where.
 #[repr(C)]
@@ -22,17 +22,17 @@ pub struct MovedOut {
 }
 
 // A move as it crosses to C.
-pub fn moved_out(a: MoveAnswer) -> MovedOut
+pub fn moved_out(a: Result<u64, RefusedAt<u64>>) -> MovedOut
     ensures { result ≡ moved_out (move_says a) }
 {
     match a {
-        MoveAnswer::Written(written) => MovedOut {
+        Ok(written) => MovedOut {
             refusal: 0,
             place: 0,
             written,
         },
-        MoveAnswer::Refused { number, place } => MovedOut {
-            refusal: number,
+        Err(RefusedAt { refusal, place }) => MovedOut {
+            refusal: refusal.number(),
             place,
             written: 0,
         },
@@ -62,7 +62,7 @@ pub extern "C" fn lukaripe_encode_short(layout: Layout, out: &mut [u8]) -> u64
         word: layout.word,
     };
     match short::encode_short_words(words, out) {
-        EncodeAnswer::Encoded => 0,
-        EncodeAnswer::Refused(number) => number,
+        Ok(()) => 0,
+        Err(refusal) => refusal.number(),
     }
 }

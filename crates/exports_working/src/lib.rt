@@ -11,7 +11,7 @@ ghost use Rattle.exports_layouts.specs.Layouts.{words_given, layout_out};
 ghost use Rattle.exports_working.specs.Working.{worked_out, working_for};
 
 use exports_layouts::{Layout, LayoutOut};
-use layout::{Check, LayoutAnswer};
+use layout::DstLayout;
 use working::Addition;
 
 // What an addition gives: the refusal, or 0, and the words of the working layout after it.
@@ -22,17 +22,17 @@ pub struct Worked {
 }
 
 // An addition as it crosses: on a refusal the words are those that were lent.
-pub fn worked_out(lent: Layout, addition: Addition) -> Worked
+pub fn worked_out(lent: Layout, addition: Addition<u64>) -> Worked
     ensures { result ≡ worked_out (add_says addition.answer addition.layout) lent }
 {
     let answer = addition.answer;
     match answer {
-        Check::Accepted => Worked {
+        Ok(()) => Worked {
             refusal: 0,
             layout: exports_layouts::words_out(record::words_from_layout(addition.layout)),
         },
-        Check::Refused(refusal) => Worked {
-            refusal,
+        Err(refusal) => Worked {
+            refusal: refusal.number(),
             layout: lent,
         },
     }
@@ -43,17 +43,15 @@ pub fn add_words(lent: Layout, field: Layout, repr_packed: u64) -> Worked
     ensures { result ≡ worked_out (working_for 64 repr_packed (words_given lent) (words_for 64 (words_given field))) lent }
 {
     match exports_layouts::layout_in(lent) {
-        LayoutAnswer::Layout(own) => match exports_layouts::layout_in(field) {
-            LayoutAnswer::Layout(member) => {
-                worked_out(lent, working::with_member(own, member, repr_packed))
-            }
-            LayoutAnswer::Refused(refusal) => Worked {
-                refusal,
+        Ok(own) => match exports_layouts::layout_in(field) {
+            Ok(member) => { worked_out(lent, working::with_member(own, member, repr_packed)) }
+            Err(refusal) => Worked {
+                refusal: refusal.number(),
                 layout: lent,
             },
         },
-        LayoutAnswer::Refused(refusal) => Worked {
-            refusal,
+        Err(refusal) => Worked {
+            refusal: refusal.number(),
             layout: lent,
         },
     }

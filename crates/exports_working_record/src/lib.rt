@@ -8,18 +8,17 @@ ghost use Rattle.exports_working.specs.Working.{worked_out, working_for};
 
 use exports_layouts::Layout;
 use exports_working::Worked;
-use layout::LayoutAnswer;
 
 // The addition of a member by its record, to words by value.
 pub fn add_record_words(lent: Layout, member: &[u8], repr_packed: u64) -> Worked
     ensures { result ≡ worked_out (working_for 64 repr_packed (words_given lent) (decode_for 64 member.now)) lent }
 {
     match exports_layouts::layout_in(lent) {
-        LayoutAnswer::Layout(own) => {
+        Ok(own) => {
             exports_working::worked_out(lent, working::with_record(own, member, repr_packed))
         }
-        LayoutAnswer::Refused(refusal) => Worked {
-            refusal,
+        Err(refusal) => Worked {
+            refusal: refusal.number(),
             layout: lent,
         },
     }

@@ -11,11 +11,12 @@ ghost use Rattle.trailing.specs.View.{trailing_of};
 ghost use Rattle.layout_defs.specs.Layout.{trailing};
 ghost use Rattle.layout_defs.specs.Extend.{member_align, extended, bad_packing, above_greatest, round_up_for};
 ghost use Rattle.layout_defs.specs.Extend.{place_causes, step_causes, extend_causes, onto_for, extend_for, Extended, IsTrailing};
+ghost use Rattle.util.specs.View.{number_of};
 ghost use Rattle.layout.specs.View.{info_of, layout_of, sized_of, layout_says};
 
-use layout::{Check, DstLayout, LayoutAnswer, SizeInfo, SizedLayout};
+use layout::{DstLayout, SizeInfo, SizedLayout};
 use trailing::TrailingSliceLayout;
-use util::{Answer, refusal};
+use util::Refusal;
 
 // The greatest alignment, of the layout itself and of its member, and the greatest packing, while a member is added.
 pub const CURRENT_MAX_ALIGN: u64 = 1 << 29;
@@ -45,12 +46,12 @@ fn above_max(align: u64, field_align: u64, repr_packed: u64) -> bool
 }
 
 // A member's alignment: the packing lowers it.
-fn packed_align(align: u64, repr_packed: u64) -> Answer
+fn packed_align(align: u64, repr_packed: u64) -> Result<u64, Refusal>
     requires { PowerOfTwo align × ((bad_packing 64 repr_packed).means → ⊥) }
     ensures { number_says result ≡ answered (member_align align repr_packed) }
 {
     if repr_packed == 0 {
-        return Answer::Number(align);
+        return Ok(align);
     }
     util::min(align, repr_packed)
 }
@@ -66,60 +67,70 @@ fn padding_to_power(len: u64, align: u64) -> u64
 }
 
 // `round_up` to such a power of two.
-fn round_up_to_power(len: u64, align: u64) -> Answer
+fn round_up_to_power(len: u64, align: u64) -> Result<u64, Refusal>
     requires { PowerOfTwo align }
     ensures { number_says result ≡ round_up_for 64 len align }
 {
     let padding = padding_to_power(len, align);
     if u64::MAX - padding < len {
-        Answer::Refused(refusal::ROUNDING_PASSES_MAX)
+        Err(Refusal::RoundingPassesMax)
     } else {
-        Answer::Number(len + padding)
+        Ok(len + padding)
     }
 }
 
 // The step where the member's alignment is field_align, which is its own lowered by the packing.
-fn extend_aligned(own: SizedLayout, field: DstLayout, field_align: u64) -> LayoutAnswer
+fn extend_aligned(
+    own: SizedLayout,
+    field: DstLayout<u64>,
+    field_align: u64,
+) -> Result<DstLayout<u64>, Refusal>
     requires { PowerOfTwo field_align }
     ensures { (packing : ℕ) → field_align ≡ member_align field.align packing → layout_says result ≡ unless
         (place_causes 64 (sized_of own) (layout_of field) packing) (extended (sized_of own) (layout_of field) packing) }
 {
-    match round_up_to_power(own.size, field_align) {
-        Answer::Number(place) => placing::extend_at(own, field, field_align, place),
-        Answer::Refused(number) => LayoutAnswer::Refused(number),
-    }
+    let place = round_up_to_power(own.size, field_align)?;
+    placing::extend_at(own, field, field_align, place)
 }
 
 // The step of a member that is accepted.
-fn extend_checked(own: SizedLayout, field: DstLayout, repr_packed: u64) -> LayoutAnswer
+fn extend_checked(
+    own: SizedLayout,
+    field: DstLayout<u64>,
+    repr_packed: u64,
+) -> Result<DstLayout<u64>, Refusal>
     requires { PowerOfTwo field.align }
     ensures { layout_says result ≡ unless (step_causes 64 (sized_of own) (layout_of field) repr_packed)
         (extended (sized_of own) (layout_of field) repr_packed) }
 {
     if bad_packing(repr_packed) {
-        return LayoutAnswer::Refused(refusal::PACKING_NOT_POWER_OF_TWO);
+        return Err(Refusal::PackingNotPowerOfTwo);
     }
     if above_max(own.align, field.align, repr_packed) {
-        return LayoutAnswer::Refused(refusal::ALIGN_ABOVE_MAX);
+        return Err(Refusal::AlignAboveMax);
     }
-    match packed_align(field.align, repr_packed) {
-        Answer::Number(field_align) => extend_aligned(own, field, field_align),
-        Answer::Refused(number) => LayoutAnswer::Refused(number),
-    }
+    let field_align = packed_align(field.align, repr_packed)?;
+    extend_aligned(own, field, field_align)
 }
 
 // `extend` of a layout with a size that is accepted: nothing is asked of its alignment, which a composition tests once.
-pub fn extend_onto(own: SizedLayout, field: DstLayout, repr_packed: u64) -> LayoutAnswer
+pub fn extend_onto(
+    own: SizedLayout,
+    field: DstLayout<u64>,
+    repr_packed: u64,
+) -> Result<DstLayout<u64>, Refusal>
     ensures { layout_says result ≡ onto_for 64 (sized_of own) (layout_of field) repr_packed }
 {
-    match field.check() {
-        Check::Accepted => extend_checked(own, field, repr_packed),
-        Check::Refused(number) => LayoutAnswer::Refused(number),
-    }
+    field.check()?;
+    extend_checked(own, field, repr_packed)
 }
 
 // `extend` of a layout with a size.
-pub fn extend_sized(own: SizedLayout, field: DstLayout, repr_packed: u64) -> LayoutAnswer
+pub fn extend_sized(
+    own: SizedLayout,
+    field: DstLayout<u64>,
+    repr_packed: u64,
+) -> Result<DstLayout<u64>, Refusal>
     ensures answer { layout_says result ≡ extend_for 64 (sized_of own) (layout_of field) repr_packed }
     ensures meaning { Meets (extend_causes 64 (sized_of own) (layout_of field) repr_packed)
         (Extended (sized_of own) (layout_of field) repr_packed) (layout_says result) }
@@ -127,42 +138,42 @@ pub fn extend_sized(own: SizedLayout, field: DstLayout, repr_packed: u64) -> Lay
     if util::is_power_of_two(own.align) {
         extend_onto(own, field, repr_packed)
     } else {
-        LayoutAnswer::Refused(refusal::ALIGN_NOT_POWER_OF_TWO)
+        Err(Refusal::AlignNotPowerOfTwo)
     }
 }
 
 // The refusal of a member after a trailing part: 7, where none comes before it.
-fn after_trailing(own: DstLayout, field: DstLayout, repr_packed: u64) -> u64
+fn after_trailing(own: DstLayout<u64>, field: DstLayout<u64>, repr_packed: u64) -> Refusal
     requires { IsTrailing (info_of own.size_info) }
-    ensures { refused result ≡ extend_for 64 (layout_of own) (layout_of field) repr_packed }
+    ensures { refused (number_of result) ≡ extend_for 64 (layout_of own) (layout_of field) repr_packed }
 {
     match own.check() {
-        Check::Accepted => match field.check() {
-            Check::Accepted => {
+        Ok(()) => match field.check() {
+            Ok(()) => {
                 if bad_packing(repr_packed) {
-                    return refusal::PACKING_NOT_POWER_OF_TWO;
+                    return Refusal::PackingNotPowerOfTwo;
                 }
                 if above_max(own.align, field.align, repr_packed) {
-                    return refusal::ALIGN_ABOVE_MAX;
+                    return Refusal::AlignAboveMax;
                 }
-                refusal::MEMBER_AFTER_TRAILING
+                Refusal::MemberAfterTrailing
             }
-            Check::Refused(number) => number,
+            Err(refusal) => refusal,
         },
-        Check::Refused(number) => number,
+        Err(refusal) => refusal,
     }
 }
 
 // `extend` of a trailing layout, which is always refused: the number.
 pub fn extend_trailing(
     align: u64,
-    tail: TrailingSliceLayout,
+    tail: TrailingSliceLayout<u64>,
     unpadded: bool,
     align_modifier: bool,
-    field: DstLayout,
+    field: DstLayout<u64>,
     repr_packed: u64,
-) -> u64
-    ensures { refused result ≡ extend_for 64
+) -> Refusal
+    ensures { refused (number_of result) ≡ extend_for 64
         (record { align = align; info = trailing (trailing_of tail); mark = unpadded; modifier = align_modifier })
         (layout_of field) repr_packed }
 {
@@ -176,7 +187,11 @@ pub fn extend_trailing(
 }
 
 // The layout with one member more, which stands at the least place that aligns it; no padding follows it.
-pub fn extend(own: DstLayout, field: DstLayout, repr_packed: u64) -> LayoutAnswer
+pub fn extend(
+    own: DstLayout<u64>,
+    field: DstLayout<u64>,
+    repr_packed: u64,
+) -> Result<DstLayout<u64>, Refusal>
     ensures answer { layout_says result ≡ extend_for 64 (layout_of own) (layout_of field) repr_packed }
     ensures meaning { Meets (extend_causes 64 (layout_of own) (layout_of field) repr_packed)
         (Extended (layout_of own) (layout_of field) repr_packed) (layout_says result) }
@@ -193,6 +208,6 @@ pub fn extend(own: DstLayout, field: DstLayout, repr_packed: u64) -> LayoutAnswe
             field,
             repr_packed,
         ),
-        SizeInfo::SliceDst(_) => LayoutAnswer::Refused(after_trailing(own, field, repr_packed)),
+        SizeInfo::SliceDst(_) => Err(after_trailing(own, field, repr_packed)),
     }
 }

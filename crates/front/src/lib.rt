@@ -7,53 +7,54 @@ ghost use Rattle.layout.specs.View.{layout_of};
 ghost use Rattle.front_defs.specs.Front.{serving_for, Serves, front_for, FrontMeans};
 ghost use Rattle.front.specs.View.{serving_says};
 
-use cast::{CastAnswer, CastType};
+use cast::{CastType, Granted};
 use layout::DstLayout;
+use util::Refusal;
 
 // Which of two buffers serves, and what its cast granted; beside it the number of each cast that was refused before.
 #[derive(Clone, Copy)]
-pub enum Serving {
+pub enum Serving<N> {
     Map {
-        elems: u64,
-        split_at: u64,
+        elems: N,
+        split_at: N,
     },
     Spare {
-        map_refusal: u64,
-        elems: u64,
-        split_at: u64,
+        map_refusal: Refusal,
+        elems: N,
+        split_at: N,
     },
     Neither {
-        map_refusal: u64,
-        spare_refusal: u64,
+        map_refusal: Refusal,
+        spare_refusal: Refusal,
     },
 }
 
 // Which of a map and a spare serves. The spare is not looked at where the map does.
 pub fn which_serves(
-    layout: DstLayout,
+    layout: DstLayout<u64>,
     map_addr: u64,
     map_len: u64,
     spare_addr: u64,
     spare_len: u64,
-) -> Serving
+) -> Serving<u64>
     ensures answer { serving_says result ≡ serving_for 64 (layout_of layout) map_addr map_len spare_addr spare_len }
     ensures meaning { Serves 64 (layout_of layout) map_addr map_len spare_addr spare_len (serving_says result) }
 {
     match cast::validate_cast_and_convert_metadata(layout, map_addr, map_len, CastType::Prefix) {
-        CastAnswer::Granted { elems, split_at } => Serving::Map { elems, split_at },
-        CastAnswer::Refused(map_refusal) => {
+        Ok(Granted { elems, split_at }) => Serving::Map { elems, split_at },
+        Err(map_refusal) => {
             match cast::validate_cast_and_convert_metadata(
                 layout,
                 spare_addr,
                 spare_len,
                 CastType::Prefix,
             ) {
-                CastAnswer::Granted { elems, split_at } => Serving::Spare {
+                Ok(Granted { elems, split_at }) => Serving::Spare {
                     map_refusal,
                     elems,
                     split_at,
                 },
-                CastAnswer::Refused(spare_refusal) => Serving::Neither {
+                Err(spare_refusal) => Serving::Neither {
                     map_refusal,
                     spare_refusal,
                 },
@@ -65,7 +66,7 @@ pub fn which_serves(
 // The front part of whichever serves, as long as its granted split; an empty part of the map where neither does. The map stands
 // at map_addr, the spare at spare_addr.
 pub fn front<'a>(
-    layout: DstLayout,
+    layout: DstLayout<u64>,
     map_addr: u64,
     map: &'a [u8],
     spare_addr: u64,

@@ -3,54 +3,36 @@
 // number: its cast is then refused, by 11 where nothing comes before it, and its length is never cut off.
 #![tactic(auto)]
 
+ghost use Rattle.front.specs.View.{serving_says};
+ghost use Rattle.layout.specs.View.{layout_of};
 ghost use Rattle.std.specs.Prelude.{◌≡◌, length};
-ghost use Rattle.layouts32.specs.View.{layout_of32};
 ghost use Rattle.front_defs.specs.Front.{serving_for, Serves, front_for, FrontMeans};
-ghost use Rattle.front32.specs.View.{serving_says32};
 
-use cast::CastType;
-use casts32::CastAnswer32;
-use layouts32::DstLayout32;
-
-// Which of two buffers serves, and what its cast granted; beside it the number of each cast that was refused before.
-#[derive(Clone, Copy)]
-pub enum Serving32 {
-    Map {
-        elems: u32,
-        split_at: u32,
-    },
-    Spare {
-        map_refusal: u64,
-        elems: u32,
-        split_at: u32,
-    },
-    Neither {
-        map_refusal: u64,
-        spare_refusal: u64,
-    },
-}
+use cast::{CastType, Granted};
+use front::Serving;
+use layout::DstLayout;
 
 // Which of a map and a spare serves. The spare is not looked at where the map does.
 pub fn which_serves(
-    layout: DstLayout32,
+    layout: DstLayout<u32>,
     map_addr: u32,
     map_len: u64,
     spare_addr: u32,
     spare_len: u64,
-) -> Serving32
-    ensures answer { serving_says32 result ≡ serving_for 32 (layout_of32 layout) map_addr map_len spare_addr spare_len }
-    ensures meaning { Serves 32 (layout_of32 layout) map_addr map_len spare_addr spare_len (serving_says32 result) }
+) -> Serving<u32>
+    ensures answer { serving_says result ≡ serving_for 32 (layout_of layout) map_addr map_len spare_addr spare_len }
+    ensures meaning { Serves 32 (layout_of layout) map_addr map_len spare_addr spare_len (serving_says result) }
 {
     match casts32::cast_bytes(layout, map_addr, map_len, CastType::Prefix) {
-        CastAnswer32::Granted { elems, split_at } => Serving32::Map { elems, split_at },
-        CastAnswer32::Refused(map_refusal) => {
+        Ok(Granted { elems, split_at }) => Serving::Map { elems, split_at },
+        Err(map_refusal) => {
             match casts32::cast_bytes(layout, spare_addr, spare_len, CastType::Prefix) {
-                CastAnswer32::Granted { elems, split_at } => Serving32::Spare {
+                Ok(Granted { elems, split_at }) => Serving::Spare {
                     map_refusal,
                     elems,
                     split_at,
                 },
-                CastAnswer32::Refused(spare_refusal) => Serving32::Neither {
+                Err(spare_refusal) => Serving::Neither {
                     map_refusal,
                     spare_refusal,
                 },
@@ -62,14 +44,14 @@ pub fn which_serves(
 // The front part of whichever serves, as long as its granted split; an empty part of the map where neither does. The map stands
 // at map_addr, the spare at spare_addr.
 pub fn front<'a>(
-    layout: DstLayout32,
+    layout: DstLayout<u32>,
     map_addr: u32,
     map: &'a [u8],
     spare_addr: u32,
     spare: &'a [u8],
 ) -> &'a [u8]
-    ensures answer { result.now ≡ front_for 32 (layout_of32 layout) map_addr map.now spare_addr spare.now }
-    ensures meaning { FrontMeans 32 (layout_of32 layout) map_addr map.now spare_addr spare.now result.now }
+    ensures answer { result.now ≡ front_for 32 (layout_of layout) map_addr map.now spare_addr spare.now }
+    ensures meaning { FrontMeans 32 (layout_of layout) map_addr map.now spare_addr spare.now result.now }
 {
     match which_serves(
         layout,
@@ -78,13 +60,13 @@ pub fn front<'a>(
         spare_addr,
         spare.len() as u64,
     ) {
-        Serving32::Map { elems: _, split_at } => &map[..split_at as usize],
-        Serving32::Spare {
+        Serving::Map { elems: _, split_at } => &map[..split_at as usize],
+        Serving::Spare {
             map_refusal: _,
             elems: _,
             split_at,
         } => &spare[..split_at as usize],
-        Serving32::Neither {
+        Serving::Neither {
             map_refusal: _,
             spare_refusal: _,
         } => &map[..0],

@@ -17,23 +17,16 @@ ghost use Rattle.full_defs.specs.Full.{lowest_bit, seen_phase, sizes_agree, agre
 ghost use Rattle.full_defs.specs.Form.{IsNormal, form, form_of, form_causes, form_for};
 ghost use Rattle.full.specs.View.{form_says};
 
-use rounding::{ComponentsAnswer, RoundingAlignAndPhase};
-use trailing::{SizeAnswer, TrailingSliceLayout};
-use util::{Decision, refusal};
+use rounding::{Components, RoundingAlignAndPhase};
+use trailing::TrailingSliceLayout;
+use util::Refusal;
 
 // What of a trailing layout its sizes show. It has neither an offset nor an alignment.
 #[derive(Clone, Copy)]
-pub struct NormalForm {
-    pub size_base: u64,
-    pub size_rounding_align_and_phase: RoundingAlignAndPhase,
-    pub elem_size: u64,
-}
-
-// A normal form, or the number of the refusal.
-#[derive(Clone, Copy)]
-pub enum FormAnswer {
-    Form(NormalForm),
-    Refused(u64),
+pub struct NormalForm<N> {
+    pub size_base: N,
+    pub size_rounding_align_and_phase: RoundingAlignAndPhase<N>,
+    pub elem_size: N,
 }
 
 // The lowest one bit.
@@ -108,21 +101,24 @@ fn same_sum(base: u64, rounded: u64, base2: u64, rounded2: u64) -> bool
 
 // A function whose name ends in _at takes the parts of the rounding words besides the layouts.
 fn sizes_agree_at(
-    first: TrailingSliceLayout,
-    align: u64,
-    phase: u64,
-    other: TrailingSliceLayout,
-    align2: u64,
-    phase2: u64,
+    first: TrailingSliceLayout<u64>,
+    parts: Components<u64>,
+    other: TrailingSliceLayout<u64>,
+    other_parts: Components<u64>,
 ) -> bool
-    requires { IsWord first.size_rounding_align_and_phase.0 align phase × IsWord other.size_rounding_align_and_phase.0
-        align2 phase2 }
+    requires { IsWord first.size_rounding_align_and_phase.0 parts.align parts.phase × IsWord other.size_rounding_align_and_phase.0
+        other_parts.align other_parts.phase }
     ensures { result ≡ sizes_agree 64 (trailing_of first) (trailing_of other) }
 {
     let elem = first.elem_size;
     if elem != other.elem_size {
         return false;
     }
+    let Components { align, phase } = parts;
+    let Components {
+        align: align2,
+        phase: phase2,
+    } = other_parts;
     let rounded = rounded_phase(align, phase);
     let rounded2 = rounded_phase(align2, phase2);
     if same_sum(first.size_base, rounded, other.size_base, rounded2) {
@@ -133,35 +129,31 @@ fn sizes_agree_at(
 }
 
 // Whether the two layouts have the same size at every count, as unlimited whole numbers.
-pub fn sizes_agree(first: TrailingSliceLayout, other: TrailingSliceLayout) -> Decision
+pub fn sizes_agree(
+    first: TrailingSliceLayout<u64>,
+    other: TrailingSliceLayout<u64>,
+) -> Result<bool, Refusal>
     ensures answer { decision_says result ≡ agree_for 64 (trailing_of first) (trailing_of other) }
     ensures meaning { Meets (same_causes (trailing_of first) (trailing_of other)) (FoundEqual 64 (trailing_of first) (trailing_of other))
         (decision_says result) }
 {
     let word = first.size_rounding_align_and_phase;
     let other_word = other.size_rounding_align_and_phase;
-    match word.components() {
-        ComponentsAnswer::Components { align, phase } => match other_word.components() {
-            ComponentsAnswer::Components {
-                align: align2,
-                phase: phase2,
-            } => Decision::Is(sizes_agree_at(first, align, phase, other, align2, phase2)),
-            ComponentsAnswer::Refused(number) => Decision::Refused(number),
-        },
-        ComponentsAnswer::Refused(number) => Decision::Refused(number),
-    }
+    let parts = word.components()?;
+    let other_parts = other_word.components()?;
+    Ok(sizes_agree_at(first, parts, other, other_parts))
 }
 
 // The form whose phase is 0: its base is the size at 0, which must exist.
-fn form_at_zero(layout: TrailingSliceLayout, align: u64) -> FormAnswer
+fn form_at_zero(layout: TrailingSliceLayout<u64>, align: u64) -> Result<NormalForm<u64>, Refusal>
     requires { (0 < (trailing_of layout).word)
         × (form_of 64 (trailing_of layout) ≡ form (size_at 64 (trailing_of layout) 0) align (trailing_of layout).elem) }
     ensures { form_says result ≡ form_for 64 (trailing_of layout) }
 {
-    let SizeAnswer::Size(size) = layout.size_for_elems(0) else {
-        return FormAnswer::Refused(refusal::FORM_BASE_PASSES_MAX);
+    let Ok(size) = layout.size_for_elems(0) else {
+        return Err(Refusal::FormBasePassesMax);
     };
-    FormAnswer::Form(NormalForm {
+    Ok(NormalForm {
         size_base: size,
         size_rounding_align_and_phase: RoundingAlignAndPhase(align),
         elem_size: layout.elem_size,
@@ -178,10 +170,14 @@ fn least_word(elem: u64, align: u64, phase: u64) -> u64
     align + (round_up(phase, unit) - (unit - 1))
 }
 
-fn normal_form_at(layout: TrailingSliceLayout, align: u64, phase: u64) -> FormAnswer
-    requires { IsWord layout.size_rounding_align_and_phase.0 align phase }
+fn normal_form_at(
+    layout: TrailingSliceLayout<u64>,
+    parts: Components<u64>,
+) -> Result<NormalForm<u64>, Refusal>
+    requires { IsWord layout.size_rounding_align_and_phase.0 parts.align parts.phase }
     ensures { form_says result ≡ form_for 64 (trailing_of layout) }
 {
+    let Components { align, phase } = parts;
     let elem = layout.elem_size;
     if elem & (align - 1) == 0 {
         return form_at_zero(layout, 1);
@@ -189,7 +185,7 @@ fn normal_form_at(layout: TrailingSliceLayout, align: u64, phase: u64) -> FormAn
     if seen_phase(elem, align, phase) == 0 {
         return form_at_zero(layout, align);
     }
-    FormAnswer::Form(NormalForm {
+    Ok(NormalForm {
         size_base: layout.size_base,
         size_rounding_align_and_phase: RoundingAlignAndPhase(least_word(elem, align, phase)),
         elem_size: elem,
@@ -198,13 +194,11 @@ fn normal_form_at(layout: TrailingSliceLayout, align: u64, phase: u64) -> FormAn
 
 // The normal form: of all bases, alignments and phases that give the layout's sizes, the one with the least alignment, then
 // the least phase.
-pub fn normal_form(layout: TrailingSliceLayout) -> FormAnswer
+pub fn normal_form(layout: TrailingSliceLayout<u64>) -> Result<NormalForm<u64>, Refusal>
     ensures answer { form_says result ≡ form_for 64 (trailing_of layout) }
     ensures meaning { Meets (form_causes 64 (trailing_of layout)) (IsNormal 64 (trailing_of layout)) (form_says result) }
 {
     let word = layout.size_rounding_align_and_phase;
-    match word.components() {
-        ComponentsAnswer::Components { align, phase } => normal_form_at(layout, align, phase),
-        ComponentsAnswer::Refused(number) => FormAnswer::Refused(number),
-    }
+    let parts = word.components()?;
+    normal_form_at(layout, parts)
 }

@@ -1,25 +1,27 @@
 -- What the answers of this crate are, over numbers: what was read, or document 02's number and the place. Assumes nothing.
+use Rattle.std.specs.Prelude.{ℕ, Result}
+use Rattle.util.specs.View.{placed_says}
+use Rattle.util.specs.declared.refusal.RefusedAt.{RefusedAt}
+use Rattle.heads.specs.declared.PartHead as Declared
+use Rattle.heads.specs.declared.PartHead.TheVariants as HeadIs
 use Rattle.std.specs.Prelude.{Bool, true, false, ℕ}
 use Rattle.util_defs.specs.Placed.{Placed, reached, stopped}
 use Rattle.describe_defs.specs.Describe.{Counted, by_one, by_two}
 use Rattle.describe_defs.specs.Heads.{Head, code_head, array_head, struct_head, slice_head}
-use Rattle.heads.specs.declared.NumberAnswer.{NumberAnswer}
-use Rattle.heads.specs.declared.NumberAnswer.TheVariants as NumberIs
-use Rattle.heads.specs.declared.HeadAnswer.{HeadAnswer}
-use Rattle.heads.specs.declared.HeadAnswer.TheVariants as HeadIs
 
 -- whether a struct's member count has two bytes
 abbrev pub counted : Bool → Counted
 counted false = by_one
 counted true = by_two
 
-abbrev pub number_read : NumberAnswer → Placed ℕ
-number_read (NumberIs.Number n) = reached n
-number_read (NumberIs.Refused k place) = stopped k place
+abbrev pub number_read : Result ℕ (RefusedAt ℕ) → Placed ℕ
+number_read = placed_says (λ n. n)
 
-abbrev pub head_says : HeadAnswer → Placed Head
-head_says (HeadIs.Scalar b) = reached (code_head b)
-head_says (HeadIs.Array n) = reached (array_head n)
-head_says (HeadIs.Struct align packing n first) = reached (struct_head align packing n first)
-head_says HeadIs.Slice = reached slice_head
-head_says (HeadIs.Refused k place) = stopped k place
+abbrev pub head_in : Declared.PartHead → Head
+head_in (HeadIs.Scalar b) = code_head b
+head_in (HeadIs.Array n) = array_head n
+head_in (HeadIs.Struct align packing n first) = struct_head align packing n first
+head_in HeadIs.Slice = slice_head
+
+abbrev pub head_says : Result Declared.PartHead (RefusedAt ℕ) → Placed Head
+head_says = placed_says head_in

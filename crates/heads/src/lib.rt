@@ -9,7 +9,7 @@ ghost use Rattle.describe_defs.specs.Describe.{count_bytes, struct, count_length
 ghost use Rattle.describe_defs.specs.Heads.{packed_head, aligned_head, array_head, form_head, head_at, HeadMeans};
 ghost use Rattle.heads.specs.View.{counted, number_read, head_says};
 
-use util::refusal;
+use util::{Refusal, RefusedAt};
 
 // The tags that open a part.
 pub const ARRAY_TAG: u8 = 16;
@@ -32,16 +32,9 @@ pub const COUNT_BYTES: usize = 4;
 // The bytes of a struct's count where there are two.
 const LONG_COUNT_BYTES: usize = 2;
 
-// A number that was read, or the number of the refusal and its place.
+// The head of a part, of a struct with the place of its first member.
 #[derive(Clone, Copy)]
-pub enum NumberAnswer {
-    Number(u64),
-    Refused { number: u64, place: usize },
-}
-
-// The head of a part, of a struct with the place of its first member; or the number of the refusal and its place.
-#[derive(Clone, Copy)]
-pub enum HeadAnswer {
+pub enum PartHead {
     Scalar(u64),
     Array {
         count: u64,
@@ -53,10 +46,6 @@ pub enum HeadAnswer {
         first: usize,
     },
     Slice,
-    Refused {
-        number: u64,
-        place: usize,
-    },
 }
 
 // A byte as a number.
@@ -79,85 +68,83 @@ fn load_count(s: &[u8], at: usize) -> u64
 }
 
 // The count of an array.
-fn read_count(s: &[u8], at: usize) -> NumberAnswer
+fn read_count(s: &[u8], at: usize) -> Result<u64, RefusedAt<usize>>
     ensures { number_read result ≡ count_at count_length s.now at }
 {
     if s.len() <= at {
-        return NumberAnswer::Refused {
-            number: refusal::DESCRIPTION_CUT,
+        return Err(RefusedAt {
+            refusal: Refusal::DescriptionCut,
             place: at,
-        };
+        });
     }
     if s.len() - at < COUNT_BYTES {
-        return NumberAnswer::Refused {
-            number: refusal::DESCRIPTION_CUT,
+        return Err(RefusedAt {
+            refusal: Refusal::DescriptionCut,
             place: s.len(),
-        };
+        });
     }
-    NumberAnswer::Number(load_count(s, at))
+    Ok(load_count(s, at))
 }
 
 // The member count of a struct, in one byte or in two.
-fn read_members(s: &[u8], at: usize, long: bool) -> NumberAnswer
+fn read_members(s: &[u8], at: usize, long: bool) -> Result<u64, RefusedAt<usize>>
     ensures { number_read result ≡ count_at (count_bytes (counted long)) s.now at }
 {
     if s.len() <= at {
-        return NumberAnswer::Refused {
-            number: refusal::DESCRIPTION_CUT,
+        return Err(RefusedAt {
+            refusal: Refusal::DescriptionCut,
             place: at,
-        };
+        });
     }
     let low = wide(s[at]);
     if long {
         if s.len() - at < LONG_COUNT_BYTES {
-            return NumberAnswer::Refused {
-                number: refusal::DESCRIPTION_CUT,
+            return Err(RefusedAt {
+                refusal: Refusal::DescriptionCut,
                 place: at + 1,
-            };
+            });
         }
-        return NumberAnswer::Number(low + 0x100 * wide(s[at + 1]));
+        return Ok(low + 0x100 * wide(s[at + 1]));
     }
-    NumberAnswer::Number(low)
+    Ok(low)
 }
 
 // An alignment or a packing: 0 for none, else 1 + the power.
-fn read_power(bits: u8, s: &[u8], at: usize) -> NumberAnswer
+fn read_power(bits: u8, s: &[u8], at: usize) -> Result<u64, RefusedAt<usize>>
     ensures { number_read result ≡ power_at bits s.now at }
 {
     if s.len() <= at {
-        return NumberAnswer::Refused {
-            number: refusal::DESCRIPTION_CUT,
+        return Err(RefusedAt {
+            refusal: Refusal::DescriptionCut,
             place: at,
-        };
+        });
     }
     let byte = s[at];
     if byte > GREATEST_POWER_BYTE {
-        return NumberAnswer::Refused {
-            number: refusal::TAG_OR_POWER,
+        return Err(RefusedAt {
+            refusal: Refusal::TagOrPower,
             place: at,
-        };
+        });
     }
     if byte > bits {
-        return NumberAnswer::Refused {
-            number: refusal::NUMBER_PASSES_WIDTH,
+        return Err(RefusedAt {
+            refusal: Refusal::NumberPassesWidth,
             place: at,
-        };
+        });
     }
     if byte == 0 {
-        return NumberAnswer::Number(0);
+        return Ok(0);
     }
-    NumberAnswer::Number(1 << (byte - 1))
+    Ok(1 << (byte - 1))
 }
 
 // The head of an array, whose tag is at at.
-fn array_head(s: &[u8], at: usize) -> HeadAnswer
+fn array_head(s: &[u8], at: usize) -> Result<PartHead, RefusedAt<usize>>
     requires { at < length s.now }
     ensures { head_says result ≡ go_on (count_at count_length s.now (at + 1)) (λ n. reached (array_head n)) }
 {
-    match read_count(s, at + 1) {
-        NumberAnswer::Number(count) => HeadAnswer::Array { count },
-        NumberAnswer::Refused { number, place } => HeadAnswer::Refused { number, place },
-    }
+    let count = read_count(s, at + 1)?;
+    Ok(PartHead::Array { count })
 }
 
 // The bytes of a struct's head.
@@ -168,81 +155,87 @@ fn struct_bytes(long: bool) -> usize
 }
 
 // That of a struct behind its alignment and its packing.
-fn packed_head(s: &[u8], at: usize, long: bool, align: u64, packed: u64) -> HeadAnswer
+fn packed_head(
+    s: &[u8],
+    at: usize,
+    long: bool,
+    align: u64,
+    packed: u64,
+) -> Result<PartHead, RefusedAt<usize>>
     requires { at + 2 < length s.now }
     ensures { head_says result ≡ packed_head s.now at (counted long) align packed }
 {
-    match read_members(s, at + 3, long) {
-        NumberAnswer::Number(count) => HeadAnswer::Struct {
-            align,
-            packed,
-            count,
-            first: at + struct_bytes(long),
-        },
-        NumberAnswer::Refused { number, place } => HeadAnswer::Refused { number, place },
-    }
+    let count = read_members(s, at + 3, long)?;
+    Ok(PartHead::Struct {
+        align,
+        packed,
+        count,
+        first: at + struct_bytes(long),
+    })
 }
 
 // That of a struct behind its alignment.
-fn aligned_head(bits: u8, s: &[u8], at: usize, long: bool, align: u64) -> HeadAnswer
+fn aligned_head(
+    bits: u8,
+    s: &[u8],
+    at: usize,
+    long: bool,
+    align: u64,
+) -> Result<PartHead, RefusedAt<usize>>
     requires { at + 1 < length s.now }
     ensures { head_says result ≡ aligned_head bits s.now at (counted long) align }
 {
-    match read_power(bits, s, at + 2) {
-        NumberAnswer::Number(packed) => packed_head(s, at, long, align, packed),
-        NumberAnswer::Refused { number, place } => HeadAnswer::Refused { number, place },
-    }
+    let packed = read_power(bits, s, at + 2)?;
+    packed_head(s, at, long, align, packed)
 }
 
 // That of a struct, byte by byte; long, where its member count has two bytes.
-fn struct_head(bits: u8, s: &[u8], at: usize, long: bool) -> HeadAnswer
+fn struct_head(bits: u8, s: &[u8], at: usize, long: bool) -> Result<PartHead, RefusedAt<usize>>
     requires { at < length s.now }
     ensures { head_says result ≡ form_head bits s.now at (struct (counted long)) }
 {
-    match read_power(bits, s, at + 1) {
-        NumberAnswer::Number(align) => aligned_head(bits, s, at, long, align),
-        NumberAnswer::Refused { number, place } => HeadAnswer::Refused { number, place },
-    }
+    let align = read_power(bits, s, at + 1)?;
+    aligned_head(bits, s, at, long, align)
 }
 
 // The head of a part at at, with depth parts more that may be open.
-pub fn head(bits: u8, s: &[u8], at: usize, depth: usize) -> HeadAnswer
+pub fn head(bits: u8, s: &[u8], at: usize, depth: usize) -> Result<PartHead, RefusedAt<usize>>
     ensures answer { head_says result ≡ head_at bits depth s.now at }
     ensures meaning { HeadMeans bits depth s.now at (head_says result) }
 {
     if s.len() <= at {
-        return HeadAnswer::Refused {
-            number: refusal::DESCRIPTION_CUT,
+        return Err(RefusedAt {
+            refusal: Refusal::DescriptionCut,
             place: at,
-        };
+        });
     }
     let tag = s[at];
     if tag <= GREATEST_CODE {
-        return HeadAnswer::Scalar(wide(tag));
+        return Ok(PartHead::Scalar(wide(tag)));
     }
     if tag < ARRAY_TAG {
-        return HeadAnswer::Refused {
-            number: refusal::TAG_OR_POWER,
+        return Err(RefusedAt {
+            refusal: Refusal::TagOrPower,
             place: at,
-        };
+        });
     }
     if tag > LONG_STRUCT_TAG {
-        return HeadAnswer::Refused {
-            number: refusal::TAG_OR_POWER,
+        return Err(RefusedAt {
+            refusal: Refusal::TagOrPower,
             place: at,
-        };
+        });
     }
     if depth == 0 {
-        return HeadAnswer::Refused {
-            number: refusal::NESTING_TOO_DEEP,
+        return Err(RefusedAt {
+            refusal: Refusal::NestingTooDeep,
             place: at,
-        };
+        });
     }
     if tag == ARRAY_TAG {
         return array_head(s, at);
     }
     if tag == SLICE_TAG {
-        return HeadAnswer::Slice;
+        return Ok(PartHead::Slice);
     }
     struct_head(bits, s, at, tag == LONG_STRUCT_TAG)
 }

@@ -1,4 +1,6 @@
 -- Numbers that must not pass M: the table of 8 alone. Assumes nothing.
+use Rattle.util.specs.declared.refusal.Refusal.{Refusal}
+use Rattle.std.specs.Prelude.{Err, Ok, Result}
 use mathlib.Core.Path.{◌≡◌, sym, ap, ◌∙◌}
 use mathlib.Core.Bool.{Bool, cond}
 use mathlib.Core.List.{[], ◌∷◌}
@@ -9,9 +11,7 @@ use Rattle.util_defs.specs.Width.{M}
 use Rattle.util_defs.specs.Power.{PowerOfTwo}
 use Rattle.util_defs.specs.Round.{up}
 use Rattle.util_defs.specs.Refusal.{answered, refused, unless, Tells, holds, fails, Meets}
-use Rattle.util.specs.View.{number_says}
-use Rattle.util.specs.declared.Answer.{Answer}
-use Rattle.util.specs.declared.Answer.TheVariants as Answer
+use Rattle.util.specs.View.{number_of, number_says}
 use Rattle.util_defs.specs.Helpers.{align_causes}
 use Rattle.util_defs.proofs.Refusals.{tells_lt, meets, clear}
 use Rattle.util_defs.proofs.Powers.{positive}
@@ -38,13 +38,13 @@ refused_means : {T : Type 0} (m v k : ℕ) {b : Bool} (x : T) → Tells (m < v) 
 refused_means m v k x (holds p) e = (cc, p)
 refused_means m v k x (fails n) e = absurd (apart e)
 
-pub up_told : {n : ℕ} (w v : ℕ) (r : Answer) → number_says r ≡ unless (rounding_passes w v ∷ []) v → r ≡ Answer.Number n → (n ≡ v) × (v ≤ M w)
+pub up_told : {n : ℕ} (w v : ℕ) (r : Result ℕ Refusal) → number_says r ≡ unless (rounding_passes w v ∷ []) v → r ≡ Ok n → (n ≡ v) × (v ≤ M w)
 unfolding unless
 up_told w v r e g = kept (M w) v (tells_lt (M w) v) (sym (ap number_says g) ∙ e)
 
-pub up_refused : {k : ℕ} (w v : ℕ) (r : Answer) → number_says r ≡ unless (rounding_passes w v ∷ []) v → r ≡ Answer.Refused k → (k ≡ 8) × (M w < v)
+pub up_refused : {k : Refusal} (w v : ℕ) (r : Result ℕ Refusal) → number_says r ≡ unless (rounding_passes w v ∷ []) v → r ≡ Err k → (number_of k ≡ 8) × (M w < v)
 unfolding unless
-up_refused {k} w v r e g = refused_means (M w) v k v (tells_lt (M w) v) (sym (ap number_says g) ∙ e)
+up_refused {k} w v r e g = refused_means (M w) v (number_of k) v (tells_lt (M w) v) (sym (ap number_says g) ∙ e)
 
 -- rounding up gives the least place
 pub least_place : (s a : ℕ) → 0 < a → LeastPlace s a (up s a)

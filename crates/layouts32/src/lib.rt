@@ -11,59 +11,34 @@ ghost use Rattle.padding_defs.specs.Pad.{static_for, DynamicPadding, dynamic_for
 ghost use Rattle.make.specs.Make.{asked, empty_layout, new_zst_for, type_causes, type_layout, type_for, slice_layout, slice_for};
 ghost use Rattle.widths_defs.specs.Low.{mapped};
 ghost use Rattle.widths_layouts_defs.specs.Low.{low_info, low_layout, InfoIn, LayoutIn};
-ghost use Rattle.layouts32.specs.View.{info_of32, layout_of32, layout_says32};
 
-use layout::{Check, DstLayout, LayoutAnswer, SizeInfo};
+use layout::{DstLayout, SizeInfo};
 use trailing::TrailingSliceLayout;
-use trailing32::TrailingSliceLayout32;
-use util::Decision;
+use util::Refusal;
 
-// How large a layout is: a size, or a size at each count.
-#[derive(Clone, Copy)]
-pub enum SizeInfo32 {
-    Sized { size: u32 },
-    SliceDst(TrailingSliceLayout32),
-}
-
-// Its fields are those of DstLayout.
-#[derive(Clone, Copy)]
-pub struct DstLayout32 {
-    pub align: u32,
-    pub size_info: SizeInfo32,
-    pub statically_shallow_unpadded: bool,
-    pub align_modifier: bool,
-}
-
-// A layout, or the number of the refusal.
-#[derive(Clone, Copy)]
-pub enum LayoutAnswer32 {
-    Layout(DstLayout32),
-    Refused(u64),
-}
-
-fn wide_info(size_info: SizeInfo32) -> SizeInfo
-    ensures { (info_of result ≡ info_of32 size_info) × InfoIn 32 (info_of32 size_info) }
+fn wide_info(size_info: SizeInfo<u32>) -> SizeInfo<u64>
+    ensures { (info_of result ≡ info_of size_info) × InfoIn 32 (info_of size_info) }
 {
     match size_info {
-        SizeInfo32::Sized { size } => SizeInfo::Sized { size: size as u64 },
-        SizeInfo32::SliceDst(tail) => SizeInfo::SliceDst(trailing32::wide_tail(tail)),
+        SizeInfo::Sized { size } => SizeInfo::Sized { size: size as u64 },
+        SizeInfo::SliceDst(tail) => SizeInfo::SliceDst(trailing32::wide_tail(tail)),
     }
 }
 
-fn low_info(size_info: SizeInfo) -> SizeInfo32
-    ensures { info_of32 result ≡ low_info 32 (info_of size_info) }
+fn low_info(size_info: SizeInfo<u64>) -> SizeInfo<u32>
+    ensures { info_of result ≡ low_info 32 (info_of size_info) }
 {
     match size_info {
-        SizeInfo::Sized { size } => SizeInfo32::Sized {
+        SizeInfo::Sized { size } => SizeInfo::Sized {
             size: numbers32::low_word(size),
         },
-        SizeInfo::SliceDst(tail) => SizeInfo32::SliceDst(trailing32::low_tail(tail)),
+        SizeInfo::SliceDst(tail) => SizeInfo::SliceDst(trailing32::low_tail(tail)),
     }
 }
 
 // A layout of 32 bits widened to 64, which hold the same numbers.
-pub fn wide_layout(layout: DstLayout32) -> DstLayout
-    ensures { (layout_of result ≡ layout_of32 layout) × LayoutIn 32 (layout_of32 layout) }
+pub fn wide_layout(layout: DstLayout<u32>) -> DstLayout<u64>
+    ensures { (layout_of result ≡ layout_of layout) × LayoutIn 32 (layout_of layout) }
 {
     let size_info = layout.size_info;
     DstLayout {
@@ -75,11 +50,11 @@ pub fn wide_layout(layout: DstLayout32) -> DstLayout
 }
 
 // A layout of 64 bits narrowed.
-pub fn low_layout(layout: DstLayout) -> DstLayout32
-    ensures { layout_of32 result ≡ low_layout 32 (layout_of layout) }
+pub fn low_layout(layout: DstLayout<u64>) -> DstLayout<u32>
+    ensures { layout_of result ≡ low_layout 32 (layout_of layout) }
 {
     let size_info = layout.size_info;
-    DstLayout32 {
+    DstLayout {
         align: numbers32::low_word(layout.align),
         size_info: low_info(size_info),
         statically_shallow_unpadded: layout.statically_shallow_unpadded,
@@ -88,70 +63,66 @@ pub fn low_layout(layout: DstLayout) -> DstLayout32
 }
 
 // An answer of 64 bits narrowed.
-pub fn low_answer(answer: LayoutAnswer) -> LayoutAnswer32
-    ensures { layout_says32 result ≡ mapped (low_layout 32) (layout_says answer) }
+pub fn low_answer(answer: Result<DstLayout<u64>, Refusal>) -> Result<DstLayout<u32>, Refusal>
+    ensures { layout_says result ≡ mapped (low_layout 32) (layout_says answer) }
 {
-    match answer {
-        LayoutAnswer::Layout(layout) => LayoutAnswer32::Layout(low_layout(layout)),
-        LayoutAnswer::Refused(number) => LayoutAnswer32::Refused(number),
-    }
+    let layout = answer?;
+    Ok(low_layout(layout))
 }
 
-impl DstLayout32 {
-    // Whether the layout is one: its alignment is a power of two and its rounding word, if it has one, is not 0.
-    pub fn check(self) -> Check
-        ensures answer { check_says result ≡ check_for 32 (layout_of32 self) }
-        ensures meaning { Meets (layout_causes 32 (layout_of32 self)) (λ _. FitsWidth 32 (layout_of32 self)) (check_says result) }
-    {
-        let layout = wide_layout(self);
-        layout.check()
-    }
+// Whether the layout is one: its alignment is a power of two and its rounding word, if it has one, is not 0.
+pub fn check(layout: DstLayout<u32>) -> Result<(), Refusal>
+    ensures answer { check_says result ≡ check_for 32 (layout_of layout) }
+    ensures meaning { Meets (layout_causes 32 (layout_of layout)) (λ _. FitsWidth 32 (layout_of layout)) (check_says result) }
+{
+    let wide = wide_layout(layout);
+    wide.check()
 }
 
 // The layout of a type with no members: size 0 and the alignment asked for.
-pub fn new_zst(repr_align: u32) -> LayoutAnswer32
-    ensures answer { layout_says32 result ≡ new_zst_for 32 repr_align }
-    ensures meaning { Meets (align_causes 32 (asked repr_align)) (λ l. l ≡ empty_layout repr_align) (layout_says32 result) }
+pub fn new_zst(repr_align: u32) -> Result<DstLayout<u32>, Refusal>
+    ensures answer { layout_says result ≡ new_zst_for 32 repr_align }
+    ensures meaning { Meets (align_causes 32 (asked repr_align)) (λ l. l ≡ empty_layout repr_align) (layout_says result) }
 {
     low_answer(make::new_zst(repr_align as u64))
 }
 
 // The layout of a type of which it is not known whether it has padding.
-pub fn for_type(size: u32, align: u32) -> LayoutAnswer32
-    ensures answer { layout_says32 result ≡ type_for 32 false size align }
-    ensures meaning { Meets (type_causes 32 size align) (λ l. l ≡ type_layout false size align) (layout_says32 result) }
+pub fn for_type(size: u32, align: u32) -> Result<DstLayout<u32>, Refusal>
+    ensures answer { layout_says result ≡ type_for 32 false size align }
+    ensures meaning { Meets (type_causes 32 size align) (λ l. l ≡ type_layout false size align) (layout_says result) }
 {
     low_answer(make::for_type(size as u64, align as u64))
 }
 
 // The layout of a type that is taken to have no padding.
-pub fn for_unpadded_type(size: u32, align: u32) -> LayoutAnswer32
-    ensures answer { layout_says32 result ≡ type_for 32 true size align }
-    ensures meaning { Meets (type_causes 32 size align) (λ l. l ≡ type_layout true size align) (layout_says32 result) }
+pub fn for_unpadded_type(size: u32, align: u32) -> Result<DstLayout<u32>, Refusal>
+    ensures answer { layout_says result ≡ type_for 32 true size align }
+    ensures meaning { Meets (type_causes 32 size align) (λ l. l ≡ type_layout true size align) (layout_says result) }
 {
     low_answer(make::for_unpadded_type(size as u64, align as u64))
 }
 
 // The layout of a slice of a type.
-pub fn for_slice(size: u32, align: u32) -> LayoutAnswer32
-    ensures answer { layout_says32 result ≡ slice_for 32 size align }
-    ensures meaning { Meets (type_causes 32 size align) (λ l. l ≡ slice_layout size align) (layout_says32 result) }
+pub fn for_slice(size: u32, align: u32) -> Result<DstLayout<u32>, Refusal>
+    ensures answer { layout_says result ≡ slice_for 32 size align }
+    ensures meaning { Meets (type_causes 32 size align) (λ l. l ≡ slice_layout size align) (layout_says result) }
 {
     low_answer(make::for_slice(size as u64, align as u64))
 }
 
 // Whether padding between the members is not ruled out. A yes does not mean that there is some.
-pub fn requires_static_padding(layout: DstLayout32) -> Decision
-    ensures answer { decision_says result ≡ static_for 32 (layout_of32 layout) }
-    ensures meaning { Meets (layout_causes 32 (layout_of32 layout)) (Tells ((layout_of32 layout).mark ≡ false)) (decision_says result) }
+pub fn requires_static_padding(layout: DstLayout<u32>) -> Result<bool, Refusal>
+    ensures answer { decision_says result ≡ static_for 32 (layout_of layout) }
+    ensures meaning { Meets (layout_causes 32 (layout_of layout)) (Tells ((layout_of layout).mark ≡ false)) (decision_says result) }
 {
     needs::requires_static_padding(wide_layout(layout))
 }
 
 // Whether padding after the elements is not ruled out at every count. A yes does not mean that a count needs some.
-pub fn requires_dynamic_padding(layout: DstLayout32) -> Decision
-    ensures answer { decision_says result ≡ dynamic_for 32 (layout_of32 layout) }
-    ensures meaning { Meets (layout_causes 32 (layout_of32 layout)) (Tells (DynamicPadding 32 (layout_of32 layout).info)) (decision_says result) }
+pub fn requires_dynamic_padding(layout: DstLayout<u32>) -> Result<bool, Refusal>
+    ensures answer { decision_says result ≡ dynamic_for 32 (layout_of layout) }
+    ensures meaning { Meets (layout_causes 32 (layout_of layout)) (Tells (DynamicPadding 32 (layout_of layout).info)) (decision_says result) }
 {
     needs::requires_dynamic_padding(wide_layout(layout))
 }

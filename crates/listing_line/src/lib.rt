@@ -7,16 +7,13 @@ ghost use Rattle.io.specs.Counts.{IsPrefixLen};
 ghost use Rattle.record.specs.View.{words_in};
 ghost use Rattle.compose_defs.specs.Compose.{ported, struct_for};
 ghost use Rattle.compose.specs.View.{compose_says};
-ghost use Rattle.compose32.specs.View.{compose_says32};
 ghost use Rattle.width.specs.Width.{bits_of};
 ghost use Rattle.listing_line.specs.Line.{digits_of, token, words_line, refused_text, at_text, refused_line, list_for};
 ghost use Rattle.listing_line.specs.Line.{line_length, line_into};
 
-use compose::ComposeAnswer;
-use compose32::ComposeAnswer32;
-use layouts32::DstLayout32;
+use layout::DstLayout;
 use record::Words;
-use util::refusal;
+use util::{Refusal, RefusedAt};
 
 // The longest list that is taken.
 pub const MAX_LIST_BYTES: usize = 65520;
@@ -102,17 +99,17 @@ fn put_refusal(out: &mut [u8], number: u64, place: u64) -> usize
 }
 
 // A composition of 32 bits as one of 64.
-fn wide_composed(answer: ComposeAnswer32) -> ComposeAnswer
-    ensures { compose_says result ≡ compose_says32 answer }
+fn wide_composed(
+    answer: Result<DstLayout<u32>, RefusedAt<u64>>,
+) -> Result<DstLayout<u64>, RefusedAt<u64>>
+    ensures { compose_says result ≡ compose_says answer }
 {
-    match answer {
-        ComposeAnswer32::Layout(l) => ComposeAnswer::Layout(layouts32::wide_layout(l)),
-        ComposeAnswer32::Refused { number, place } => ComposeAnswer::Refused { number, place },
-    }
+    let l = answer?;
+    Ok(layouts32::wide_layout(l))
 }
 
 // The composition at a width, without alignment or packing.
-fn compose_at(narrow: bool, list: &[u8]) -> ComposeAnswer
+fn compose_at(narrow: bool, list: &[u8]) -> Result<DstLayout<u64>, RefusedAt<u64>>
     ensures { compose_says result ≡ struct_for (bits_of narrow) ported 0 0 list.now }
 {
     if narrow {
@@ -123,14 +120,14 @@ fn compose_at(narrow: bool, list: &[u8]) -> ComposeAnswer
 }
 
 // What the members compose to; a list that is too long is refused.
-fn compose_list(narrow: bool, list: &[u8]) -> ComposeAnswer
+fn compose_list(narrow: bool, list: &[u8]) -> Result<DstLayout<u64>, RefusedAt<u64>>
     ensures { compose_says result ≡ list_for (bits_of narrow) list.now }
 {
     if list.len() > MAX_LIST_BYTES {
-        ComposeAnswer::Refused {
-            number: refusal::RECORD_LENGTH,
+        Err(RefusedAt {
+            refusal: Refusal::RecordLength,
             place: 0,
-        }
+        })
     } else {
         compose_at(narrow, list)
     }
@@ -146,7 +143,7 @@ pub fn line(narrow: bool, list: &[u8], out: &mut [u8]) -> usize
         return 0;
     }
     match compose_list(narrow, list) {
-        ComposeAnswer::Layout(l) => put_words(out, record::words_from_layout(l)),
-        ComposeAnswer::Refused { number, place } => put_refusal(out, number, place),
+        Ok(l) => put_words(out, record::words_from_layout(l)),
+        Err(at) => put_refusal(out, at.refusal.number(), at.place),
     }
 }

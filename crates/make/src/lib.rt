@@ -7,10 +7,10 @@ ghost use Rattle.util_defs.specs.Helpers.{align_causes};
 ghost use Rattle.layout.specs.View.{layout_says, check_says};
 ghost use Rattle.make.specs.Make.{asked, empty_layout, new_zst_for, type_causes, type_layout, type_for, slice_layout, slice_for};
 
-use layout::{DstLayout, LayoutAnswer, SizeInfo};
+use layout::{DstLayout, SizeInfo};
 use rounding::RoundingAlignAndPhase;
 use trailing::TrailingSliceLayout;
-use util::refusal;
+use util::Refusal;
 
 // The least alignment, which a layout has where none is asked for.
 pub const MIN_ALIGN: u64 = 1;
@@ -26,45 +26,45 @@ fn asked_align(repr_align: u64) -> u64
     }
 }
 
-fn for_marked_type(size: u64, align: u64, unpadded: bool) -> LayoutAnswer
+fn for_marked_type(size: u64, align: u64, unpadded: bool) -> Result<DstLayout<u64>, Refusal>
     ensures { layout_says result ≡ type_for 64 unpadded size align }
 {
     if util::is_power_of_two(align) {
         if size & (align - 1) == 0 {
-            LayoutAnswer::Layout(DstLayout {
+            Ok(DstLayout {
                 align,
                 size_info: SizeInfo::Sized { size },
                 statically_shallow_unpadded: unpadded,
                 align_modifier: false,
             })
         } else {
-            LayoutAnswer::Refused(refusal::SIZE_NOT_MULTIPLE_OF_ALIGN)
+            Err(Refusal::SizeNotMultipleOfAlign)
         }
     } else {
-        LayoutAnswer::Refused(refusal::ALIGN_NOT_POWER_OF_TWO)
+        Err(Refusal::AlignNotPowerOfTwo)
     }
 }
 
 // The layout of a type with no members: size 0 and the alignment asked for.
-pub fn new_zst(repr_align: u64) -> LayoutAnswer
+pub fn new_zst(repr_align: u64) -> Result<DstLayout<u64>, Refusal>
     ensures answer { layout_says result ≡ new_zst_for 64 repr_align }
     ensures meaning { Meets (align_causes 64 (asked repr_align)) (λ l. l ≡ empty_layout repr_align) (layout_says result) }
 {
     let align = asked_align(repr_align);
     if util::is_power_of_two(align) {
-        LayoutAnswer::Layout(DstLayout {
+        Ok(DstLayout {
             align,
             size_info: SizeInfo::Sized { size: 0 },
             statically_shallow_unpadded: true,
             align_modifier: repr_align != 0,
         })
     } else {
-        LayoutAnswer::Refused(refusal::ALIGN_NOT_POWER_OF_TWO)
+        Err(Refusal::AlignNotPowerOfTwo)
     }
 }
 
 // The layout of a type of which it is not known whether it has padding.
-pub fn for_type(size: u64, align: u64) -> LayoutAnswer
+pub fn for_type(size: u64, align: u64) -> Result<DstLayout<u64>, Refusal>
     ensures answer { layout_says result ≡ type_for 64 false size align }
     ensures meaning { Meets (type_causes 64 size align) (λ l. l ≡ type_layout false size align) (layout_says result) }
 {
@@ -72,7 +72,7 @@ pub fn for_type(size: u64, align: u64) -> LayoutAnswer
 }
 
 // The layout of a type that is taken to have no padding.
-pub fn for_unpadded_type(size: u64, align: u64) -> LayoutAnswer
+pub fn for_unpadded_type(size: u64, align: u64) -> Result<DstLayout<u64>, Refusal>
     ensures answer { layout_says result ≡ type_for 64 true size align }
     ensures meaning { Meets (type_causes 64 size align) (λ l. l ≡ type_layout true size align) (layout_says result) }
 {
@@ -80,14 +80,14 @@ pub fn for_unpadded_type(size: u64, align: u64) -> LayoutAnswer
 }
 
 // The layout of a slice of a type: its elements from offset 0 on, so that the phase is 0 and the word is the alignment.
-pub fn for_slice(size: u64, align: u64) -> LayoutAnswer
+pub fn for_slice(size: u64, align: u64) -> Result<DstLayout<u64>, Refusal>
     ensures answer { layout_says result ≡ slice_for 64 size align }
     ensures meaning { Meets (type_causes 64 size align) (λ l. l ≡ slice_layout size align) (layout_says result) }
 {
     if util::is_power_of_two(align) {
         let remainder = size & (align - 1);
         if remainder == 0 {
-            LayoutAnswer::Layout(DstLayout {
+            Ok(DstLayout {
                 align,
                 size_info: SizeInfo::SliceDst(TrailingSliceLayout {
                     offset: 0,
@@ -99,9 +99,9 @@ pub fn for_slice(size: u64, align: u64) -> LayoutAnswer
                 align_modifier: false,
             })
         } else {
-            LayoutAnswer::Refused(refusal::SIZE_NOT_MULTIPLE_OF_ALIGN)
+            Err(Refusal::SizeNotMultipleOfAlign)
         }
     } else {
-        LayoutAnswer::Refused(refusal::ALIGN_NOT_POWER_OF_TWO)
+        Err(Refusal::AlignNotPowerOfTwo)
     }
 }

@@ -1,15 +1,12 @@
 -- What the types of this crate are, over numbers. Assumes nothing.
+use Rattle.std.specs.Prelude.{ℕ, Result}
+use Rattle.util.specs.View.{placed_says, accepted}
+use Rattle.util.specs.declared.refusal.RefusedAt.{RefusedAt}
 use Rattle.std.specs.Prelude.{ℕ}
 use Rattle.util_defs.specs.Placed.{Placed, reached, stopped}
-use Rattle.moves.specs.declared.MoveAnswer.{MoveAnswer}
-use Rattle.moves.specs.declared.MoveAnswer.TheVariants as Move
-use Rattle.moves.specs.declared.TestAnswer.{TestAnswer}
-use Rattle.moves.specs.declared.TestAnswer.TheVariants as Test
 
-abbrev pub move_says : MoveAnswer → Placed ℕ
-move_says (Move.Written n) = reached n
-move_says (Move.Refused k i) = stopped k i
+abbrev pub move_says : Result ℕ (RefusedAt ℕ) → Placed ℕ
+move_says = placed_says (λ n. n)
 
-abbrev pub test_says : TestAnswer → Placed (Unit {0})
-test_says Test.Accepted = reached tt
-test_says (Test.Refused k i) = stopped k i
+abbrev pub test_says : Result (Unit {0}) (RefusedAt ℕ) → Placed (Unit {0})
+test_says = placed_says accepted

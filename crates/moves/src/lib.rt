@@ -10,43 +10,24 @@ ghost use Rattle.short_defs.specs.Moves.{to_short, length_causes, tested, moved_
 ghost use Rattle.short_defs.specs.Trips.{Shortened, MoveMeans};
 ghost use Rattle.moves.specs.View.{test_says, move_says};
 
-use layout::{Check, LayoutAnswer};
 use record::RECORD_BYTES;
 use short::SHORT_BYTES;
-use util::refusal;
-
-// The number of bytes written, or the number of the refusal and its place.
-#[derive(Clone, Copy)]
-pub enum MoveAnswer {
-    Written(u64),
-    Refused { number: u64, place: u64 },
-}
-
-// Whether every record is accepted, or the first refusal and the index of its record.
-#[derive(Clone, Copy)]
-pub enum TestAnswer {
-    Accepted,
-    Refused { number: u64, place: u64 },
-}
+use util::{Refusal, RefusedAt};
 
 // Whether a record can be made short.
-fn test_record(s: &[u8]) -> Check
+fn test_record(s: &[u8]) -> Result<(), Refusal>
     requires { length s.now ≡ 48 }
     ensures { check_says result ≡ judged (to_short.causes s.now) }
 {
-    match record::decode(s) {
-        LayoutAnswer::Layout(l) => {
-            if short::fits_short(l) {
-                Check::Accepted
-            } else {
-                Check::Refused(refusal::WORD_ABOVE_SHORT)
-            }
-        }
-        LayoutAnswer::Refused(number) => Check::Refused(number),
+    let l = record::decode(s)?;
+    if short::fits_short(l) {
+        Ok(())
+    } else {
+        Err(Refusal::WordAboveShort)
     }
 }
 
-fn test_records(records: &[u8]) -> TestAnswer
+fn test_records(records: &[u8]) -> Result<(), RefusedAt<u64>>
     ensures { test_says result ≡ tested to_short 0 (length records.now / 48) records.now }
 {
     let count = records.len() / RECORD_BYTES;
@@ -54,17 +35,17 @@ fn test_records(records: &[u8]) -> TestAnswer
     while i < count {
         let at = i * RECORD_BYTES;
         match test_record(&records[at..at + RECORD_BYTES]) {
-            Check::Accepted => {}
-            Check::Refused(number) => {
-                return TestAnswer::Refused {
-                    number,
+            Ok(()) => {}
+            Err(refusal) => {
+                return Err(RefusedAt {
+                    refusal,
                     place: i as u64,
-                };
+                });
             }
         }
         i += 1;
     }
-    TestAnswer::Accepted
+    Ok(())
 }
 
 // Writes the short form of a record that was accepted: nothing is tested again, and the words go from load to store.
@@ -101,41 +82,37 @@ fn write_shorts(records: &[u8], out: &mut [u8])
 }
 
 // The move of whole records that the output can hold.
-fn shorten(records: &[u8], out: &mut [u8]) -> MoveAnswer
+fn shorten(records: &[u8], out: &mut [u8]) -> Result<u64, RefusedAt<u64>>
     requires { judged (length_causes to_short records.now (length out.old)) ≡ answered tt }
     ensures result_value { move_says result ≡ moved_for to_short records.now (length out.old) }
     ensures out_after { out.new ≡ filled (move_for to_short records.now (length out.old)) out.old }
 {
-    match test_records(records) {
-        TestAnswer::Accepted => {
-            write_shorts(records, out);
-            let count = records.len() / RECORD_BYTES;
-            MoveAnswer::Written((count * SHORT_BYTES) as u64)
-        }
-        TestAnswer::Refused { number, place } => MoveAnswer::Refused { number, place },
-    }
+    test_records(records)?;
+    write_shorts(records, out);
+    let count = records.len() / RECORD_BYTES;
+    Ok((count * SHORT_BYTES) as u64)
 }
 
 // Moves records of 48 bytes to short ones, into the front of out; behind them it stays as it was. The lengths are compared by a
 // division: the bytes that are needed can pass the greatest number.
-pub fn records_to_short(records: &[u8], out: &mut [u8]) -> MoveAnswer
+pub fn records_to_short(records: &[u8], out: &mut [u8]) -> Result<u64, RefusedAt<u64>>
     ensures answer { move_says result ≡ moved_for to_short records.now (length out.old) }
     ensures bytes { out.new ≡ filled (move_for to_short records.now (length out.old)) out.old }
     ensures meaning { MoveMeans to_short Shortened records.now out.old out.new (move_says result) }
 {
     if records.len() % RECORD_BYTES == 0 {
         if out.len() / SHORT_BYTES < records.len() / RECORD_BYTES {
-            MoveAnswer::Refused {
-                number: refusal::OUTPUT_SHORT,
+            Err(RefusedAt {
+                refusal: Refusal::OutputShort,
                 place: 0,
-            }
+            })
         } else {
             shorten(records, out)
         }
     } else {
-        MoveAnswer::Refused {
-            number: refusal::RECORD_LENGTH,
+        Err(RefusedAt {
+            refusal: Refusal::RecordLength,
             place: 0,
-        }
+        })
     }
 }

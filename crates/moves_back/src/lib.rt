@@ -10,24 +10,20 @@ ghost use Rattle.short_defs.specs.Moves.{from_short, length_causes, tested, move
 ghost use Rattle.short_defs.specs.Trips.{Widened, MoveMeans};
 ghost use Rattle.moves.specs.View.{test_says, move_says};
 
-use layout::{Check, LayoutAnswer};
-use moves::{MoveAnswer, TestAnswer};
 use record::RECORD_BYTES;
 use short::SHORT_BYTES;
-use util::refusal;
+use util::{Refusal, RefusedAt};
 
 // Whether a short record is one.
-fn test_short(s: &[u8]) -> Check
+fn test_short(s: &[u8]) -> Result<(), Refusal>
     requires { length s.now ≡ 32 }
     ensures { check_says result ≡ judged (from_short.causes s.now) }
 {
-    match short::decode_short(s) {
-        LayoutAnswer::Layout(_) => Check::Accepted,
-        LayoutAnswer::Refused(number) => Check::Refused(number),
-    }
+    short::decode_short(s)?;
+    Ok(())
 }
 
-fn test_shorts(records: &[u8]) -> TestAnswer
+fn test_shorts(records: &[u8]) -> Result<(), RefusedAt<u64>>
     ensures { test_says result ≡ tested from_short 0 (length records.now / 32) records.now }
 {
     let count = records.len() / SHORT_BYTES;
@@ -35,17 +31,17 @@ fn test_shorts(records: &[u8]) -> TestAnswer
     while i < count {
         let at = i * SHORT_BYTES;
         match test_short(&records[at..at + SHORT_BYTES]) {
-            Check::Accepted => {}
-            Check::Refused(number) => {
-                return TestAnswer::Refused {
-                    number,
+            Ok(()) => {}
+            Err(refusal) => {
+                return Err(RefusedAt {
+                    refusal,
                     place: i as u64,
-                };
+                });
             }
         }
         i += 1;
     }
-    TestAnswer::Accepted
+    Ok(())
 }
 
 // Writes the record of a short one that was accepted.
@@ -82,40 +78,36 @@ fn write_records(records: &[u8], out: &mut [u8])
     }
 }
 
-fn widen(records: &[u8], out: &mut [u8]) -> MoveAnswer
+fn widen(records: &[u8], out: &mut [u8]) -> Result<u64, RefusedAt<u64>>
     requires { judged (length_causes from_short records.now (length out.old)) ≡ answered tt }
     ensures result_value { move_says result ≡ moved_for from_short records.now (length out.old) }
     ensures out_after { out.new ≡ filled (move_for from_short records.now (length out.old)) out.old }
 {
-    match test_shorts(records) {
-        TestAnswer::Accepted => {
-            write_records(records, out);
-            let count = records.len() / SHORT_BYTES;
-            MoveAnswer::Written((count * RECORD_BYTES) as u64)
-        }
-        TestAnswer::Refused { number, place } => MoveAnswer::Refused { number, place },
-    }
+    test_shorts(records)?;
+    write_records(records, out);
+    let count = records.len() / SHORT_BYTES;
+    Ok((count * RECORD_BYTES) as u64)
 }
 
 // Moves short records to those of 48 bytes.
-pub fn records_from_short(records: &[u8], out: &mut [u8]) -> MoveAnswer
+pub fn records_from_short(records: &[u8], out: &mut [u8]) -> Result<u64, RefusedAt<u64>>
     ensures answer { move_says result ≡ moved_for from_short records.now (length out.old) }
     ensures bytes { out.new ≡ filled (move_for from_short records.now (length out.old)) out.old }
     ensures meaning { MoveMeans from_short Widened records.now out.old out.new (move_says result) }
 {
     if records.len() % SHORT_BYTES == 0 {
         if out.len() / RECORD_BYTES < records.len() / SHORT_BYTES {
-            MoveAnswer::Refused {
-                number: refusal::OUTPUT_SHORT,
+            Err(RefusedAt {
+                refusal: Refusal::OutputShort,
                 place: 0,
-            }
+            })
         } else {
             widen(records, out)
         }
     } else {
-        MoveAnswer::Refused {
-            number: refusal::RECORD_LENGTH,
+        Err(RefusedAt {
+            refusal: Refusal::RecordLength,
             place: 0,
-        }
+        })
     }
 }

@@ -3,18 +3,17 @@
 // second one and with two bad ones.
 #![tactic(auto)]
 
-use cast::{CastAnswer, CastType};
-use convert::ComputeAnswer;
-use layout::{Check, DstLayout, LayoutAnswer, SizeInfo};
-use record::EncodeAnswer;
+use cast::{CastType, Granted};
+use convert::CastParamsInner;
+use layout::{DstLayout, SizeInfo};
 use rounding::RoundingAlignAndPhase;
 use shift::Mode;
 use std::io;
 use trailing::TrailingSliceLayout;
-use util::{Answer, Decision};
+use util::Refusal;
 use working::Addition;
 
-fn fixed(align: u64) -> DstLayout {
+fn fixed(align: u64) -> DstLayout<u64> {
     DstLayout {
         align,
         size_info: SizeInfo::Sized { size: 8 },
@@ -23,7 +22,7 @@ fn fixed(align: u64) -> DstLayout {
     }
 }
 
-fn trailing(word: u64) -> DstLayout {
+fn trailing(word: u64) -> DstLayout<u64> {
     DstLayout {
         align: 4,
         size_info: SizeInfo::SliceDst(TrailingSliceLayout {
@@ -38,52 +37,20 @@ fn trailing(word: u64) -> DstLayout {
 }
 
 // The number of a refusal, 0 where there is none.
-
-fn of_layout(a: LayoutAnswer) -> u64 {
+fn refused<T: Copy>(a: Result<T, Refusal>) -> u64 {
     match a {
-        LayoutAnswer::Layout(_) => 0,
-        LayoutAnswer::Refused(number) => number,
+        Ok(_) => 0,
+        Err(refusal) => refusal.number(),
     }
 }
 
-fn of_decision(a: Decision) -> u64 {
-    match a {
-        Decision::Is(_) => 0,
-        Decision::Refused(number) => number,
-    }
-}
-
-fn of_number(a: Answer) -> u64 {
-    match a {
-        Answer::Number(_) => 0,
-        Answer::Refused(number) => number,
-    }
-}
-
-fn of_cast(a: CastAnswer) -> u64 {
-    match a {
-        CastAnswer::Granted { elems, split_at } => 0,
-        CastAnswer::Refused(number) => number,
-    }
-}
-
-fn of_params(a: ComputeAnswer) -> u64 {
-    match a {
-        ComputeAnswer::Params(_) => 0,
-        ComputeAnswer::Refused(number) => number,
-    }
-}
-
-fn encoded(l: DstLayout) -> u64 {
+fn encoded(l: DstLayout<u64>) -> u64 {
     let mut out = [0u8; record::RECORD_BYTES];
-    match record::encode(l, &mut out) {
-        EncodeAnswer::Encoded => 0,
-        EncodeAnswer::Refused(number) => number,
-    }
+    refused(record::encode(l, &mut out))
 }
 
-fn cast(l: DstLayout) -> u64 {
-    of_cast(cast::validate_cast_and_convert_metadata(l, 0, 16, CastType::Prefix))
+fn cast(l: DstLayout<u64>) -> u64 {
+    refused(cast::validate_cast_and_convert_metadata(l, 0, 16, CastType::Prefix))
 }
 
 fn put(rt: &impl Print, number: u64) -> io::Result<()> {
@@ -123,30 +90,22 @@ fn print_second(
     println!(rt)
 }
 
-fn extended(l: DstLayout, field: DstLayout) -> u64 {
-    of_layout(extend::extend(l, field, 0))
+fn extended(l: DstLayout<u64>, field: DstLayout<u64>) -> u64 {
+    refused(extend::extend(l, field, 0))
 }
 
-fn of_addition(a: Addition) -> u64 {
-    let answer = a.answer;
-    match answer {
-        Check::Accepted => 0,
-        Check::Refused(number) => number,
-    }
-}
-
-fn added(l: DstLayout, field: DstLayout) -> u64 {
-    of_addition(working::with_member(l, field, 0))
+fn added(l: DstLayout<u64>, field: DstLayout<u64>) -> u64 {
+    refused(working::with_member(l, field, 0).answer)
 }
 
 // No record: 20, where the working layout is good.
-fn added_record(l: DstLayout) -> u64 {
+fn added_record(l: DstLayout<u64>) -> u64 {
     let bytes = [0u8; 1];
-    of_addition(working::with_record(l, &bytes, 0))
+    refused(working::with_record(l, &bytes, 0).answer)
 }
 
-fn computed(src: DstLayout, dst: DstLayout) -> u64 {
-    of_params(convert::try_compute(src, dst, Mode::Ported))
+fn computed(src: DstLayout<u64>, dst: DstLayout<u64>) -> u64 {
+    refused(convert::try_compute(src, dst, Mode::Ported))
 }
 
 fn print_layouts(rt: &impl Print) -> io::Result<()> {
@@ -168,26 +127,26 @@ fn print_layouts(rt: &impl Print) -> io::Result<()> {
     print_one(
         rt,
         "pad_to_align",
-        of_layout(padding::pad_to_align(trailing(5))),
-        of_layout(padding::pad_to_align(fixed(0))),
-        of_layout(padding::pad_to_align(fixed(3))),
-        of_layout(padding::pad_to_align(trailing(0))),
+        refused(padding::pad_to_align(trailing(5))),
+        refused(padding::pad_to_align(fixed(0))),
+        refused(padding::pad_to_align(fixed(3))),
+        refused(padding::pad_to_align(trailing(0))),
     )?;
     print_one(
         rt,
         "requires_static_padding",
-        of_decision(needs::requires_static_padding(trailing(5))),
-        of_decision(needs::requires_static_padding(fixed(0))),
-        of_decision(needs::requires_static_padding(fixed(3))),
-        of_decision(needs::requires_static_padding(trailing(0))),
+        refused(needs::requires_static_padding(trailing(5))),
+        refused(needs::requires_static_padding(fixed(0))),
+        refused(needs::requires_static_padding(fixed(3))),
+        refused(needs::requires_static_padding(trailing(0))),
     )?;
     print_one(
         rt,
         "requires_dynamic_padding",
-        of_decision(needs::requires_dynamic_padding(trailing(5))),
-        of_decision(needs::requires_dynamic_padding(fixed(0))),
-        of_decision(needs::requires_dynamic_padding(fixed(3))),
-        of_decision(needs::requires_dynamic_padding(trailing(0))),
+        refused(needs::requires_dynamic_padding(trailing(5))),
+        refused(needs::requires_dynamic_padding(fixed(0))),
+        refused(needs::requires_dynamic_padding(fixed(3))),
+        refused(needs::requires_dynamic_padding(trailing(0))),
     )?;
     print_one(
         rt,
@@ -237,10 +196,10 @@ fn print_converts(rt: &impl Print) -> io::Result<()> {
     print_one(
         rt,
         "metadata_for_exact_size",
-        of_number(cast::metadata_for_exact_size(trailing(5), 12)),
-        of_number(cast::metadata_for_exact_size(fixed(0), 12)),
-        of_number(cast::metadata_for_exact_size(fixed(3), 12)),
-        of_number(cast::metadata_for_exact_size(trailing(0), 12)),
+        refused(cast::metadata_for_exact_size(trailing(5), 12)),
+        refused(cast::metadata_for_exact_size(fixed(0), 12)),
+        refused(cast::metadata_for_exact_size(fixed(3), 12)),
+        refused(cast::metadata_for_exact_size(trailing(0), 12)),
     )?;
     print_one(
         rt,

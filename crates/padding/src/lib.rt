@@ -13,83 +13,67 @@ ghost use Rattle.layout.specs.View.{info_of, layout_of, layout_says, info_says};
 ghost use Rattle.padding_defs.specs.Pad.{fixed_part, coarser, finer, padded_tail, padded_mark, padded};
 ghost use Rattle.padding_defs.specs.Pad.{padding_needs, pad_causes, pad_for, Padded};
 
-use layout::{Check, DstLayout, LayoutAnswer, SizeInfo, SizeInfoAnswer};
-use rounding::{ComponentsAnswer, RoundingAlignAndPhase};
+use layout::{DstLayout, SizeInfo};
+use rounding::{Components, RoundingAlignAndPhase};
 use trailing::TrailingSliceLayout;
-use util::{Answer, refusal};
+use util::Refusal;
 // Padding to an alignment above that of the rounding word. The fixed part of every size, the base rounded up to the word's
 // alignment and the phase, splits into a multiple of the new alignment and the new phase.
 fn pad_coarser(
-    tail: TrailingSliceLayout,
-    size_align: u64,
-    size_phase: u64,
+    tail: TrailingSliceLayout<u64>,
+    parts: Components<u64>,
     align: u64,
-) -> SizeInfoAnswer
-    requires { PowerOfTwo align × IsWord tail.size_rounding_align_and_phase.0 size_align size_phase }
+) -> Result<SizeInfo<u64>, Refusal>
+    requires { PowerOfTwo align × IsWord tail.size_rounding_align_and_phase.0 parts.align parts.phase }
     ensures { info_says result ≡ unless (rounding_passes 64 (fixed_part 64 (trailing_of tail)) ∷ [])
         (trailing (coarser 64 align (trailing_of tail))) }
 {
-    match layout::round_up(tail.size_base, size_align) {
-        Answer::Number(rounded_base) => {
-            if u64::MAX - rounded_base < size_phase {
-                return SizeInfoAnswer::Refused(refusal::ROUNDING_PASSES_MAX);
-            }
-            let fixed_contribution = rounded_base + size_phase;
-            let align_mask = align - 1;
-            let phase = fixed_contribution & align_mask;
-            SizeInfoAnswer::Info(SizeInfo::SliceDst(TrailingSliceLayout {
-                offset: tail.offset,
-                elem_size: tail.elem_size,
-                size_base: fixed_contribution & !align_mask,
-                size_rounding_align_and_phase: RoundingAlignAndPhase(align + phase),
-            }))
-        }
-        Answer::Refused(number) => SizeInfoAnswer::Refused(number),
+    let rounded_base = layout::round_up(tail.size_base, parts.align)?;
+    if u64::MAX - rounded_base < parts.phase {
+        return Err(Refusal::RoundingPassesMax);
     }
+    let fixed_contribution = rounded_base + parts.phase;
+    let align_mask = align - 1;
+    let phase = fixed_contribution & align_mask;
+    Ok(SizeInfo::SliceDst(TrailingSliceLayout {
+        offset: tail.offset,
+        elem_size: tail.elem_size,
+        size_base: fixed_contribution & !align_mask,
+        size_rounding_align_and_phase: RoundingAlignAndPhase(align + phase),
+    }))
 }
 
 // Padding to an alignment that divides that of the rounding word: what the word rounds is a multiple of it already.
-fn pad_finer(tail: TrailingSliceLayout, align: u64) -> SizeInfoAnswer
+fn pad_finer(tail: TrailingSliceLayout<u64>, align: u64) -> Result<SizeInfo<u64>, Refusal>
     requires { PowerOfTwo align }
     ensures { info_says result ≡ unless (rounding_passes 64 (up tail.size_base align) ∷ []) (trailing (finer align (trailing_of tail))) }
 {
     let word = tail.size_rounding_align_and_phase;
-    match layout::round_up(tail.size_base, align) {
-        Answer::Number(size_base) => SizeInfoAnswer::Info(SizeInfo::SliceDst(
-            TrailingSliceLayout {
-                offset: tail.offset,
-                elem_size: tail.elem_size,
-                size_base,
-                size_rounding_align_and_phase: word,
-            },
-        )),
-        Answer::Refused(number) => SizeInfoAnswer::Refused(number),
-    }
+    let size_base = layout::round_up(tail.size_base, align)?;
+    Ok(SizeInfo::SliceDst(TrailingSliceLayout {
+        offset: tail.offset,
+        elem_size: tail.elem_size,
+        size_base,
+        size_rounding_align_and_phase: word,
+    }))
 }
 
-fn pad_trailing(tail: TrailingSliceLayout, align: u64) -> SizeInfoAnswer
+fn pad_trailing(tail: TrailingSliceLayout<u64>, align: u64) -> Result<SizeInfo<u64>, Refusal>
     requires { PowerOfTwo align × (0 < tail.size_rounding_align_and_phase.0) }
     ensures { info_says result ≡ unless (rounding_passes 64 (padding_needs 64 align (trailing (trailing_of tail))) ∷ [])
         (trailing (padded_tail 64 align (trailing_of tail))) }
 {
     let word = tail.size_rounding_align_and_phase;
-    match word.components() {
-        ComponentsAnswer::Components {
-            align: size_align,
-            phase: size_phase,
-        } => {
-            if size_align < align {
-                pad_coarser(tail, size_align, size_phase, align)
-            } else {
-                pad_finer(tail, align)
-            }
-        }
-        ComponentsAnswer::Refused(number) => SizeInfoAnswer::Refused(number),
+    let parts = word.components()?;
+    if parts.align < align {
+        pad_coarser(tail, parts, align)
+    } else {
+        pad_finer(tail, align)
     }
 }
 
 // Whether the mark stays: that of a fixed layout falls where padding adds bytes, which it does not to a multiple.
-fn pad_mark(size_info: SizeInfo, align: u64, unpadded: bool) -> bool
+fn pad_mark(size_info: SizeInfo<u64>, align: u64, unpadded: bool) -> bool
     requires { PowerOfTwo align }
     ensures { result ≡ padded_mark align (info_of size_info) unpadded }
 {
@@ -106,7 +90,7 @@ fn pad_mark(size_info: SizeInfo, align: u64, unpadded: bool) -> bool
     }
 }
 
-fn pad_checked(layout: DstLayout) -> LayoutAnswer
+fn pad_checked(layout: DstLayout<u64>) -> Result<DstLayout<u64>, Refusal>
     requires { None (layout_causes 64 (layout_of layout)) }
     ensures { layout_says result ≡ unless (rounding_passes 64 (padding_needs 64 layout.align (info_of layout.size_info)) ∷ [])
         (padded 64 (layout_of layout)) }
@@ -116,34 +100,32 @@ fn pad_checked(layout: DstLayout) -> LayoutAnswer
     let unpadded = pad_mark(size_info, align, layout.statically_shallow_unpadded);
     let align_modifier = layout.align_modifier;
     match size_info {
-        SizeInfo::Sized { size } => match layout::round_up(size, align) {
-            Answer::Number(padded) => LayoutAnswer::Layout(DstLayout {
+        SizeInfo::Sized { size } => {
+            let padded = layout::round_up(size, align)?;
+            Ok(DstLayout {
                 align,
                 size_info: SizeInfo::Sized { size: padded },
                 statically_shallow_unpadded: unpadded,
                 align_modifier,
-            }),
-            Answer::Refused(number) => LayoutAnswer::Refused(number),
+            })
         },
-        SizeInfo::SliceDst(tail) => match pad_trailing(tail, align) {
-            SizeInfoAnswer::Info(padded_info) => LayoutAnswer::Layout(DstLayout {
+        SizeInfo::SliceDst(tail) => {
+            let padded_info = pad_trailing(tail, align)?;
+            Ok(DstLayout {
                 align,
                 size_info: padded_info,
                 statically_shallow_unpadded: unpadded,
                 align_modifier,
-            }),
-            SizeInfoAnswer::Refused(number) => LayoutAnswer::Refused(number),
+            })
         },
     }
 }
 
 // The layout with the padding after its last member: each size rounded up to the alignment.
-pub fn pad_to_align(layout: DstLayout) -> LayoutAnswer
+pub fn pad_to_align(layout: DstLayout<u64>) -> Result<DstLayout<u64>, Refusal>
     ensures answer { layout_says result ≡ pad_for 64 (layout_of layout) }
     ensures meaning { Meets (pad_causes 64 (layout_of layout)) (Padded 64 (layout_of layout)) (layout_says result) }
 {
-    match layout.check() {
-        Check::Accepted => pad_checked(layout),
-        Check::Refused(number) => LayoutAnswer::Refused(number),
-    }
+    layout.check()?;
+    pad_checked(layout)
 }

@@ -13,10 +13,9 @@ ghost use Rattle.compose_defs.specs.Compose.{ported, compose_struct};
 ghost use Rattle.compose_defs.specs.Places.{listed, places_of, gaps_of, places_for, written, end_of, Lands, Composes, ListPlacesMean};
 ghost use Rattle.compose.specs.View.{compose_says};
 
-use compose::ComposeAnswer;
-use layout::{DstLayout, LayoutAnswer, SizeInfo};
+use layout::{DstLayout, SizeInfo};
 use record::RECORD_BYTES;
-use util::{Answer, refusal};
+use util::{Refusal, RefusedAt};
 
 // Where a member lands, the gap before it, and where it ends.
 #[derive(Clone, Copy)]
@@ -41,7 +40,7 @@ fn packed_align(align: u64, repr_packed: u64) -> u64
 }
 
 // Where a member ends that stands at 0: a trailing one at its base, and none comes after it.
-fn end_of(size_info: SizeInfo) -> u64
+fn end_of(size_info: SizeInfo<u64>) -> u64
     ensures { result ≡ end_of (info_of size_info) }
 {
     match size_info {
@@ -51,17 +50,17 @@ fn end_of(size_info: SizeInfo) -> u64
 }
 
 // Where a member lands behind an end. Of members that compose nothing wraps.
-fn land(end: u64, repr_packed: u64, field: DstLayout) -> Spot
+fn land(end: u64, repr_packed: u64, field: DstLayout<u64>) -> Spot
     ensures { Lands 64 repr_packed end (layout_of field) result.place result.gap result.end }
 {
     let size_info = field.size_info;
     match layout::round_up(end, packed_align(field.align, repr_packed)) {
-        Answer::Number(place) => Spot {
+        Ok(place) => Spot {
             place,
             gap: place - end,
             end: std::num::wrapping_add_u64(place, end_of(size_info)),
         },
-        Answer::Refused(_) => Spot {
+        Err(_) => Spot {
             place: end,
             gap: 0,
             end,
@@ -75,8 +74,8 @@ fn land_record(end: u64, repr_packed: u64, member: &[u8]) -> Spot
         → Lands 64 repr_packed end m result.place result.gap result.end }
 {
     match record::decode(member) {
-        LayoutAnswer::Layout(field) => land(end, repr_packed, field),
-        LayoutAnswer::Refused(_) => Spot {
+        Ok(field) => land(end, repr_packed, field),
+        Err(_) => Spot {
             place: end,
             gap: 0,
             end,
@@ -128,7 +127,7 @@ fn compose_and_write(
     members: &[u8],
     places: &mut [u64],
     gaps: &mut [u64],
-) -> ComposeAnswer
+) -> Result<DstLayout<u64>, RefusedAt<u64>>
     requires { (length members.now % 48 ≡ 0)
         × ((length places.old ≡ length members.now / 48) × (length gaps.old ≡ length members.now / 48)) }
     ensures result_value { compose_says result ≡ compose_struct 64 ported repr_align repr_packed (listed 64 members.now) }
@@ -137,13 +136,9 @@ fn compose_and_write(
     ensures gaps_after { gaps.new ≡ written (compose_says result)
         (gaps_of repr_packed (empty_layout repr_align) (listed 64 members.now)) gaps.old }
 {
-    match compose::for_repr_c_struct(repr_align, repr_packed, members) {
-        ComposeAnswer::Layout(l) => {
-            write_places(repr_align, repr_packed, members, places, gaps);
-            ComposeAnswer::Layout(l)
-        }
-        ComposeAnswer::Refused { number, place } => ComposeAnswer::Refused { number, place },
-    }
+    let l = compose::for_repr_c_struct(repr_align, repr_packed, members)?;
+    write_places(repr_align, repr_packed, members, places, gaps);
+    Ok(l)
 }
 
 // The layout of a repr(C) struct with these members, and where each of them landed: its place and the gap before it, in two lent
@@ -154,7 +149,7 @@ pub fn for_repr_c_struct_places(
     members: &[u8],
     places: &mut [u64],
     gaps: &mut [u64],
-) -> ComposeAnswer
+) -> Result<DstLayout<u64>, RefusedAt<u64>>
     ensures answer { compose_says result ≡ places_for 64 repr_align repr_packed members.now
         (length places.old) (length gaps.old) }
     ensures places { places.new ≡ written (compose_says result)
@@ -167,15 +162,15 @@ pub fn for_repr_c_struct_places(
         if both_are(places.len(), gaps.len(), members.len() / RECORD_BYTES) {
             compose_and_write(repr_align, repr_packed, members, places, gaps)
         } else {
-            ComposeAnswer::Refused {
-                number: refusal::SLICE_LENGTH,
+            Err(RefusedAt {
+                refusal: Refusal::SliceLength,
                 place: 0,
-            }
+            })
         }
     } else {
-        ComposeAnswer::Refused {
-            number: refusal::RECORD_LENGTH,
+        Err(RefusedAt {
+            refusal: Refusal::RecordLength,
             place: 0,
-        }
+        })
     }
 }

@@ -2,6 +2,9 @@
 // first, so that nothing is written where they are refused; then their places are worked out once more, in the same order.
 #![tactic(auto)]
 
+ghost use Rattle.compose.specs.View.{compose_says};
+ghost use Rattle.layout.specs.View.{info_of, layout_of};
+ghost use Rattle.util.specs.View.{number_says};
 ghost use Rattle.std.specs.Prelude.{◌≡◌, ◌/◌, ◌%◌, length};
 ghost use Rattle.util_defs.specs.Refusal.{answered, Meets};
 ghost use Rattle.layout_defs.specs.Layout.{Layout};
@@ -10,15 +13,10 @@ ghost use Rattle.make.specs.Make.{empty_layout};
 ghost use Rattle.record_defs.specs.Record.{decode_for};
 ghost use Rattle.compose_defs.specs.Compose.{ported, compose_struct};
 ghost use Rattle.compose_defs.specs.Places.{listed, places_of, gaps_of, places_for, written, end_of, Lands, Composes, ListPlacesMean};
-ghost use Rattle.numbers32.specs.View.{number_says32};
-ghost use Rattle.layouts32.specs.View.{info_of32, layout_of32};
-ghost use Rattle.compose32.specs.View.{compose_says32};
 
-use compose32::ComposeAnswer32;
-use layouts32::{DstLayout32, LayoutAnswer32, SizeInfo32};
-use numbers32::Answer32;
+use layout::{DstLayout, SizeInfo};
 use record::RECORD_BYTES;
-use util::{Answer, refusal};
+use util::{Refusal, RefusedAt};
 
 // Where a member lands, the gap before it, and where it ends.
 #[derive(Clone, Copy)]
@@ -29,19 +27,15 @@ struct Spot {
 }
 
 // The least multiple of align that is at least len.
-pub fn round_up(len: u32, align: u32) -> Answer32
-    ensures answer { number_says32 result ≡ round_up_for 32 len align }
-    ensures meaning { Meets (round_up_causes 32 len align) (LeastPlace len align) (number_says32 result) }
+pub fn round_up(len: u32, align: u32) -> Result<u32, Refusal>
+    ensures answer { number_says result ≡ round_up_for 32 len align }
+    ensures meaning { Meets (round_up_causes 32 len align) (LeastPlace len align) (number_says result) }
 {
-    match layout::round_up(len as u64, align as u64) {
-        Answer::Number(rounded) => {
-            if rounded <= numbers32::MAX {
-                Answer32::Number(numbers32::low_word(rounded))
-            } else {
-                Answer32::Refused(refusal::ROUNDING_PASSES_MAX)
-            }
-        }
-        Answer::Refused(number) => Answer32::Refused(number),
+    let rounded = layout::round_up(len as u64, align as u64)?;
+    if rounded <= numbers32::MAX {
+        Ok(numbers32::low_word(rounded))
+    } else {
+        Err(Refusal::RoundingPassesMax)
     }
 }
 
@@ -60,27 +54,27 @@ fn packed_align(align: u32, repr_packed: u32) -> u32
 }
 
 // Where a member ends that stands at 0: a trailing one at its base, and none comes after it.
-fn end_of(size_info: SizeInfo32) -> u32
-    ensures { result ≡ end_of (info_of32 size_info) }
+fn end_of(size_info: SizeInfo<u32>) -> u32
+    ensures { result ≡ end_of (info_of size_info) }
 {
     match size_info {
-        SizeInfo32::Sized { size } => size,
-        SizeInfo32::SliceDst(tail) => tail.size_base,
+        SizeInfo::Sized { size } => size,
+        SizeInfo::SliceDst(tail) => tail.size_base,
     }
 }
 
 // Where a member lands behind an end. Of members that compose nothing wraps.
-fn land(end: u32, repr_packed: u32, field: DstLayout32) -> Spot
-    ensures { Lands 32 repr_packed end (layout_of32 field) result.place result.gap result.end }
+fn land(end: u32, repr_packed: u32, field: DstLayout<u32>) -> Spot
+    ensures { Lands 32 repr_packed end (layout_of field) result.place result.gap result.end }
 {
     let size_info = field.size_info;
     match round_up(end, packed_align(field.align, repr_packed)) {
-        Answer32::Number(place) => Spot {
+        Ok(place) => Spot {
             place,
             gap: place - end,
             end: std::num::wrapping_add_u32(place, end_of(size_info)),
         },
-        Answer32::Refused(_) => Spot {
+        Err(_) => Spot {
             place: end,
             gap: 0,
             end,
@@ -94,8 +88,8 @@ fn land_record(end: u32, repr_packed: u32, member: &[u8]) -> Spot
         → Lands 32 repr_packed end m result.place result.gap result.end }
 {
     match record32::decode(member) {
-        LayoutAnswer32::Layout(field) => land(end, repr_packed, field),
-        LayoutAnswer32::Refused(_) => Spot {
+        Ok(field) => land(end, repr_packed, field),
+        Err(_) => Spot {
             place: end,
             gap: 0,
             end,
@@ -136,22 +130,18 @@ fn compose_and_write(
     members: &[u8],
     places: &mut [u32],
     gaps: &mut [u32],
-) -> ComposeAnswer32
+) -> Result<DstLayout<u32>, RefusedAt<u64>>
     requires { (length members.now % 48 ≡ 0)
         × ((length places.old ≡ length members.now / 48) × (length gaps.old ≡ length members.now / 48)) }
-    ensures result_value { compose_says32 result ≡ compose_struct 32 ported repr_align repr_packed (listed 32 members.now) }
-    ensures places_after { places.new ≡ written (compose_says32 result)
+    ensures result_value { compose_says result ≡ compose_struct 32 ported repr_align repr_packed (listed 32 members.now) }
+    ensures places_after { places.new ≡ written (compose_says result)
         (places_of repr_packed (empty_layout repr_align) (listed 32 members.now)) places.old }
-    ensures gaps_after { gaps.new ≡ written (compose_says32 result)
+    ensures gaps_after { gaps.new ≡ written (compose_says result)
         (gaps_of repr_packed (empty_layout repr_align) (listed 32 members.now)) gaps.old }
 {
-    match compose32::for_repr_c_struct(repr_align, repr_packed, members) {
-        ComposeAnswer32::Layout(l) => {
-            write_places(repr_align, repr_packed, members, places, gaps);
-            ComposeAnswer32::Layout(l)
-        }
-        ComposeAnswer32::Refused { number, place } => ComposeAnswer32::Refused { number, place },
-    }
+    let l = compose32::for_repr_c_struct(repr_align, repr_packed, members)?;
+    write_places(repr_align, repr_packed, members, places, gaps);
+    Ok(l)
 }
 
 // The layout of a repr(C) struct with these members, and where each of them landed: its place and the gap before it, in two lent
@@ -162,28 +152,28 @@ pub fn for_repr_c_struct_places(
     members: &[u8],
     places: &mut [u32],
     gaps: &mut [u32],
-) -> ComposeAnswer32
-    ensures answer { compose_says32 result ≡ places_for 32 repr_align repr_packed members.now
+) -> Result<DstLayout<u32>, RefusedAt<u64>>
+    ensures answer { compose_says result ≡ places_for 32 repr_align repr_packed members.now
         (length places.old) (length gaps.old) }
-    ensures places { places.new ≡ written (compose_says32 result)
+    ensures places { places.new ≡ written (compose_says result)
         (places_of repr_packed (empty_layout repr_align) (listed 32 members.now)) places.old }
-    ensures gaps { gaps.new ≡ written (compose_says32 result)
+    ensures gaps { gaps.new ≡ written (compose_says result)
         (gaps_of repr_packed (empty_layout repr_align) (listed 32 members.now)) gaps.old }
-    ensures meaning { ListPlacesMean 32 repr_packed members.now places.new gaps.new (compose_says32 result) }
+    ensures meaning { ListPlacesMean 32 repr_packed members.now places.new gaps.new (compose_says result) }
 {
     if members.len() % RECORD_BYTES == 0 {
         if places::both_are(places.len(), gaps.len(), members.len() / RECORD_BYTES) {
             compose_and_write(repr_align, repr_packed, members, places, gaps)
         } else {
-            ComposeAnswer32::Refused {
-                number: refusal::SLICE_LENGTH,
+            Err(RefusedAt {
+                refusal: Refusal::SliceLength,
                 place: 0,
-            }
+            })
         }
     } else {
-        ComposeAnswer32::Refused {
-            number: refusal::RECORD_LENGTH,
+        Err(RefusedAt {
+            refusal: Refusal::RecordLength,
             place: 0,
-        }
+        })
     }
 }

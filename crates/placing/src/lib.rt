@@ -9,23 +9,23 @@ ghost use Rattle.layout_defs.specs.Layout.{trailing};
 ghost use Rattle.layout_defs.specs.Extend.{placed_at, member_passes};
 ghost use Rattle.layout.specs.View.{info_of, layout_says, info_says};
 
-use layout::{DstLayout, LayoutAnswer, SizeInfo, SizeInfoAnswer, SizedLayout};
+use layout::{DstLayout, SizeInfo, SizedLayout};
 use trailing::TrailingSliceLayout;
-use util::refusal;
+use util::Refusal;
 
 // The base is not rounded, so that the place is added to it as it is to the offset.
-fn place_trailing(tail: TrailingSliceLayout, place: u64) -> SizeInfoAnswer
+fn place_trailing(tail: TrailingSliceLayout<u64>, place: u64) -> Result<SizeInfo<u64>, Refusal>
     ensures { info_says result ≡ unless (member_passes 64 place (trailing (trailing_of tail)) ∷ [])
         (placed_at place (trailing (trailing_of tail))) }
 {
     let word = tail.size_rounding_align_and_phase;
     if u64::MAX - place < tail.offset {
-        return SizeInfoAnswer::Refused(refusal::MEMBER_PASSES_MAX);
+        return Err(Refusal::MemberPassesMax);
     }
     if u64::MAX - place < tail.size_base {
-        return SizeInfoAnswer::Refused(refusal::MEMBER_PASSES_MAX);
+        return Err(Refusal::MemberPassesMax);
     }
-    SizeInfoAnswer::Info(SizeInfo::SliceDst(TrailingSliceLayout {
+    Ok(SizeInfo::SliceDst(TrailingSliceLayout {
         offset: place + tail.offset,
         elem_size: tail.elem_size,
         size_base: place + tail.size_base,
@@ -41,7 +41,7 @@ fn larger(a: u64, b: u64) -> u64
 }
 
 // The size of a layout whose last member stands at place.
-fn place_member(size_info: SizeInfo, place: u64) -> SizeInfoAnswer
+fn place_member(size_info: SizeInfo<u64>, place: u64) -> Result<SizeInfo<u64>, Refusal>
     ensures { info_says result ≡ unless (member_passes 64 place (info_of size_info) ∷ []) (placed_at place (info_of size_info)) }
 {
     match size_info {
@@ -49,9 +49,9 @@ fn place_member(size_info: SizeInfo, place: u64) -> SizeInfoAnswer
             // The compiler makes one addition of this, and a test of its carry.
             let end = std::num::wrapping_add_u64(place, size);
             if end < place {
-                SizeInfoAnswer::Refused(refusal::MEMBER_PASSES_MAX)
+                Err(Refusal::MemberPassesMax)
             } else {
-                SizeInfoAnswer::Info(SizeInfo::Sized { size: end })
+                Ok(SizeInfo::Sized { size: end })
             }
         }
         SizeInfo::SliceDst(tail) => place_trailing(tail, place),
@@ -81,7 +81,12 @@ fn either(a: bool, b: bool) -> bool
 }
 
 // The layout with a member more whose alignment, field_align, and place are known.
-pub fn extend_at(own: SizedLayout, field: DstLayout, field_align: u64, place: u64) -> LayoutAnswer
+pub fn extend_at(
+    own: SizedLayout,
+    field: DstLayout<u64>,
+    field_align: u64,
+    place: u64,
+) -> Result<DstLayout<u64>, Refusal>
     ensures { layout_says result ≡ unless (member_passes 64 place (info_of field.size_info) ∷ [])
         (record {
           align = max own.align field_align;
@@ -97,13 +102,11 @@ pub fn extend_at(own: SizedLayout, field: DstLayout, field_align: u64, place: u6
         own.size,
         place,
     );
-    match place_member(field_info, place) {
-        SizeInfoAnswer::Info(size_info) => LayoutAnswer::Layout(DstLayout {
-            align: larger(own.align, field_align),
-            size_info,
-            statically_shallow_unpadded: unpadded,
-            align_modifier: either(own.align_modifier, field.align_modifier),
-        }),
-        SizeInfoAnswer::Refused(number) => LayoutAnswer::Refused(number),
-    }
+    let size_info = place_member(field_info, place)?;
+    Ok(DstLayout {
+        align: larger(own.align, field_align),
+        size_info,
+        statically_shallow_unpadded: unpadded,
+        align_modifier: either(own.align_modifier, field.align_modifier),
+    })
 }

@@ -10,10 +10,10 @@ ghost use Rattle.record_defs.specs.Record.{own_for, decode_for, Decodes};
 ghost use Rattle.record_defs.specs.Record.{encode_for, encoded_into, encode_words_for, encoded_words_into};
 ghost use Rattle.record.specs.View.{words_in, encode_says};
 
-use layout::{DstLayout, LayoutAnswer, SizeInfo};
+use layout::{DstLayout, SizeInfo};
 use rounding::RoundingAlignAndPhase;
 use trailing::TrailingSliceLayout;
-use util::refusal;
+use util::Refusal;
 
 // The six words of a record.
 #[derive(Clone, Copy)]
@@ -26,13 +26,6 @@ pub struct Words {
     pub offset: u64,
     pub elem_size: u64,
     pub word: u64,
-}
-
-// Whether a record was written, or the number of the refusal.
-#[derive(Clone, Copy)]
-pub enum EncodeAnswer {
-    Encoded,
-    Refused(u64),
 }
 
 // The bytes of a record.
@@ -58,7 +51,7 @@ fn later_words_zero(offset: u64, elem_size: u64, word: u64) -> bool
 
 // The layout of the six words of a record. The tests stand in one function, in the order of their numbers: the compiler then
 // knows of an accepted layout what was tested, wherever this is inlined.
-pub fn layout_from_words(words: Words) -> LayoutAnswer
+pub fn layout_from_words(words: Words) -> Result<DstLayout<u64>, Refusal>
     ensures answer { layout_says result ≡ words_for 64 (words_in words) }
     ensures meaning { Meets (words_causes 64 (words_in words)) (Decodes (words_in words)) (layout_says result) }
 {
@@ -66,26 +59,26 @@ pub fn layout_from_words(words: Words) -> LayoutAnswer
     let kind = words.kind;
     let word = words.word;
     if kind > GREATEST_KIND {
-        return LayoutAnswer::Refused(refusal::KIND);
+        return Err(Refusal::Kind);
     }
     if util::is_power_of_two(align) {
         let unpadded = kind % 2 == 1;
         let align_modifier = kind / 4 % 2 == 1;
         if kind / 2 % 2 == 0 {
             if later_words_zero(words.offset, words.elem_size, word) {
-                return LayoutAnswer::Layout(DstLayout {
+                return Ok(DstLayout {
                     align,
                     size_info: SizeInfo::Sized { size: words.size },
                     statically_shallow_unpadded: unpadded,
                     align_modifier,
                 });
             }
-            return LayoutAnswer::Refused(refusal::FIXED_RECORD);
+            return Err(Refusal::FixedRecord);
         }
         if word == 0 {
-            return LayoutAnswer::Refused(refusal::ROUNDING_WORD_ZERO);
+            return Err(Refusal::RoundingWordZero);
         }
-        return LayoutAnswer::Layout(DstLayout {
+        return Ok(DstLayout {
             align,
             size_info: SizeInfo::SliceDst(TrailingSliceLayout {
                 offset: words.offset,
@@ -97,7 +90,7 @@ pub fn layout_from_words(words: Words) -> LayoutAnswer
             align_modifier,
         });
     }
-    LayoutAnswer::Refused(refusal::ALIGN_NOT_POWER_OF_TWO)
+    Err(Refusal::AlignNotPowerOfTwo)
 }
 
 fn marked_kind(kind: u64, unpadded: bool, align_modifier: bool) -> u64
@@ -114,7 +107,7 @@ fn marked_kind(kind: u64, unpadded: bool, align_modifier: bool) -> u64
 }
 
 // The six words of a layout's record.
-pub fn words_from_layout(l: DstLayout) -> Words
+pub fn words_from_layout(l: DstLayout<u64>) -> Words
     ensures { words_in result ≡ words_of (layout_of l) }
 {
     let size_info = l.size_info;
@@ -161,7 +154,7 @@ fn read_words(s: &[u8]) -> Words
 }
 
 // The layout of a record. Words of 64 bits hold every number of it, so its own tests are all that can refuse it.
-pub fn decode(s: &[u8]) -> LayoutAnswer
+pub fn decode(s: &[u8]) -> Result<DstLayout<u64>, Refusal>
     ensures answer { layout_says result ≡ decode_for 64 s.now }
     ensures meaning { Meets (record_causes 64 s.now) (Decodes (words_at s.now 0)) (layout_says result) }
     ensures own { layout_says result ≡ own_for s.now }
@@ -169,7 +162,7 @@ pub fn decode(s: &[u8]) -> LayoutAnswer
     if s.len() == RECORD_BYTES {
         layout_from_words(read_words(s))
     } else {
-        LayoutAnswer::Refused(refusal::RECORD_LENGTH)
+        Err(Refusal::RecordLength)
     }
 }
 
@@ -186,27 +179,23 @@ fn put_words(out: &mut [u8], r: Words)
 }
 
 // The record of six words, tested as a record's are, into the lent bytes; a refusal leaves them as they were.
-pub fn encode_words(w: Words, out: &mut [u8]) -> EncodeAnswer
+pub fn encode_words(w: Words, out: &mut [u8]) -> Result<(), Refusal>
     ensures answer { encode_says result ≡ encode_words_for 64 (words_in w) (length out.old) }
     ensures bytes { out.new ≡ encoded_words_into 64 (words_in w) out.old }
 {
     if out.len() == RECORD_BYTES {
-        match layout_from_words(w) {
-            // The words of the layout are those given, but moved one by one: of those given the compiler would load two at once,
-            // and wait for the caller's stores of them.
-            LayoutAnswer::Layout(l) => {
-                put_words(out, words_from_layout(l));
-                EncodeAnswer::Encoded
-            }
-            LayoutAnswer::Refused(number) => EncodeAnswer::Refused(number),
-        }
+        // The words of the layout are those given, but moved one by one: of those given the compiler would load two at once,
+        // and wait for the caller's stores of them.
+        let l = layout_from_words(w)?;
+        put_words(out, words_from_layout(l));
+        Ok(())
     } else {
-        EncodeAnswer::Refused(refusal::RECORD_LENGTH)
+        Err(Refusal::RecordLength)
     }
 }
 
 // The record of a layout, into the lent bytes; a refusal leaves them as they were.
-pub fn encode(l: DstLayout, out: &mut [u8]) -> EncodeAnswer
+pub fn encode(l: DstLayout<u64>, out: &mut [u8]) -> Result<(), Refusal>
     ensures answer { encode_says result ≡ encode_for 64 (layout_of l) (length out.old) }
     ensures bytes { out.new ≡ encoded_into 64 (layout_of l) out.old }
 {

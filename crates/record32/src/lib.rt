@@ -4,16 +4,14 @@
 
 ghost use Rattle.std.specs.Prelude.{◌≡◌, length};
 ghost use Rattle.util_defs.specs.Refusal.{Meets};
-ghost use Rattle.layout.specs.View.{layout_says};
+ghost use Rattle.layout.specs.View.{layout_says, layout_of};
 ghost use Rattle.record_defs.specs.Record.{words_at, fits_in, record_causes, decode_for, fitted, Decodes};
 ghost use Rattle.record_defs.specs.Record.{encode_for, encoded_into};
 ghost use Rattle.record.specs.View.{words_in, encode_says};
-ghost use Rattle.layouts32.specs.View.{layout_of32, layout_says32};
 
-use layout::{DstLayout, LayoutAnswer};
-use layouts32::{DstLayout32, LayoutAnswer32};
-use record::{EncodeAnswer, Words};
-use util::refusal;
+use layout::DstLayout;
+use record::Words;
+use util::Refusal;
 
 // Whether 32 bits hold the numbers of a record.
 pub fn fits(words: Words) -> bool
@@ -39,42 +37,34 @@ pub fn fits(words: Words) -> bool
 }
 
 // The layout of a record.
-pub fn decode(s: &[u8]) -> LayoutAnswer32
-    ensures answer { layout_says32 result ≡ decode_for 32 s.now }
-    ensures meaning { Meets (record_causes 32 s.now) (Decodes (words_at s.now 0)) (layout_says32 result) }
+pub fn decode(s: &[u8]) -> Result<DstLayout<u32>, Refusal>
+    ensures answer { layout_says result ≡ decode_for 32 s.now }
+    ensures meaning { Meets (record_causes 32 s.now) (Decodes (words_at s.now 0)) (layout_says result) }
 {
-    match record::decode(s) {
-        LayoutAnswer::Layout(layout) => {
-            if fits(record::words_from_layout(layout)) {
-                layouts32::low_answer(LayoutAnswer::Layout(layout))
-            } else {
-                LayoutAnswer32::Refused(refusal::NUMBER_PASSES_WIDTH)
-            }
-        }
-        LayoutAnswer::Refused(number) => LayoutAnswer32::Refused(number),
+    let layout = record::decode(s)?;
+    if fits(record::words_from_layout(layout)) {
+        layouts32::low_answer(Ok(layout))
+    } else {
+        Err(Refusal::NumberPassesWidth)
     }
 }
 
 // A layout that was read of another form of record, at 32 bits.
-pub fn fitting(answer: LayoutAnswer) -> LayoutAnswer32
-    ensures { layout_says32 result ≡ fitted 32 (layout_says answer) }
+pub fn fitting(answer: Result<DstLayout<u64>, Refusal>) -> Result<DstLayout<u32>, Refusal>
+    ensures { layout_says result ≡ fitted 32 (layout_says answer) }
 {
-    match answer {
-        LayoutAnswer::Layout(layout) => {
-            if fits(record::words_from_layout(layout)) {
-                LayoutAnswer32::Layout(layouts32::low_layout(layout))
-            } else {
-                LayoutAnswer32::Refused(refusal::NUMBER_PASSES_WIDTH)
-            }
-        }
-        LayoutAnswer::Refused(number) => LayoutAnswer32::Refused(number),
+    let layout = answer?;
+    if fits(record::words_from_layout(layout)) {
+        Ok(layouts32::low_layout(layout))
+    } else {
+        Err(Refusal::NumberPassesWidth)
     }
 }
 
 // The record of a layout, into the lent bytes; a refusal leaves them as they were.
-pub fn encode(layout: DstLayout32, out: &mut [u8]) -> EncodeAnswer
-    ensures answer { encode_says result ≡ encode_for 32 (layout_of32 layout) (length out.old) }
-    ensures bytes { out.new ≡ encoded_into 32 (layout_of32 layout) out.old }
+pub fn encode(layout: DstLayout<u32>, out: &mut [u8]) -> Result<(), Refusal>
+    ensures answer { encode_says result ≡ encode_for 32 (layout_of layout) (length out.old) }
+    ensures bytes { out.new ≡ encoded_into 32 (layout_of layout) out.old }
 {
     record::encode(layouts32::wide_layout(layout), out)
 }

@@ -1,14 +1,13 @@
 -- What the answers of this crate say. Assumes nothing.
-use Rattle.std.specs.Prelude.{Bool, true, false, ℕ, replicate}
+use Rattle.std.specs.Prelude.{Bool, true, false, ℕ, replicate, Option, Some, None}
 use Rattle.recorded_defs.specs.Lines as lines
 use Rattle.recorded.specs.declared.Number.{Number}
-use Rattle.recorded.specs.declared.Number.TheVariants as Number
 use Rattle.recorded.specs.declared.Line.{Line}
 use Rattle.recorded.specs.declared.Tally.{Tally}
 
-abbrev pub number_says : Number → lines.Number
-number_says (Number.At v next last) = lines.number v last next
-number_says Number.Nothing = lines.none
+abbrev pub number_says : Option Number → lines.Number
+number_says (Some n) = lines.number n.value n.is_last n.next
+number_says None = lines.none
 
 -- a line as it is returned; of one that does not read as numbers nothing, and the end of the text
 abbrev pub line_out : lines.Read → ℕ → Line

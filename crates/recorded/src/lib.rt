@@ -17,17 +17,14 @@ pub const WIDTH: usize = 64;
 // An answer has no more numbers than this, the refusal number among them.
 pub const LENGTH: usize = 13;
 
-// A number of a line, or none where it does not read as one.
+// A number of a line.
 #[derive(Clone, Copy)]
-enum Number {
-    At {
-        value: u64,
-        // Behind the byte that ends it.
-        next: usize,
-        // Whether that byte ends the line too.
-        is_last: bool,
-    },
-    Nothing,
+struct Number {
+    value: u64,
+    // Behind the byte that ends it.
+    next: usize,
+    // Whether that byte ends the line too.
+    is_last: bool,
 }
 
 #[derive(Clone, Copy)]
@@ -122,31 +119,31 @@ fn digit(byte: u8) -> u64
 }
 
 // The number before a byte that is no digit.
-fn end_of(value: u64, has_digits: bool, byte: u8, next: usize) -> Number
+fn end_of(value: u64, has_digits: bool, byte: u8, next: usize) -> Option<Number>
     ensures { number_says result ≡ end_of value has_digits byte next }
 {
     if has_digits {
         if byte == b' ' {
-            return Number::At {
+            return Some(Number {
                 value,
                 next,
                 is_last: false,
-            };
+            });
         }
         if byte == b'\n' {
-            return Number::At {
+            return Some(Number {
                 value,
                 next,
                 is_last: true,
-            };
+            });
         }
-        return Number::Nothing;
+        return None;
     }
-    Number::Nothing
+    None
 }
 
 // The number whose digits start at from.
-fn read_number(text: &[u8], from: usize) -> Number
+fn read_number(text: &[u8], from: usize) -> Option<Number>
     ensures { number_says result ≡ number_from 0 false from (drop from text.now) }
 {
     let mut value: u64 = 0;
@@ -158,12 +155,12 @@ fn read_number(text: &[u8], from: usize) -> Number
             return end_of(value, from < at, byte, at + 1);
         }
         if value > (u64::MAX - digit) / 10 {
-            return Number::Nothing;
+            return None;
         }
         value = value * 10 + digit;
         at += 1;
     }
-    Number::Nothing
+    None
 }
 
 // The line that starts at from.
@@ -176,11 +173,12 @@ pub fn read_line(text: &[u8], from: usize) -> Line
     let mut at = from;
     while count < WIDTH {
         match read_number(text, at) {
-            Number::At {
-                value,
-                next,
-                is_last,
-            } => {
+            Some(number) => {
+                let Number {
+                    value,
+                    next,
+                    is_last,
+                } = number;
                 numbers[count] = value;
                 count += 1;
                 at = next;
@@ -193,7 +191,7 @@ pub fn read_line(text: &[u8], from: usize) -> Line
                     };
                 }
             }
-            Number::Nothing => {
+            None => {
                 return no_line(text.len());
             }
         }

@@ -1,4 +1,7 @@
 -- What the answers of this crate are, over numbers. Assumes nothing.
+use Rattle.std.specs.Prelude.{Result}
+use Rattle.util.specs.View.{placed_says}
+use Rattle.util.specs.declared.refusal.RefusedAt.{RefusedAt}
 use Rattle.std.specs.Prelude.{◌≡◌, Bool, true, false, List, [], ◌∷◌, ◌++◌, ℕ, ◌+◌, ◌-◌, ◌≤◌, ◌<◌, length, take, drop, get_or}
 use Rattle.util_defs.specs.Placed.{Placed, reached, stopped}
 use Rattle.layout_defs.specs.Layout.{Layout}
@@ -6,10 +9,6 @@ use Rattle.describe_defs.specs.Describe.{tag_of}
 use Rattle.rewrite_defs.specs.Heads.{behind_tag, heads_of, joined}
 use Rattle.rewrite_defs.specs.Rewrite.{Way, longer, shorter}
 use Rattle.rewrite_defs.proofs.Whole.{AllWhole}
-use Rattle.rewrite.specs.declared.TurnedAnswer.{TurnedAnswer}
-use Rattle.rewrite.specs.declared.TurnedAnswer.TheVariants as TurnedIs
-use Rattle.rewrite.specs.declared.RewriteAnswer.{RewriteAnswer}
-use Rattle.rewrite.specs.declared.RewriteAnswer.TheVariants as RewriteIs
 
 -- whether counts get two bytes
 abbrev pub way_of : Bool → Way
@@ -46,10 +45,8 @@ abbrev pub length_to : Way → ℕ → ℕ → ℕ
 length_to longer len turned = len + turned
 length_to shorter len turned = len - turned
 
-abbrev pub turned_says : TurnedAnswer → Placed ℕ
-turned_says (TurnedIs.Turned n) = reached n
-turned_says (TurnedIs.Above place) = stopped 44 place
+abbrev pub turned_says : Result ℕ (RefusedAt ℕ) → Placed ℕ
+turned_says = placed_says (λ n. n)
 
-abbrev pub rewrite_says : RewriteAnswer → Placed ℕ
-rewrite_says (RewriteIs.Written n) = reached n
-rewrite_says (RewriteIs.Refused k place) = stopped k place
+abbrev pub rewrite_says : Result ℕ (RefusedAt ℕ) → Placed ℕ
+rewrite_says = placed_says (λ n. n)

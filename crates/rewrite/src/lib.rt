@@ -14,23 +14,8 @@ ghost use Rattle.rewrite_defs.specs.Means.{RewriteMeans};
 ghost use Rattle.rewrite.specs.View.{way_of, head_at, HeadIn, Whole, tagged, struct_put};
 ghost use Rattle.rewrite.specs.View.{Read, length_to, turned_says, rewrite_says};
 
-use describe::ReadAnswer;
 use heads::{ARRAY_TAG, LONG_STRUCT_TAG, STRUCT_TAG};
-use util::refusal;
-
-// The number of bytes written, or the number of the refusal and its place.
-#[derive(Clone, Copy)]
-pub enum RewriteAnswer {
-    Written(u64),
-    Refused { number: u64, place: u64 },
-}
-
-// How many heads are turned, or the place of the first whose count does not fit one byte.
-#[derive(Clone, Copy)]
-enum TurnedAnswer {
-    Turned(usize),
-    Above(usize),
-}
+use util::{Refusal, RefusedAt};
 
 // The greatest count of one byte.
 const GREATEST_BYTE: u64 = 255;
@@ -75,7 +60,7 @@ fn count_above(s: &[u8], at: usize, long: bool) -> bool
 }
 
 // How many heads are turned. A count that does not fit is met before any byte is written.
-fn count_turned(s: &[u8], long: bool) -> TurnedAnswer
+fn count_turned(s: &[u8], long: bool) -> Result<usize, RefusedAt<u64>>
     requires { Whole s.now }
     ensures { turned_says result ≡ go_on (counts_fit (way_of long) 0 (heads_of s.now))
         (λ _. reached (tags_in (struct_tag (from (way_of long))) s.now)) }
@@ -86,13 +71,16 @@ fn count_turned(s: &[u8], long: bool) -> TurnedAnswer
         let tag = s[at];
         if turns(tag, long) {
             if count_above(s, at, long) {
-                return TurnedAnswer::Above(at);
+                return Err(RefusedAt {
+                    refusal: Refusal::CountAboveByte,
+                    place: at as u64,
+                });
             }
             turned += 1;
         }
         at += head_bytes(tag);
     }
-    TurnedAnswer::Turned(turned)
+    Ok(turned)
 }
 
 // Copies bytes from one place to another.
@@ -176,49 +164,54 @@ fn has_room(len: usize, turned: usize, room: usize, long: bool) -> bool
 }
 
 // The rewriting of a description that is read at a width, which the heads then do not hang on.
-fn rewrite_read(narrow: bool, description: &[u8], out: &mut [u8], long: bool) -> RewriteAnswer
+fn rewrite_read(
+    narrow: bool,
+    description: &[u8],
+    out: &mut [u8],
+    long: bool,
+) -> Result<u64, RefusedAt<u64>>
     requires { Read (described_for (bits_of narrow) (target_of narrow) description.now) }
     ensures result_value { rewrite_says result ≡ bytes_for (bits_of narrow) (target_of narrow) (way_of long) description.now
         (length out.old) }
     ensures out_after { out.new ≡ filled (rewrite_for (bits_of narrow) (target_of narrow) (way_of long) description.now
         (length out.old)) out.old }
 {
-    match count_turned(description, long) {
-        TurnedAnswer::Turned(turned) => {
-            let len = description.len();
-            if has_room(len, turned, out.len(), long) {
-                write_heads(description, out, long);
-                let bytes = if long { len + turned } else { len - turned };
-                RewriteAnswer::Written(bytes as u64)
-            } else {
-                RewriteAnswer::Refused {
-                    number: refusal::REWRITE_SHORT,
-                    place: 0,
-                }
-            }
-        }
-        TurnedAnswer::Above(place) => RewriteAnswer::Refused {
-            number: refusal::COUNT_ABOVE_BYTE,
-            place: place as u64,
-        },
+    let turned = count_turned(description, long)?;
+    let len = description.len();
+    if has_room(len, turned, out.len(), long) {
+        write_heads(description, out, long);
+        let bytes = if long { len + turned } else { len - turned };
+        Ok(bytes as u64)
+    } else {
+        Err(RefusedAt {
+            refusal: Refusal::RewriteShort,
+            place: 0,
+        })
     }
 }
 
 // The rewriting either way.
-fn rewrite(narrow: bool, description: &[u8], out: &mut [u8], long: bool) -> RewriteAnswer
+fn rewrite(
+    narrow: bool,
+    description: &[u8],
+    out: &mut [u8],
+    long: bool,
+) -> Result<u64, RefusedAt<u64>>
     ensures result_value { rewrite_says result ≡ bytes_for (bits_of narrow) (target_of narrow) (way_of long) description.now
         (length out.old) }
     ensures out_after { out.new ≡ filled (rewrite_for (bits_of narrow) (target_of narrow) (way_of long) description.now
         (length out.old)) out.old }
 {
-    match describe::read(narrow, description) {
-        ReadAnswer::Layout(_) => rewrite_read(narrow, description, out, long),
-        ReadAnswer::Refused { number, place } => RewriteAnswer::Refused { number, place },
-    }
+    describe::read(narrow, description)?;
+    rewrite_read(narrow, description, out, long)
 }
 
 // Turns every 17 into 19, whose member count has two bytes, into the front of out; behind the result it stays as it was.
-pub fn lengthen_counts(narrow: bool, description: &[u8], out: &mut [u8]) -> RewriteAnswer
+pub fn lengthen_counts(
+    narrow: bool,
+    description: &[u8],
+    out: &mut [u8],
+) -> Result<u64, RefusedAt<u64>>
     ensures answer { rewrite_says result ≡ bytes_for (bits_of narrow) (target_of narrow) longer description.now
         (length out.old) }
     ensures bytes { out.new ≡ filled (rewrite_for (bits_of narrow) (target_of narrow) longer description.now
@@ -230,7 +223,11 @@ pub fn lengthen_counts(narrow: bool, description: &[u8], out: &mut [u8]) -> Rewr
 }
 
 // Turns every 19 into 17, whose member count has one byte.
-pub fn shorten_counts(narrow: bool, description: &[u8], out: &mut [u8]) -> RewriteAnswer
+pub fn shorten_counts(
+    narrow: bool,
+    description: &[u8],
+    out: &mut [u8],
+) -> Result<u64, RefusedAt<u64>>
     ensures answer { rewrite_says result ≡ bytes_for (bits_of narrow) (target_of narrow) shorter description.now
         (length out.old) }
     ensures bytes { out.new ≡ filled (rewrite_for (bits_of narrow) (target_of narrow) shorter description.now

@@ -7,69 +7,59 @@ ghost use Rattle.util.specs.View.{number_says};
 ghost use Rattle.rounding.specs.Word.{IsWord, AlignOf, PartsOf, new_causes, word_causes, new_for, components_for, align_for};
 ghost use Rattle.rounding.specs.View.{word_of, new_says, components_says};
 
-use util::{Answer, refusal};
+use util::Refusal;
 
-// The word, kept apart from every other number. Its highest one bit is the alignment, the rest the phase.
+// The word, of a width N, kept apart from every other number. Its highest one bit is the alignment, the rest the phase.
 #[derive(Clone, Copy)]
-pub struct RoundingAlignAndPhase(pub u64);
+pub struct RoundingAlignAndPhase<N>(pub N);
 
-// A word, or the number of the refusal.
+// The parts of a word.
 #[derive(Clone, Copy)]
-pub enum NewAnswer {
-    Word(RoundingAlignAndPhase),
-    Refused(u64),
+pub struct Components<N> {
+    pub align: N,
+    pub phase: N,
 }
 
-// The parts of a word, or the number of the refusal.
-#[derive(Clone, Copy)]
-pub enum ComponentsAnswer {
-    Components { align: u64, phase: u64 },
-    Refused(u64),
-}
-
-impl RoundingAlignAndPhase {
+impl RoundingAlignAndPhase<u64> {
     // Encodes align and phase. Their one bits are disjoint, so that their sum is the Rust's |.
-    pub fn new(align: u64, phase: u64) -> NewAnswer
+    pub fn new(align: u64, phase: u64) -> Result<RoundingAlignAndPhase<u64>, Refusal>
         ensures answer { new_says result ≡ new_for 64 align phase }
         ensures meaning { Meets (new_causes 64 align phase) (λ n. IsWord n align phase) (new_says result) }
     {
         if util::is_power_of_two(align) {
             if phase < align {
-                NewAnswer::Word(RoundingAlignAndPhase(align + phase))
+                Ok(RoundingAlignAndPhase(align + phase))
             } else {
-                NewAnswer::Refused(refusal::PHASE_NOT_BELOW_ALIGN)
+                Err(Refusal::PhaseNotBelowAlign)
             }
         } else {
-            NewAnswer::Refused(refusal::ALIGN_NOT_POWER_OF_TWO)
+            Err(Refusal::AlignNotPowerOfTwo)
         }
     }
 
     // Decodes the alignment and the phase.
-    pub fn components(self) -> ComponentsAnswer
+    pub fn components(self) -> Result<Components<u64>, Refusal>
         ensures answer { components_says result ≡ components_for 64 (word_of self) }
         ensures meaning { Meets (word_causes (word_of self)) (PartsOf (word_of self)) (components_says result) }
     {
         let word = self.0;
         if word == 0 {
-            return ComponentsAnswer::Refused(refusal::ROUNDING_WORD_ZERO);
+            return Err(Refusal::RoundingWordZero);
         }
         let shift = 63 - u64::leading_zeros(word);
         let align = 1u64 << shift;
-        ComponentsAnswer::Components {
+        Ok(Components {
             align,
             // The highest bit is taken out.
             phase: word ^ align,
-        }
+        })
     }
 
     // Decodes the alignment.
-    pub fn align(self) -> Answer
+    pub fn align(self) -> Result<u64, Refusal>
         ensures answer { number_says result ≡ align_for 64 (word_of self) }
         ensures meaning { Meets (word_causes (word_of self)) (AlignOf (word_of self)) (number_says result) }
     {
-        match self.components() {
-            ComponentsAnswer::Components { align, phase: _ } => Answer::Number(align),
-            ComponentsAnswer::Refused(number) => Answer::Refused(number),
-        }
+        Ok(self.components()?.align)
     }
 }

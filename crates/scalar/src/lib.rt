@@ -6,8 +6,8 @@ ghost use Rattle.util_defs.specs.Refusal.{Meets};
 ghost use Rattle.layout.specs.View.{layout_says};
 ghost use Rattle.scalar.specs.Scalar.{target64, scalar_causes, scalar_layout, scalar_for};
 
-use layout::{DstLayout, LayoutAnswer, SizeInfo};
-use util::refusal;
+use layout::{DstLayout, SizeInfo};
+use util::Refusal;
 
 // The sizes of the scalars by code, which are their alignments too: powers of two, in two bits each, the first lowest.
 const SCALAR_POWERS: u64 = 0b11_00_10_11_10_11_10_01_00;
@@ -23,15 +23,15 @@ fn scalar_size(code: u64) -> u64
 }
 
 // The layout of a scalar.
-pub fn scalar(code: u64) -> LayoutAnswer
+pub fn scalar(code: u64) -> Result<DstLayout<u64>, Refusal>
     ensures answer { layout_says result ≡ scalar_for target64 code }
     ensures meaning { Meets (scalar_causes code) (λ l. l ≡ scalar_layout target64 code) (layout_says result) }
 {
     if code > GREATEST_SCALAR_CODE {
-        return LayoutAnswer::Refused(refusal::SCALAR_CODE);
+        return Err(Refusal::ScalarCode);
     }
     let size = scalar_size(code);
-    LayoutAnswer::Layout(DstLayout {
+    Ok(DstLayout {
         align: size,
         size_info: SizeInfo::Sized { size },
         statically_shallow_unpadded: true,

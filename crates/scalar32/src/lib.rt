@@ -1,14 +1,14 @@
 // Scalars by code on the 32-bit target.
 #![tactic(auto)]
 
+ghost use Rattle.layout.specs.View.{layout_says};
 ghost use Rattle.std.specs.Prelude.{◌≡◌, ◌<◌, min, get_or};
 ghost use Rattle.util_defs.specs.Refusal.{Meets};
 ghost use Rattle.scalar.specs.Scalar.{scalar_causes, scalar_layout, scalar_for};
-ghost use Rattle.layouts32.specs.View.{layout_says32};
 ghost use Rattle.scalar32.specs.Target.{target32, greatest_scalar_align};
 
-use layouts32::{DstLayout32, LayoutAnswer32, SizeInfo32};
-use util::refusal;
+use layout::{DstLayout, SizeInfo};
+use util::Refusal;
 
 // The sizes of the scalars by code: powers of two, in two bits each, the first lowest.
 const SCALAR_POWERS: u32 = 0b10_00_10_11_10_11_10_01_00;
@@ -36,17 +36,17 @@ fn scalar_align(size: u32) -> u32
 }
 
 // The layout of a scalar.
-pub fn scalar(code: u32) -> LayoutAnswer32
-    ensures answer { layout_says32 result ≡ scalar_for target32 code }
-    ensures meaning { Meets (scalar_causes code) (λ l. l ≡ scalar_layout target32 code) (layout_says32 result) }
+pub fn scalar(code: u32) -> Result<DstLayout<u32>, Refusal>
+    ensures answer { layout_says result ≡ scalar_for target32 code }
+    ensures meaning { Meets (scalar_causes code) (λ l. l ≡ scalar_layout target32 code) (layout_says result) }
 {
     if code > GREATEST_SCALAR_CODE {
-        return LayoutAnswer32::Refused(refusal::SCALAR_CODE);
+        return Err(Refusal::ScalarCode);
     }
     let size = scalar_size(code);
-    LayoutAnswer32::Layout(DstLayout32 {
+    Ok(DstLayout {
         align: scalar_align(size),
-        size_info: SizeInfo32::Sized { size },
+        size_info: SizeInfo::Sized { size },
         statically_shallow_unpadded: true,
         align_modifier: false,
     })

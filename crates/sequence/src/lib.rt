@@ -12,9 +12,9 @@ ghost use Rattle.trailing_defs.specs.Sequence.{same_start, same_stride, same_seq
 ghost use Rattle.trailing_defs.specs.Calls.{same_causes, same_for, FoundSame};
 ghost use Rattle.trailing.specs.View.{trailing_of};
 
-use rounding::ComponentsAnswer;
-use trailing::{SizeAnswer, TrailingSliceLayout};
-use util::Decision;
+use rounding::Components;
+use trailing::TrailingSliceLayout;
+use util::Refusal;
 
 // The part of the comparison that looks past the sizes at 0: the element size is a multiple of the larger alignment, or both
 // alignments and both phases are equal. Either is enough for equal sizes at every count, and neither is needed. The larger of
@@ -37,29 +37,27 @@ fn same_stride(elem: u64, align: u64, phase: u64, align2: u64, phase2: u64) -> b
 }
 
 // Whether the sizes at 0 exist and are equal.
-fn same_start(first: TrailingSliceLayout, other: TrailingSliceLayout) -> bool
+fn same_start(first: TrailingSliceLayout<u64>, other: TrailingSliceLayout<u64>) -> bool
     requires { (0 < (trailing_of first).word) × (0 < (trailing_of other).word) }
     ensures { result ≡ same_start 64 (trailing_of first) (trailing_of other) }
 {
-    let SizeAnswer::Size(first_size) = first.size_for_elems(0) else {
+    let Ok(first_size) = first.size_for_elems(0) else {
         return false;
     };
-    let SizeAnswer::Size(other_size) = other.size_for_elems(0) else {
+    let Ok(other_size) = other.size_for_elems(0) else {
         return false;
     };
     first_size == other_size
 }
 
 fn has_same_size_sequence_at(
-    first: TrailingSliceLayout,
-    align: u64,
-    phase: u64,
-    other: TrailingSliceLayout,
-    align2: u64,
-    phase2: u64,
+    first: TrailingSliceLayout<u64>,
+    parts: Components<u64>,
+    other: TrailingSliceLayout<u64>,
+    other_parts: Components<u64>,
 ) -> bool
-    requires { IsWord first.size_rounding_align_and_phase.0 align phase × IsWord other.size_rounding_align_and_phase.0
-        align2 phase2 }
+    requires { IsWord first.size_rounding_align_and_phase.0 parts.align parts.phase × IsWord other.size_rounding_align_and_phase.0
+        other_parts.align other_parts.phase }
     ensures { result ≡ same_sequence 64 (trailing_of first) (trailing_of other) }
 {
     let elem = first.elem_size;
@@ -67,30 +65,30 @@ fn has_same_size_sequence_at(
         return false;
     }
     if same_start(first, other) {
-        same_stride(elem, align, phase, align2, phase2)
+        same_stride(
+            elem,
+            parts.align,
+            parts.phase,
+            other_parts.align,
+            other_parts.phase,
+        )
     } else {
         false
     }
 }
 
 // Whether the two layouts are found to have the same size at every count. A no does not mean that they have not.
-pub fn has_same_size_sequence(first: TrailingSliceLayout, other: TrailingSliceLayout) -> Decision
+pub fn has_same_size_sequence(
+    first: TrailingSliceLayout<u64>,
+    other: TrailingSliceLayout<u64>,
+) -> Result<bool, Refusal>
     ensures answer { decision_says result ≡ same_for 64 (trailing_of first) (trailing_of other) }
     ensures meaning { Meets (same_causes (trailing_of first) (trailing_of other)) (FoundSame 64 (trailing_of first) (trailing_of other))
         (decision_says result) }
 {
     let word = first.size_rounding_align_and_phase;
     let other_word = other.size_rounding_align_and_phase;
-    match word.components() {
-        ComponentsAnswer::Components { align, phase } => match other_word.components() {
-            ComponentsAnswer::Components {
-                align: align2,
-                phase: phase2,
-            } => Decision::Is(has_same_size_sequence_at(
-                first, align, phase, other, align2, phase2,
-            )),
-            ComponentsAnswer::Refused(number) => Decision::Refused(number),
-        },
-        ComponentsAnswer::Refused(number) => Decision::Refused(number),
-    }
+    let parts = word.components()?;
+    let other_parts = other_word.components()?;
+    Ok(has_same_size_sequence_at(first, parts, other, other_parts))
 }

@@ -5,70 +5,35 @@
 ghost use Rattle.std.specs.Prelude.{◌≡◌, cond, ◌<◌, eqb};
 ghost use Rattle.util_defs.specs.Placed.{reached, go_on};
 ghost use Rattle.trailing.specs.View.{trailing_of};
-ghost use Rattle.trailing32.specs.View.{trailing_of32};
 ghost use Rattle.gcd_defs.specs.Fraction.{reduced};
 ghost use Rattle.share_defs.specs.Totals.{Totals};
 ghost use Rattle.share_defs.specs.Share.{nothing, share_of, share_for};
 ghost use Rattle.share_defs.specs.Meaning.{ShareMeans};
 ghost use Rattle.sums.specs.View.{sums_of, sums_says};
-ghost use Rattle.share.specs.View.{fraction_of, share_is, share_says, share_is32, share_says32, low_share};
+ghost use Rattle.share.specs.View.{fraction_of, share_is, share_says, low_share};
 
-use sums::{Sums, SumsAnswer};
+use sums::Sums;
 use trailing::TrailingSliceLayout;
-use trailing32::TrailingSliceLayout32;
+use util::RefusedAt;
 
 // One number over another.
 #[derive(Clone, Copy)]
-pub struct Fraction {
-    pub numerator: u64,
-    pub denominator: u64,
+pub struct Fraction<N, D> {
+    pub numerator: N,
+    pub denominator: D,
 }
 
 // Total padding over total size and the mean size, in lowest terms; the greatest padding and its first index.
 #[derive(Clone, Copy)]
-pub struct Share {
-    pub padding: Fraction,
-    pub mean: Fraction,
-    pub greatest: u64,
+pub struct Share<N> {
+    pub padding: Fraction<N, N>,
+    pub mean: Fraction<N, u64>,
+    pub greatest: N,
     pub index: u64,
-}
-
-// Those, or the number of the refusal and its place.
-#[derive(Clone, Copy)]
-pub enum ShareAnswer {
-    Share(Share),
-    Refused { number: u64, place: u64 },
-}
-
-// The same at 32 bits. There may be more counts than 32 bits number: how many there are, and an index, have 64 bits.
-#[derive(Clone, Copy)]
-pub struct Fraction32 {
-    pub numerator: u32,
-    pub denominator: u32,
-}
-
-#[derive(Clone, Copy)]
-pub struct Mean32 {
-    pub numerator: u32,
-    pub denominator: u64,
-}
-
-#[derive(Clone, Copy)]
-pub struct Share32 {
-    pub padding: Fraction32,
-    pub mean: Mean32,
-    pub greatest: u32,
-    pub index: u64,
-}
-
-#[derive(Clone, Copy)]
-pub enum ShareAnswer32 {
-    Share(Share32),
-    Refused { number: u64, place: u64 },
 }
 
 // A quotient in lowest terms.
-fn lowest_terms(numerator: u64, denominator: u64) -> Fraction
+fn lowest_terms(numerator: u64, denominator: u64) -> Fraction<u64, u64>
     requires { 0 < denominator }
     ensures { fraction_of result ≡ reduced numerator denominator }
 {
@@ -80,7 +45,7 @@ fn lowest_terms(numerator: u64, denominator: u64) -> Fraction
 }
 
 // Total padding over total size: 0 over 1 for total 0.
-fn padding_share(paddings: u64, sizes: u64) -> Fraction
+fn padding_share(paddings: u64, sizes: u64) -> Fraction<u64, u64>
     ensures { fraction_of result ≡ cond (eqb sizes 0) nothing (reduced paddings sizes) }
 {
     if sizes == 0 {
@@ -94,7 +59,7 @@ fn padding_share(paddings: u64, sizes: u64) -> Fraction
 }
 
 // What the sums over so many counts give.
-fn share_of(x: Sums, count: u64) -> Share
+fn share_of(x: Sums, count: u64) -> Share<u64>
     requires { 0 < count }
     ensures { share_is result ≡ share_of count (sums_of x) }
 {
@@ -107,18 +72,22 @@ fn share_of(x: Sums, count: u64) -> Share
 }
 
 // The same, or the first refusal.
-fn share_of_sums(answer: SumsAnswer, count: u64) -> ShareAnswer
+fn share_of_sums(
+    answer: Result<Sums, RefusedAt<u64>>,
+    count: u64,
+) -> Result<Share<u64>, RefusedAt<u64>>
     requires { (x : Totals) → sums_says answer ≡ reached x → 0 < count }
     ensures { share_says result ≡ go_on (sums_says answer) (λ x. reached (share_of count x)) }
 {
-    match answer {
-        SumsAnswer::Sums(x) => ShareAnswer::Share(share_of(x, count)),
-        SumsAnswer::Refused { number, place } => ShareAnswer::Refused { number, place },
-    }
+    let x = answer?;
+    Ok(share_of(x, count))
 }
 
 // How much of the sizes at these counts is padding: total padding over total size, the mean size, and the greatest padding.
-pub fn padding_of_counts(layout: TrailingSliceLayout, counts: &[u64]) -> ShareAnswer
+pub fn padding_of_counts(
+    layout: TrailingSliceLayout<u64>,
+    counts: &[u64],
+) -> Result<Share<u64>, RefusedAt<u64>>
     ensures answer { share_says result ≡ share_for 64 (trailing_of layout) counts.now }
     ensures meaning { ShareMeans 64 (trailing_of layout) counts.now (share_says result) }
 {
@@ -126,17 +95,17 @@ pub fn padding_of_counts(layout: TrailingSliceLayout, counts: &[u64]) -> ShareAn
 }
 
 // A share narrowed to 32 bits, which hold it.
-fn low_share(share: Share) -> Share32
-    ensures { share_is32 result ≡ low_share 32 (share_is share) }
+fn low_share(share: Share<u64>) -> Share<u32>
+    ensures { share_is result ≡ low_share 32 (share_is share) }
 {
     let padding = share.padding;
     let mean = share.mean;
-    Share32 {
-        padding: Fraction32 {
+    Share {
+        padding: Fraction {
             numerator: numbers32::low_word(padding.numerator),
             denominator: numbers32::low_word(padding.denominator),
         },
-        mean: Mean32 {
+        mean: Fraction {
             numerator: numbers32::low_word(mean.numerator),
             denominator: mean.denominator,
         },
@@ -145,19 +114,20 @@ fn low_share(share: Share) -> Share32
     }
 }
 
-fn low_answer(answer: ShareAnswer) -> ShareAnswer32
-    ensures { share_says32 result ≡ go_on (share_says answer) (λ x. reached (low_share 32 x)) }
+fn low_answer(answer: Result<Share<u64>, RefusedAt<u64>>) -> Result<Share<u32>, RefusedAt<u64>>
+    ensures { share_says result ≡ go_on (share_says answer) (λ x. reached (low_share 32 x)) }
 {
-    match answer {
-        ShareAnswer::Share(share) => ShareAnswer32::Share(low_share(share)),
-        ShareAnswer::Refused { number, place } => ShareAnswer32::Refused { number, place },
-    }
+    let share = answer?;
+    Ok(low_share(share))
 }
 
 // The same at 32 bits.
-pub fn padding_of_counts32(layout: TrailingSliceLayout32, counts: &[u32]) -> ShareAnswer32
-    ensures answer { share_says32 result ≡ share_for 32 (trailing_of32 layout) counts.now }
-    ensures meaning { ShareMeans 32 (trailing_of32 layout) counts.now (share_says32 result) }
+pub fn padding_of_counts32(
+    layout: TrailingSliceLayout<u32>,
+    counts: &[u32],
+) -> Result<Share<u32>, RefusedAt<u64>>
+    ensures answer { share_says result ≡ share_for 32 (trailing_of layout) counts.now }
+    ensures meaning { ShareMeans 32 (trailing_of layout) counts.now (share_says result) }
 {
     low_answer(share_of_sums(sums::sums_of_counts32(layout, counts), counts.len() as u64))
 }

@@ -1,4 +1,6 @@
 -- What the answer of a shift tells its callers. Assumes nothing.
+use Rattle.util.specs.declared.refusal.Refusal.{Refusal}
+use Rattle.std.specs.Prelude.{Err, Ok, Option, Result}
 use mathlib.Core.Path.{◌≡◌, sym, ap₂, ◌∙◌}
 use Prim.Native.Nat.{ℕ, ◌^◌, ◌<◌}
 use borrow.Author.Tests.{ne_eqb}
@@ -11,9 +13,6 @@ use Rattle.layout_defs.specs.Layout.{Info, trailing, Layout, layout_causes}
 use Rattle.shift_defs.specs.Match.{Comparison}
 use Rattle.shift_defs.specs.Shift.{shift_of, shift_between, shift_causes, shift_for}
 use Rattle.shift.specs.View.{shift_in, shift_says}
-use Rattle.shift.specs.declared.Shift as Code
-use Rattle.shift.specs.declared.ShiftAnswer.{ShiftAnswer}
-use Rattle.shift.specs.declared.ShiftAnswer.TheVariants as Answer
 use Rattle.shift_defs.proofs.Shifts.{shift_decided}
 
 -- between trailing layouts that are accepted, the elements of the second having a size, the shift is answered
@@ -26,14 +25,14 @@ shift_answered w same l m s t hl hm ol om i j n =
     ∙ simp (ne_eqb t.elem 0 (λ z. omega arith))
 
 -- so it is what a caller finds, and no refusal
-pub shift_told : {d : Code.Shift} (w : ℕ) (same : Comparison) (l m : Layout) (s t : Trailing) (r : ShiftAnswer) → l.align < 2 ^ w → m.align < 2 ^ w
+pub shift_told : {d : Option ℕ} (w : ℕ) (same : Comparison) (l m : Layout) (s t : Trailing) (r : Result (Option ℕ) Refusal) → l.align < 2 ^ w → m.align < 2 ^ w
     → None (layout_causes w l) → None (layout_causes w m) → l.info ≡ trailing s → m.info ≡ trailing t → 0 < t.elem
-    → shift_says r ≡ shift_for w same l m → r ≡ Answer.Shift d → shift_in d ≡ shift_of w same s m t
+    → shift_says r ≡ shift_for w same l m → r ≡ Ok d → shift_in d ≡ shift_of w same s m t
 shift_told {d} w same l m s t r hl hm ol om i j n e g =
     let z : answered (shift_in d) ≡ answered (shift_of w same s m t) = sym (told_by shift_says e g) ∙ shift_answered w same l m s t hl hm ol om i j n in
     cc
 
-pub shift_kept : {k : ℕ} (w : ℕ) (same : Comparison) (l m : Layout) (s t : Trailing) (r : ShiftAnswer) → l.align < 2 ^ w → m.align < 2 ^ w
+pub shift_kept : {k : Refusal} (w : ℕ) (same : Comparison) (l m : Layout) (s t : Trailing) (r : Result (Option ℕ) Refusal) → l.align < 2 ^ w → m.align < 2 ^ w
     → None (layout_causes w l) → None (layout_causes w m) → l.info ≡ trailing s → m.info ≡ trailing t → 0 < t.elem
-    → shift_says r ≡ shift_for w same l m → r ≡ Answer.Refused k → ⊥
+    → shift_says r ≡ shift_for w same l m → r ≡ Err k → ⊥
 shift_kept w same l m s t r hl hm ol om i j n e g = apart (sym (told_by shift_says e g) ∙ shift_answered w same l m s t hl hm ol om i j n)

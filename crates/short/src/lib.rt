@@ -15,9 +15,9 @@ ghost use Rattle.short_defs.specs.Short.{encoded_short_words_into, encode_short_
 ghost use Rattle.short_defs.proofs.Fields.{Holds};
 ghost use Rattle.short.specs.View.{short_in};
 
-use layout::{DstLayout, LayoutAnswer, SizeInfo};
-use record::{EncodeAnswer, GREATEST_KIND, Words};
-use util::refusal;
+use layout::{DstLayout, SizeInfo};
+use record::{GREATEST_KIND, Words};
+use util::Refusal;
 
 // The fields of a short record. The last four share its last eight bytes.
 #[derive(Clone, Copy)]
@@ -107,35 +107,35 @@ fn put_short(out: &mut [u8], r: Short)
 }
 
 // The layout of the fields of a short record, tested in the order of document 02. An alignment by its power is never refused.
-fn layout_from_short(r: Short) -> LayoutAnswer
+fn layout_from_short(r: Short) -> Result<DstLayout<u64>, Refusal>
     ensures { layout_says result ≡ unless (from_short_causes (short_in r)) (words_layout (words_from (short_in r))) }
 {
     if r.kind > GREATEST_KIND {
-        return LayoutAnswer::Refused(refusal::KIND);
+        return Err(Refusal::Kind);
     }
     if r.spare != 0 {
-        return LayoutAnswer::Refused(refusal::SPARE_OR_POWER);
+        return Err(Refusal::SpareOrPower);
     }
     if r.power > GREATEST_POWER {
-        return LayoutAnswer::Refused(refusal::SPARE_OR_POWER);
+        return Err(Refusal::SpareOrPower);
     }
     record::layout_from_words(words_of(r))
 }
 
 // The layout of a short record.
-pub fn decode_short(s: &[u8]) -> LayoutAnswer
+pub fn decode_short(s: &[u8]) -> Result<DstLayout<u64>, Refusal>
     ensures answer { layout_says result ≡ decode_short_for s.now }
     ensures meaning { Meets (decode_short_causes s.now) (DecodesShort s.now) (layout_says result) }
 {
     if s.len() == SHORT_BYTES {
         layout_from_short(read_short(s))
     } else {
-        LayoutAnswer::Refused(refusal::RECORD_LENGTH)
+        Err(Refusal::RecordLength)
     }
 }
 
 // Whether the rounding word of a layout, if it has one, is held in 32 bits.
-pub fn fits_short(l: DstLayout) -> bool
+pub fn fits_short(l: DstLayout<u64>) -> bool
     ensures { result ≡ leb (words_of (layout_of l)).word (M 32) }
 {
     let size_info = l.size_info;
@@ -149,29 +149,25 @@ pub fn fits_short(l: DstLayout) -> bool
 }
 
 // The short record of six words, tested as a record's are, into the lent bytes; a refusal leaves them as they were.
-pub fn encode_short_words(w: Words, out: &mut [u8]) -> EncodeAnswer
+pub fn encode_short_words(w: Words, out: &mut [u8]) -> Result<(), Refusal>
     ensures answer { encode_says result ≡ encode_short_words_for (words_in w) (length out.old) }
     ensures bytes { out.new ≡ encoded_short_words_into (words_in w) out.old }
 {
     if out.len() == SHORT_BYTES {
-        match record::layout_from_words(w) {
-            LayoutAnswer::Layout(l) => {
-                if fits_short(l) {
-                    put_short(out, short_of(record::words_from_layout(l)));
-                    EncodeAnswer::Encoded
-                } else {
-                    EncodeAnswer::Refused(refusal::WORD_ABOVE_SHORT)
-                }
-            }
-            LayoutAnswer::Refused(number) => EncodeAnswer::Refused(number),
+        let l = record::layout_from_words(w)?;
+        if fits_short(l) {
+            put_short(out, short_of(record::words_from_layout(l)));
+            Ok(())
+        } else {
+            Err(Refusal::WordAboveShort)
         }
     } else {
-        EncodeAnswer::Refused(refusal::RECORD_LENGTH)
+        Err(Refusal::RecordLength)
     }
 }
 
 // The short record of a layout, into the lent bytes; a refusal leaves them as they were.
-pub fn encode_short(l: DstLayout, out: &mut [u8]) -> EncodeAnswer
+pub fn encode_short(l: DstLayout<u64>, out: &mut [u8]) -> Result<(), Refusal>
     ensures answer { encode_says result ≡ encode_short_for (layout_of l) (length out.old) }
     ensures bytes { out.new ≡ encoded_short_into (layout_of l) out.old }
 {

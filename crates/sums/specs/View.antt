@@ -1,4 +1,8 @@
 -- What the types of this crate are, over numbers. Assumes nothing.
+use Rattle.std.specs.Prelude.{Result, Ok, Err}
+use Rattle.util.specs.View.{number_of, says, placed_says}
+use Rattle.util.specs.declared.refusal.Refusal.{Refusal}
+use Rattle.util.specs.declared.refusal.RefusedAt.{RefusedAt}
 use Rattle.std.specs.Prelude.{◌≡◌, cond, List, ℕ, ◌^◌, ◌<◌, eqb, length}
 use Rattle.util_defs.specs.Width.{M}
 use Rattle.util_defs.specs.Refusal.{Outcome, answered, refused}
@@ -11,12 +15,6 @@ use Rattle.share_defs.specs.Totals.{Totals}
 use Rattle.share_defs.specs.Share.{sums_for}
 use Rattle.sums.specs.declared.Sums.{Sums}
 use Rattle.sums.specs.declared.Tested.{Tested}
-use Rattle.sums.specs.declared.TestAnswer.{TestAnswer}
-use Rattle.sums.specs.declared.TestAnswer.TheVariants as Test
-use Rattle.sums.specs.declared.AddAnswer.{AddAnswer}
-use Rattle.sums.specs.declared.AddAnswer.TheVariants as Add
-use Rattle.sums.specs.declared.SumsAnswer.{SumsAnswer}
-use Rattle.sums.specs.declared.SumsAnswer.TheVariants as Sum
 
 abbrev pub sums_of : Sums → Totals
 sums_of x = record { sizes = x.sizes; paddings = x.paddings; greatest = x.greatest; index = x.index }
@@ -38,16 +36,14 @@ IsTested l =
 
 -- what is tested of a layout before its counts, of which there are so many: it is that layout, and there are some; or whatever
 -- the counts are, they are refused
-abbrev pub TestMeans : Trailing → (max count : ℕ) → TestAnswer → Type 0
-TestMeans t max count (Test.Tested l) =
+abbrev pub TestMeans : Trailing → (max count : ℕ) → Result Tested Refusal → Type 0
+TestMeans t max count (Ok l) =
     IsTested l × ((trailing_of l.layout ≡ t) × ((l.max ≡ max) × (0 < count)))
-TestMeans t max count (Test.Refused k) =
-    (ns : List ℕ) → length ns ≡ count → stopped k 0 ≡ sums_for (bits_to max) t ns
+TestMeans t max count (Err r) =
+    (ns : List ℕ) → length ns ≡ count → stopped (number_of r) 0 ≡ sums_for (bits_to max) t ns
 
-abbrev pub add_says : AddAnswer → Outcome Totals
-add_says (Add.Sums x) = answered (sums_of x)
-add_says (Add.Refused k) = refused k
+abbrev pub add_says : Result Sums Refusal → Outcome Totals
+add_says = says sums_of
 
-abbrev pub sums_says : SumsAnswer → Placed Totals
-sums_says (Sum.Sums x) = reached (sums_of x)
-sums_says (Sum.Refused k i) = stopped k i
+abbrev pub sums_says : Result Sums (RefusedAt ℕ) → Placed Totals
+sums_says = placed_says sums_of

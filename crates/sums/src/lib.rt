@@ -9,15 +9,13 @@ ghost use Rattle.util_defs.specs.Refusal.{unless};
 ghost use Rattle.rounding.specs.Word.{IsWord};
 ghost use Rattle.trailing_defs.specs.Size.{size_at};
 ghost use Rattle.trailing.specs.View.{trailing_of};
-ghost use Rattle.trailing32.specs.View.{trailing_of32};
 ghost use Rattle.share_defs.specs.Totals.{sum_passes, no_totals, with_count, add_count, totals_from};
 ghost use Rattle.share_defs.specs.Share.{sums_for};
 ghost use Rattle.sums.specs.View.{sums_of, bits_to, bits_of, IsTested, TestMeans, add_says, sums_says};
 
-use rounding::ComponentsAnswer;
+use rounding::Components;
 use trailing::TrailingSliceLayout;
-use trailing32::TrailingSliceLayout32;
-use util::{Answer, Product, refusal};
+use util::{Refusal, RefusedAt};
 
 // The sums over the counts so far, the greatest padding and its first index.
 #[derive(Clone, Copy)]
@@ -28,59 +26,38 @@ pub struct Sums {
     pub index: u64,
 }
 
-// The sums with one count more, or the number of the refusal.
-#[derive(Clone, Copy)]
-enum AddAnswer {
-    Sums(Sums),
-    Refused(u64),
-}
-
-// The sums over all counts, or the number of the first refusal and its place.
-#[derive(Clone, Copy)]
-pub enum SumsAnswer {
-    Sums(Sums),
-    Refused { number: u64, place: u64 },
-}
-
 // A layout whose word was tested, with what each count needs of it and is worked out once: the alignment and the phase of the
 // word, the greatest number of the width, and the greatest number of trailing bytes that has a size at that width.
 #[derive(Clone, Copy)]
 struct Tested {
-    layout: TrailingSliceLayout,
+    layout: TrailingSliceLayout<u64>,
     align: u64,
     phase: u64,
     max: u64,
     most: u64,
 }
 
-// A layout that was tested, or the number of the refusal, which is at place 0.
-#[derive(Clone, Copy)]
-enum TestAnswer {
-    Tested(Tested),
-    Refused(u64),
-}
-
 // The sums with the size and the padding of the count at i. A padding is no more than its size, so that the sum of the paddings
 // passes nothing that the sum of the sizes does not.
-fn add_sized(x: Sums, i: u64, size: u64, padding: u64, max: u64) -> AddAnswer
+fn add_sized(x: Sums, i: u64, size: u64, padding: u64, max: u64) -> Result<Sums, Refusal>
     requires { (max ≡ M (bits_to max)) × ((x.paddings ≤ x.sizes) × ((padding ≤ size) × (size ≤ max))) }
     ensures { add_says result ≡ unless (sum_passes (bits_to max) (x.sizes + size) (x.paddings + padding) ∷ [])
         (with_count i size padding (sums_of x)) }
 {
     if x.sizes > max - size {
-        return AddAnswer::Refused(refusal::SUM_PASSES_MAX);
+        return Err(Refusal::SumPassesMax);
     }
     let sizes = x.sizes + size;
     let paddings = x.paddings + padding;
     if padding > x.greatest {
-        return AddAnswer::Sums(Sums {
+        return Ok(Sums {
             sizes,
             paddings,
             greatest: padding,
             index: i,
         });
     }
-    AddAnswer::Sums(Sums {
+    Ok(Sums {
         sizes,
         paddings,
         greatest: x.greatest,
@@ -101,7 +78,7 @@ fn size_of(l: Tested, bytes: u64) -> u64
 
 // The sums with a count of so many trailing bytes, which have a size. The end of the elements is compared in two steps: it may
 // pass the greatest number.
-fn add_bytes(l: Tested, x: Sums, i: u64, bytes: u64) -> AddAnswer
+fn add_bytes(l: Tested, x: Sums, i: u64, bytes: u64) -> Result<Sums, Refusal>
     requires { IsTested l × ((bytes ≤ l.most) × (x.paddings ≤ x.sizes)) }
     ensures { (n : ℕ) → bytes ≡ n * (trailing_of l.layout).elem
         → add_says result ≡ add_count (bits_of l) (trailing_of l.layout) i n (sums_of x) }
@@ -109,32 +86,32 @@ fn add_bytes(l: Tested, x: Sums, i: u64, bytes: u64) -> AddAnswer
     let layout = l.layout;
     let size = size_of(l, bytes);
     if size < layout.offset {
-        return AddAnswer::Refused(refusal::END_ABOVE_SIZE);
+        return Err(Refusal::EndAboveSize);
     }
     let past_offset = size - layout.offset;
     if past_offset < bytes {
-        return AddAnswer::Refused(refusal::END_ABOVE_SIZE);
+        return Err(Refusal::EndAboveSize);
     }
     add_sized(x, i, size, past_offset - bytes, l.max)
 }
 
 // The sums with the count at i.
-fn add_count(l: Tested, x: Sums, i: u64, count: u64) -> AddAnswer
+fn add_count(l: Tested, x: Sums, i: u64, count: u64) -> Result<Sums, Refusal>
     requires { IsTested l × (x.paddings ≤ x.sizes) }
     ensures { add_says result ≡ add_count (bits_of l) (trailing_of l.layout) i count (sums_of x) }
 {
     let layout = l.layout;
-    let Product::Fits(bytes) = util::checked_mul(count, layout.elem_size) else {
-        return AddAnswer::Refused(refusal::NO_SIZE);
+    let Some(bytes) = util::checked_mul(count, layout.elem_size) else {
+        return Err(Refusal::NoSize);
     };
     if bytes > l.most {
-        return AddAnswer::Refused(refusal::NO_SIZE);
+        return Err(Refusal::NoSize);
     }
     add_bytes(l, x, i, bytes)
 }
 
 // The sums over all counts, or the first refusal.
-fn add_counts(l: Tested, counts: &[u64]) -> SumsAnswer
+fn add_counts(l: Tested, counts: &[u64]) -> Result<Sums, RefusedAt<u64>>
     requires { IsTested l }
     ensures { sums_says result ≡ totals_from (bits_of l) (trailing_of l.layout) 0 counts.now no_totals }
 {
@@ -147,23 +124,23 @@ fn add_counts(l: Tested, counts: &[u64]) -> SumsAnswer
     let mut i = 0;
     while i < counts.len() {
         match add_count(l, x, i as u64, counts[i]) {
-            AddAnswer::Sums(next) => {
+            Ok(next) => {
                 x = next;
             }
-            AddAnswer::Refused(number) => {
-                return SumsAnswer::Refused {
-                    number,
+            Err(refusal) => {
+                return Err(RefusedAt {
+                    refusal,
                     place: i as u64,
-                };
+                });
             }
         }
         i += 1;
     }
-    SumsAnswer::Sums(x)
+    Ok(x)
 }
 
 // The same over counts of 32 bits.
-fn add_counts32(l: Tested, counts: &[u32]) -> SumsAnswer
+fn add_counts32(l: Tested, counts: &[u32]) -> Result<Sums, RefusedAt<u64>>
     requires { IsTested l }
     ensures { sums_says result ≡ totals_from (bits_of l) (trailing_of l.layout) 0 counts.now no_totals }
 {
@@ -176,82 +153,83 @@ fn add_counts32(l: Tested, counts: &[u32]) -> SumsAnswer
     let mut i = 0;
     while i < counts.len() {
         match add_count(l, x, i as u64, counts[i] as u64) {
-            AddAnswer::Sums(next) => {
+            Ok(next) => {
                 x = next;
             }
-            AddAnswer::Refused(number) => {
-                return SumsAnswer::Refused {
-                    number,
+            Err(refusal) => {
+                return Err(RefusedAt {
+                    refusal,
                     place: i as u64,
-                };
+                });
             }
         }
         i += 1;
     }
-    SumsAnswer::Sums(x)
+    Ok(x)
 }
 
 // A layout by the parts of its word, where it has a size at 0: else the first count is refused.
 fn test_size(
-    layout: TrailingSliceLayout,
-    align: u64,
-    phase: u64,
+    layout: TrailingSliceLayout<u64>,
+    parts: Components<u64>,
     max: u64,
     count: u64,
-) -> TestAnswer
+) -> Result<Tested, Refusal>
     requires { ((max ≡ M (bits_to max)) × ((trailing_of layout).word < 2 ^ bits_to max))
-        × (IsWord (trailing_of layout).word align phase × (0 < count)) }
+        × (IsWord (trailing_of layout).word parts.align parts.phase × (0 < count)) }
     ensures { TestMeans (trailing_of layout) max count result }
 {
     match layout.max_trailing_bytes(max) {
-        Answer::Number(most) => TestAnswer::Tested(Tested {
+        Ok(most) => Ok(Tested {
             layout,
-            align,
-            phase,
+            align: parts.align,
+            phase: parts.phase,
             max,
             most,
         }),
-        Answer::Refused(_) => TestAnswer::Refused(refusal::NO_SIZE_AT_ZERO),
+        Err(_) => Err(Refusal::NoSizeAtZero),
     }
 }
 
 // What refuses before any count: the layout, so many counts, and no size at 0.
-fn test(layout: TrailingSliceLayout, max: u64, count: u64) -> TestAnswer
+fn test(layout: TrailingSliceLayout<u64>, max: u64, count: u64) -> Result<Tested, Refusal>
     requires { (max ≡ M (bits_to max)) × ((trailing_of layout).word < 2 ^ bits_to max) }
     ensures { TestMeans (trailing_of layout) max count result }
 {
     let word = layout.size_rounding_align_and_phase;
-    match word.components() {
-        ComponentsAnswer::Components { align, phase } => {
-            if count == 0 {
-                return TestAnswer::Refused(refusal::NO_COUNTS);
-            }
-            test_size(layout, align, phase, max, count)
-        }
-        ComponentsAnswer::Refused(number) => TestAnswer::Refused(number),
+    let parts = word.components()?;
+    if count == 0 {
+        return Err(Refusal::NoCounts);
     }
+    test_size(layout, parts, max, count)
 }
 
 // The sums over the sizes at these counts.
-pub fn sums_of_counts(layout: TrailingSliceLayout, counts: &[u64]) -> SumsAnswer
+pub fn sums_of_counts(
+    layout: TrailingSliceLayout<u64>,
+    counts: &[u64],
+) -> Result<Sums, RefusedAt<u64>>
     ensures { sums_says result ≡ sums_for 64 (trailing_of layout) counts.now }
 {
     match test(layout, u64::MAX, counts.len() as u64) {
-        TestAnswer::Tested(l) => add_counts(l, counts),
-        TestAnswer::Refused(number) => SumsAnswer::Refused { number, place: 0 },
+        Ok(l) => add_counts(l, counts),
+        Err(refusal) => Err(RefusedAt { refusal, place: 0 }),
     }
 }
 
 // The same at 32 bits.
-pub fn sums_of_counts32(layout: TrailingSliceLayout32, counts: &[u32]) -> SumsAnswer
-    ensures { sums_says result ≡ sums_for 32 (trailing_of32 layout) counts.now }
+pub fn sums_of_counts32(
+    layout: TrailingSliceLayout<u32>,
+    counts: &[u32],
+) -> Result<Sums, RefusedAt<u64>>
+    ensures { sums_says result ≡ sums_for 32 (trailing_of layout) counts.now }
 {
     match test(
         trailing32::wide_tail(layout),
         numbers32::MAX,
         counts.len() as u64,
     ) {
-        TestAnswer::Tested(l) => add_counts32(l, counts),
-        TestAnswer::Refused(number) => SumsAnswer::Refused { number, place: 0 },
+        Ok(l) => add_counts32(l, counts),
+        Err(refusal) => Err(RefusedAt { refusal, place: 0 }),
     }
 }

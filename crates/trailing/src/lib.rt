@@ -12,36 +12,37 @@ ghost use Rattle.trailing_defs.specs.Calls.{size_offset_for, GreatestIn, SizeOff
 ghost use Rattle.trailing_defs.specs.Calls.{padding_for_elems, PaddingAt};
 ghost use Rattle.trailing_defs.specs.Sized.{sized, none_above, size_given, SizeMeans};
 ghost use Rattle.trailing_defs.specs.Size.{size_at, HasSize};
-ghost use Rattle.trailing.specs.View.{trailing_of, size_says};
+ghost use Rattle.trailing.specs.declared.SizeRefusal.TheVariants.{Refused};
+ghost use Rattle.trailing.specs.View.{trailing_of, no_size_says, size_says};
 
-use rounding::{ComponentsAnswer, RoundingAlignAndPhase};
-use util::{Answer, Product, refusal};
+use rounding::{Components, RoundingAlignAndPhase};
+use util::Refusal;
 
 #[derive(Clone, Copy)]
-pub struct TrailingSliceLayout {
+pub struct TrailingSliceLayout<N> {
     // The offset of the first byte of the elements. It need not be the least size.
-    pub offset: u64,
+    pub offset: N,
     // The size of an element.
-    pub elem_size: u64,
+    pub elem_size: N,
     // What the size has besides the rounded part.
-    pub size_base: u64,
+    pub size_base: N,
     // The alignment and phase of the rounding: the phase is the fixed part of what is rounded.
-    pub size_rounding_align_and_phase: RoundingAlignAndPhase,
+    pub size_rounding_align_and_phase: RoundingAlignAndPhase<N>,
 }
 
-// A size; no size at this count, and the greatest count that has one; or the number of another refusal.
+// Why there is no size: none at this count, and the greatest count that has one; or another refusal.
 #[derive(Clone, Copy)]
-pub enum SizeAnswer {
-    Size(u64),
-    NoSize { greatest: u64 },
-    Refused(u64),
+pub enum SizeRefusal<N> {
+    NoSize { greatest: N },
+    Refused(Refusal),
 }
 
-// A layout, or the number of the refusal.
-#[derive(Clone, Copy)]
-pub enum AdvanceAnswer {
-    Layout(TrailingSliceLayout),
-    Refused(u64),
+impl<N> From<Refusal> for SizeRefusal<N> {
+    ghost from_gives = { λ r s. s ≡ Refused r };
+
+    fn from(refusal: Refusal) -> SizeRefusal<N> {
+        SizeRefusal::Refused(refusal)
+    }
 }
 
 // What an empty run adds: a block of the alignment, but for phase 0 nothing.
@@ -63,150 +64,131 @@ fn trailing_remainder(elems: u64, elem: u64, align: u64) -> u64
 }
 
 // A function whose name ends in _at takes the parts of the layout's rounding word besides the layout.
-impl TrailingSliceLayout {
-    fn size_offset_at(self, align: u64, phase: u64) -> Answer
-        requires { IsWord self.size_rounding_align_and_phase.0 align phase }
+impl TrailingSliceLayout<u64> {
+    fn size_offset_at(self, parts: Components<u64>) -> Result<u64, Refusal>
+        requires { IsWord self.size_rounding_align_and_phase.0 parts.align parts.phase }
         ensures { number_says result ≡ size_offset_for 64 (trailing_of self) }
     {
-        match util::round_down_to_next_multiple_of_alignment(self.size_base, align) {
-            Answer::Number(aligned_base) => Answer::Number(aligned_base + phase),
-            Answer::Refused(number) => Answer::Refused(number),
-        }
+        let aligned_base = util::round_down_to_next_multiple_of_alignment(
+            self.size_base,
+            parts.align,
+        )?;
+        Ok(aligned_base + parts.phase)
     }
 
     // The base rounded down to a multiple of the alignment, plus the phase.
-    pub fn size_offset(self) -> Answer
+    pub fn size_offset(self) -> Result<u64, Refusal>
         ensures answer { number_says result ≡ size_offset_for 64 (trailing_of self) }
         ensures meaning { Meets (word_causes (trailing_of self).word) (SizeOffset (trailing_of self)) (number_says result) }
     {
         let word = self.size_rounding_align_and_phase;
-        match word.components() {
-            ComponentsAnswer::Components { align, phase } => self.size_offset_at(align, phase),
-            ComponentsAnswer::Refused(number) => Answer::Refused(number),
-        }
+        let parts = word.components()?;
+        self.size_offset_at(parts)
     }
 
-    fn max_trailing_bytes_at(self, align: u64, phase: u64, available: u64) -> Answer
-        requires { IsWord self.size_rounding_align_and_phase.0 align phase }
+    fn max_trailing_bytes_at(self, parts: Components<u64>, available: u64) -> Result<u64, Refusal>
+        requires { IsWord self.size_rounding_align_and_phase.0 parts.align parts.phase }
         ensures { number_says result ≡ max_trailing_for 64 (trailing_of self) available }
     {
+        let Components { align, phase } = parts;
         let rounded_phase = rounded_phase(align, phase);
         if u64::MAX - rounded_phase < self.size_base {
-            return Answer::Refused(refusal::NO_ROOM);
+            return Err(Refusal::NoRoom);
         }
         let minimum_size = self.size_base + rounded_phase;
         if available < minimum_size {
-            return Answer::Refused(refusal::NO_ROOM);
+            return Err(Refusal::NoRoom);
         }
         let extra_bytes = available - minimum_size;
-        match util::round_down_to_next_multiple_of_alignment(extra_bytes, align) {
-            // An empty run leaves rounded_phase - phase bytes that elements can use.
-            Answer::Number(aligned_bytes) => Answer::Number(
-                aligned_bytes + (rounded_phase - phase),
-            ),
-            Answer::Refused(number) => Answer::Refused(number),
-        }
+        let aligned_bytes = util::round_down_to_next_multiple_of_alignment(extra_bytes, align)?;
+        // An empty run leaves rounded_phase - phase bytes that elements can use.
+        Ok(aligned_bytes + (rounded_phase - phase))
     }
 
     // The greatest number of trailing bytes whose size is at most available_bytes.
-    pub fn max_trailing_bytes(self, available_bytes: u64) -> Answer
+    pub fn max_trailing_bytes(self, available_bytes: u64) -> Result<u64, Refusal>
         ensures answer { number_says result ≡ max_trailing_for 64 (trailing_of self) available_bytes }
         ensures meaning { Meets (max_trailing_causes 64 (trailing_of self) available_bytes)
             (GreatestIn 64 (trailing_of self) available_bytes) (number_says result) }
     {
         let word = self.size_rounding_align_and_phase;
-        match word.components() {
-            ComponentsAnswer::Components { align, phase } => {
-                self.max_trailing_bytes_at(align, phase, available_bytes)
-            }
-            ComponentsAnswer::Refused(number) => Answer::Refused(number),
-        }
+        let parts = word.components()?;
+        self.max_trailing_bytes_at(parts, available_bytes)
     }
 
-    fn padding_for_elems_at(self, align: u64, phase: u64, elems: u64) -> Answer
-        requires { IsWord self.size_rounding_align_and_phase.0 align phase }
+    fn padding_for_elems_at(self, parts: Components<u64>, elems: u64) -> Result<u64, Refusal>
+        requires { IsWord self.size_rounding_align_and_phase.0 parts.align parts.phase }
         ensures { number_says result ≡ padding_for_elems 64 (trailing_of self) elems }
     {
+        let Components { align, phase } = parts;
         let rounding_input = phase + trailing_remainder(elems, self.elem_size, align);
-        match util::padding_needed_for(rounding_input, align) {
-            // The bytes of the elements cancel out: what is left is base + phase - offset + padding.
-            Answer::Number(rounding_padding) => {
-                let fixed = std::num::wrapping_add_u64(self.size_base, phase);
-                let past = std::num::wrapping_sub_u64(fixed, self.offset);
-                Answer::Number(std::num::wrapping_add_u64(past, rounding_padding))
-            }
-            Answer::Refused(number) => Answer::Refused(number),
-        }
+        let rounding_padding = util::padding_needed_for(rounding_input, align)?;
+        // The bytes of the elements cancel out: what is left is base + phase - offset + padding.
+        let fixed = std::num::wrapping_add_u64(self.size_base, phase);
+        let past = std::num::wrapping_sub_u64(fixed, self.offset);
+        Ok(std::num::wrapping_add_u64(past, rounding_padding))
     }
 
     // The size at elems less the end of the elements, modulo 2^64.
-    pub fn padding_for_elems(self, elems: u64) -> Answer
+    pub fn padding_for_elems(self, elems: u64) -> Result<u64, Refusal>
         ensures answer { number_says result ≡ padding_for_elems 64 (trailing_of self) elems }
         ensures meaning { Meets (word_causes (trailing_of self).word) (PaddingAt 64 (trailing_of self) elems) (number_says result) }
     {
         let word = self.size_rounding_align_and_phase;
-        match word.components() {
-            ComponentsAnswer::Components { align, phase } => {
-                self.padding_for_elems_at(align, phase, elems)
-            }
-            ComponentsAnswer::Refused(number) => Answer::Refused(number),
-        }
+        let parts = word.components()?;
+        self.padding_for_elems_at(parts, elems)
     }
 
     // The size where the trailing bytes are at most what fits: the end of the elements and the padding after it.
-    fn size_at(self, align: u64, phase: u64, elems: u64, bytes: u64) -> SizeAnswer
-        requires { IsWord self.size_rounding_align_and_phase.0 align phase × (bytes ≡ elems * self.elem_size) × HasSize 64
+    fn size_at(
+        self,
+        parts: Components<u64>,
+        elems: u64,
+        bytes: u64,
+    ) -> Result<u64, SizeRefusal<u64>>
+        requires { IsWord self.size_rounding_align_and_phase.0 parts.align parts.phase × (bytes ≡ elems * self.elem_size) × HasSize 64
             (trailing_of self) elems }
         ensures { size_says result ≡ sized (size_at 64 (trailing_of self) elems) }
     {
-        match self.padding_for_elems_at(align, phase, elems) {
-            Answer::Number(padding) => {
-                let trailing_end = std::num::wrapping_add_u64(self.offset, bytes);
-                SizeAnswer::Size(std::num::wrapping_add_u64(trailing_end, padding))
-            }
-            Answer::Refused(number) => SizeAnswer::Refused(number),
-        }
+        let padding = self.padding_for_elems_at(parts, elems)?;
+        let trailing_end = std::num::wrapping_add_u64(self.offset, bytes);
+        Ok(std::num::wrapping_add_u64(trailing_end, padding))
     }
 
     // The greatest count that has a size: as many elements as the greatest number of trailing bytes holds. The divide stands here
     // alone, so that no path to a size has one.
-    fn no_size(self, max_trailing_bytes: u64) -> SizeAnswer
+    fn no_size(self, max_trailing_bytes: u64) -> SizeRefusal<u64>
         requires { 0 < (trailing_of self).elem }
-        ensures { size_says result ≡ none_above (max_trailing_bytes / (trailing_of self).elem) }
+        ensures { no_size_says result ≡ none_above (max_trailing_bytes / (trailing_of self).elem) }
     {
-        SizeAnswer::NoSize {
+        SizeRefusal::NoSize {
             greatest: max_trailing_bytes / self.elem_size,
         }
     }
 
-    fn size_for_elems_at(self, align: u64, phase: u64, elems: u64) -> SizeAnswer
-        requires { IsWord self.size_rounding_align_and_phase.0 align phase }
+    fn size_for_elems_at(self, parts: Components<u64>, elems: u64) -> Result<u64, SizeRefusal<u64>>
+        requires { IsWord self.size_rounding_align_and_phase.0 parts.align parts.phase }
         ensures { size_says result ≡ size_given 64 (trailing_of self) elems }
     {
-        let Answer::Number(max_trailing_bytes) = self.max_trailing_bytes_at(align, phase, u64::MAX)
-        else {
-            return SizeAnswer::Refused(refusal::NO_SIZE_AT_ZERO);
+        let Ok(max_trailing_bytes) = self.max_trailing_bytes_at(parts, u64::MAX) else {
+            return Err(SizeRefusal::Refused(Refusal::NoSizeAtZero));
         };
-        let Product::Fits(trailing_size) = util::checked_mul(elems, self.elem_size) else {
-            return self.no_size(max_trailing_bytes);
+        let Some(trailing_size) = util::checked_mul(elems, self.elem_size) else {
+            return Err(self.no_size(max_trailing_bytes));
         };
         if trailing_size > max_trailing_bytes {
-            return self.no_size(max_trailing_bytes);
+            return Err(self.no_size(max_trailing_bytes));
         }
-        self.size_at(align, phase, elems, trailing_size)
+        self.size_at(parts, elems, trailing_size)
     }
 
     // The size at elems.
-    pub fn size_for_elems(self, elems: u64) -> SizeAnswer
+    pub fn size_for_elems(self, elems: u64) -> Result<u64, SizeRefusal<u64>>
         ensures answer { size_says result ≡ size_given 64 (trailing_of self) elems }
         ensures meaning { SizeMeans 64 (trailing_of self) elems (size_says result) }
     {
         let word = self.size_rounding_align_and_phase;
-        match word.components() {
-            ComponentsAnswer::Components { align, phase } => {
-                self.size_for_elems_at(align, phase, elems)
-            }
-            ComponentsAnswer::Refused(number) => SizeAnswer::Refused(number),
-        }
+        let parts = word.components()?;
+        self.size_for_elems_at(parts, elems)
     }
 }

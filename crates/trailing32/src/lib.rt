@@ -2,6 +2,7 @@
 // papers give it.
 #![tactic(auto)]
 
+ghost use Rattle.util.specs.View.{number_says};
 ghost use Rattle.std.specs.Prelude.{◌≡◌, ◌^◌, ◌≤◌, ◌<◌};
 ghost use Rattle.util_defs.specs.Width.{M};
 ghost use Rattle.util_defs.specs.Refusal.{Meets};
@@ -10,44 +11,17 @@ ghost use Rattle.trailing_defs.specs.Calls.{size_offset_for, SizeOffset, max_tra
 ghost use Rattle.trailing_defs.specs.Calls.{padding_for_elems, PaddingAt, advance_causes, advance_for, Advanced};
 ghost use Rattle.trailing_defs.specs.Size.{size_at};
 ghost use Rattle.trailing_defs.specs.Sized.{size_given, SizeMeans};
-ghost use Rattle.trailing.specs.View.{trailing_of, advance_says};
+ghost use Rattle.trailing.specs.View.{trailing_of, advance_says, size_says};
 ghost use Rattle.widths_defs.specs.Low.{mapped, low_tail, TailIn};
 ghost use Rattle.widths_defs.specs.Within.{none_within, advance_within};
-ghost use Rattle.numbers32.specs.View.{number_says32};
-ghost use Rattle.trailing32.specs.View.{trailing_of32, size_says32, advance_says32};
 
-use numbers32::{Answer32, RoundingAlignAndPhase32};
 use rounding::RoundingAlignAndPhase;
-use trailing::{AdvanceAnswer, SizeAnswer, TrailingSliceLayout};
-use util::{Answer, refusal};
-
-// Its fields are those of TrailingSliceLayout.
-#[derive(Clone, Copy)]
-pub struct TrailingSliceLayout32 {
-    pub offset: u32,
-    pub elem_size: u32,
-    pub size_base: u32,
-    pub size_rounding_align_and_phase: RoundingAlignAndPhase32,
-}
-
-// A size; no size at this count, and the greatest count that has one; or the number of another refusal.
-#[derive(Clone, Copy)]
-pub enum SizeAnswer32 {
-    Size(u32),
-    NoSize { greatest: u32 },
-    Refused(u64),
-}
-
-// A layout, or the number of the refusal.
-#[derive(Clone, Copy)]
-pub enum AdvanceAnswer32 {
-    Layout(TrailingSliceLayout32),
-    Refused(u64),
-}
+use trailing::{SizeRefusal, TrailingSliceLayout};
+use util::Refusal;
 
 // A layout of 32 bits widened to 64, which hold the same numbers.
-pub fn wide_tail(tail: TrailingSliceLayout32) -> TrailingSliceLayout
-    ensures { (trailing_of result ≡ trailing_of32 tail) × TailIn 32 (trailing_of32 tail) }
+pub fn wide_tail(tail: TrailingSliceLayout<u32>) -> TrailingSliceLayout<u64>
+    ensures { (trailing_of result ≡ trailing_of tail) × TailIn 32 (trailing_of tail) }
 {
     let word = tail.size_rounding_align_and_phase;
     TrailingSliceLayout {
@@ -59,101 +33,104 @@ pub fn wide_tail(tail: TrailingSliceLayout32) -> TrailingSliceLayout
 }
 
 // A layout of 64 bits narrowed.
-pub fn low_tail(tail: TrailingSliceLayout) -> TrailingSliceLayout32
-    ensures { trailing_of32 result ≡ low_tail 32 (trailing_of tail) }
+pub fn low_tail(tail: TrailingSliceLayout<u64>) -> TrailingSliceLayout<u32>
+    ensures { trailing_of result ≡ low_tail 32 (trailing_of tail) }
 {
     let word = tail.size_rounding_align_and_phase;
-    TrailingSliceLayout32 {
+    TrailingSliceLayout {
         offset: numbers32::low_word(tail.offset),
         elem_size: numbers32::low_word(tail.elem_size),
         size_base: numbers32::low_word(tail.size_base),
-        size_rounding_align_and_phase: RoundingAlignAndPhase32(numbers32::low_word(word.0)),
+        size_rounding_align_and_phase: RoundingAlignAndPhase(numbers32::low_word(word.0)),
     }
 }
 
 // Where 32 bits hold no size at a count: the greatest count that has one is what the greatest room holds.
-fn none_within(tail: TrailingSliceLayout) -> SizeAnswer32
+fn none_within(tail: TrailingSliceLayout<u64>) -> Result<u32, SizeRefusal<u32>>
     requires { ((trailing_of tail).word < 2 ^ 32) × (size_at 64 (trailing_of tail) 0 ≤ M 32 → 0 < (trailing_of tail).elem) }
-    ensures { size_says32 result ≡ none_within (trailing_of tail).elem (max_trailing_for 64 (trailing_of tail) (M 32)) }
+    ensures { size_says result ≡ none_within (trailing_of tail).elem (max_trailing_for 64 (trailing_of tail) (M 32)) }
 {
     match tail.max_trailing_bytes(numbers32::MAX) {
-        Answer::Number(bytes) => SizeAnswer32::NoSize {
+        Ok(bytes) => Err(SizeRefusal::NoSize {
             greatest: (bytes / tail.elem_size) as u32,
-        },
-        Answer::Refused(_) => SizeAnswer32::Refused(refusal::NO_SIZE_AT_ZERO),
+        }),
+        Err(_) => Err(SizeRefusal::Refused(Refusal::NoSizeAtZero)),
     }
 }
 
 // The layout advanced, where its base does not pass: base and phase pass where the base does.
-fn advance_within(answer: AdvanceAnswer) -> AdvanceAnswer32
-    ensures { advance_says32 result ≡ mapped (low_tail 32) (advance_within (M 32) (advance_says answer)) }
+fn advance_within(
+    answer: Result<TrailingSliceLayout<u64>, Refusal>,
+) -> Result<TrailingSliceLayout<u32>, Refusal>
+    ensures { advance_says result ≡ mapped (low_tail 32) (advance_within (M 32) (advance_says answer)) }
 {
-    match answer {
-        AdvanceAnswer::Layout(tail) => {
-            if tail.size_base > numbers32::MAX {
-                AdvanceAnswer32::Refused(refusal::ADVANCE_PASSES_MAX)
-            } else {
-                AdvanceAnswer32::Layout(low_tail(tail))
-            }
-        }
-        AdvanceAnswer::Refused(number) => AdvanceAnswer32::Refused(number),
+    let tail = answer?;
+    if tail.size_base > numbers32::MAX {
+        Err(Refusal::AdvancePassesMax)
+    } else {
+        Ok(low_tail(tail))
     }
 }
 
-impl TrailingSliceLayout32 {
-    // The base rounded down to a multiple of the alignment, plus the phase.
-    pub fn size_offset(self) -> Answer32
-        ensures answer { number_says32 result ≡ size_offset_for 32 (trailing_of32 self) }
-        ensures meaning { Meets (word_causes (trailing_of32 self).word) (SizeOffset (trailing_of32 self)) (number_says32 result) }
-    {
-        let tail = wide_tail(self);
-        numbers32::low_number(tail.size_offset())
-    }
+// The base rounded down to a multiple of the alignment, plus the phase.
+pub fn size_offset(tail: TrailingSliceLayout<u32>) -> Result<u32, Refusal>
+    ensures answer { number_says result ≡ size_offset_for 32 (trailing_of tail) }
+    ensures meaning { Meets (word_causes (trailing_of tail).word) (SizeOffset (trailing_of tail)) (number_says result) }
+{
+    let wide = wide_tail(tail);
+    numbers32::low_number(wide.size_offset())
+}
 
-    // The greatest number of trailing bytes whose size is at most available_bytes.
-    pub fn max_trailing_bytes(self, available_bytes: u32) -> Answer32
-        ensures answer { number_says32 result ≡ max_trailing_for 32 (trailing_of32 self) available_bytes }
-        ensures meaning { Meets (max_trailing_causes 32 (trailing_of32 self) available_bytes)
-            (GreatestIn 32 (trailing_of32 self) available_bytes) (number_says32 result) }
-    {
-        let tail = wide_tail(self);
-        numbers32::low_number(tail.max_trailing_bytes(available_bytes as u64))
-    }
+// The greatest number of trailing bytes whose size is at most available_bytes.
+pub fn max_trailing_bytes(
+    tail: TrailingSliceLayout<u32>,
+    available_bytes: u32,
+) -> Result<u32, Refusal>
+    ensures answer { number_says result ≡ max_trailing_for 32 (trailing_of tail) available_bytes }
+    ensures meaning { Meets (max_trailing_causes 32 (trailing_of tail) available_bytes)
+        (GreatestIn 32 (trailing_of tail) available_bytes) (number_says result) }
+{
+    let wide = wide_tail(tail);
+    numbers32::low_number(wide.max_trailing_bytes(available_bytes as u64))
+}
 
-    // The size at elems less the end of the elements, modulo 2^32.
-    pub fn padding_for_elems(self, elems: u32) -> Answer32
-        ensures answer { number_says32 result ≡ padding_for_elems 32 (trailing_of32 self) elems }
-        ensures meaning { Meets (word_causes (trailing_of32 self).word) (PaddingAt 32 (trailing_of32 self) elems) (number_says32 result) }
-    {
-        let tail = wide_tail(self);
-        numbers32::low_number(tail.padding_for_elems(elems as u64))
-    }
+// The size at elems less the end of the elements, modulo 2^32.
+pub fn padding_for_elems(tail: TrailingSliceLayout<u32>, elems: u32) -> Result<u32, Refusal>
+    ensures answer { number_says result ≡ padding_for_elems 32 (trailing_of tail) elems }
+    ensures meaning { Meets (word_causes (trailing_of tail).word) (PaddingAt 32 (trailing_of tail) elems) (number_says result) }
+{
+    let wide = wide_tail(tail);
+    numbers32::low_number(wide.padding_for_elems(elems as u64))
+}
 
-    // The size at elems.
-    pub fn size_for_elems(self, elems: u32) -> SizeAnswer32
-        ensures answer { size_says32 result ≡ size_given 32 (trailing_of32 self) elems }
-        ensures meaning { SizeMeans 32 (trailing_of32 self) elems (size_says32 result) }
-    {
-        let tail = wide_tail(self);
-        match tail.size_for_elems(elems as u64) {
-            SizeAnswer::Size(size) => {
-                if size > numbers32::MAX {
-                    none_within(tail)
-                } else {
-                    SizeAnswer32::Size(size as u32)
-                }
+// The size at elems.
+pub fn size_for_elems(tail: TrailingSliceLayout<u32>, elems: u32) -> Result<u32, SizeRefusal<u32>>
+    ensures answer { size_says result ≡ size_given 32 (trailing_of tail) elems }
+    ensures meaning { SizeMeans 32 (trailing_of tail) elems (size_says result) }
+{
+    let wide = wide_tail(tail);
+    match wide.size_for_elems(elems as u64) {
+        Ok(size) => {
+            if size > numbers32::MAX {
+                none_within(wide)
+            } else {
+                Ok(size as u32)
             }
-            SizeAnswer::NoSize { greatest: _ } => none_within(tail),
-            SizeAnswer::Refused(number) => SizeAnswer32::Refused(number),
         }
+        Err(SizeRefusal::NoSize { greatest: _ }) => none_within(wide),
+        Err(SizeRefusal::Refused(number)) => Err(SizeRefusal::Refused(number)),
     }
 }
 
 // The layout advanced by bytes, with another element size: its sizes are the old ones with that many bytes more.
-pub fn advance(tail: TrailingSliceLayout32, bytes: u32, elem_size: u32) -> AdvanceAnswer32
-    ensures answer { advance_says32 result ≡ advance_for 32 (trailing_of32 tail) bytes elem_size }
-    ensures meaning { Meets (advance_causes 32 (trailing_of32 tail) bytes) (Advanced 32 (trailing_of32 tail) bytes elem_size)
-        (advance_says32 result) }
+pub fn advance(
+    tail: TrailingSliceLayout<u32>,
+    bytes: u32,
+    elem_size: u32,
+) -> Result<TrailingSliceLayout<u32>, Refusal>
+    ensures answer { advance_says result ≡ advance_for 32 (trailing_of tail) bytes elem_size }
+    ensures meaning { Meets (advance_causes 32 (trailing_of tail) bytes) (Advanced 32 (trailing_of tail) bytes elem_size)
+        (advance_says result) }
 {
     advance_within(advance::advance(wide_tail(tail), bytes as u64, elem_size as u64))
 }

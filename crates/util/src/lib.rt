@@ -9,28 +9,9 @@ ghost use Rattle.util_defs.specs.Refusal.{Tells, Meets};
 ghost use Rattle.util_defs.specs.Helpers.{align_causes, aligns_causes, padding_for, round_down_for, max_for, min_for, Larger, Smaller};
 ghost use Rattle.util.specs.View.{number_says, product_says};
 
-pub mod refusal;
+mod refusal;
 
-// A number, or the number of the refusal.
-#[derive(Clone, Copy)]
-pub enum Answer {
-    Number(u64),
-    Refused(u64),
-}
-
-// A yes or no, or the number of the refusal.
-#[derive(Clone, Copy)]
-pub enum Decision {
-    Is(bool),
-    Refused(u64),
-}
-
-// A product that 64 bits hold, or that they do not.
-#[derive(Clone, Copy)]
-pub enum Product {
-    Fits(u64),
-    Passes,
-}
+pub use refusal::{Refusal, RefusedAt};
 
 // Whether a is a power of two: it is not 0 and has one bit.
 pub fn is_power_of_two(a: u64) -> bool
@@ -44,84 +25,76 @@ pub fn is_power_of_two(a: u64) -> bool
 }
 
 // The bytes needed to pad len to the next multiple of align.
-pub fn padding_needed_for(len: u64, align: u64) -> Answer
+pub fn padding_needed_for(len: u64, align: u64) -> Result<u64, Refusal>
     ensures answer { number_says result ≡ padding_for 64 len align }
     ensures meaning { Meets (align_causes 64 align) (LeastPadding 64 len align) (number_says result) }
 {
     if is_power_of_two(align) {
         let mask = align - 1;
-        Answer::Number(!std::num::wrapping_sub_u64(len, 1) & mask)
+        Ok(!std::num::wrapping_sub_u64(len, 1) & mask)
     } else {
-        Answer::Refused(refusal::ALIGN_NOT_POWER_OF_TWO)
+        Err(Refusal::AlignNotPowerOfTwo)
     }
 }
 
 // The greatest multiple of align that is at most n.
-pub fn round_down_to_next_multiple_of_alignment(n: u64, align: u64) -> Answer
+pub fn round_down_to_next_multiple_of_alignment(n: u64, align: u64) -> Result<u64, Refusal>
     ensures answer { number_says result ≡ round_down_for 64 n align }
     ensures meaning { Meets (align_causes 64 align) (GreatestMultiple n align) (number_says result) }
 {
     if is_power_of_two(align) {
         let mask = !(align - 1);
-        Answer::Number(n & mask)
+        Ok(n & mask)
     } else {
-        Answer::Refused(refusal::ALIGN_NOT_POWER_OF_TWO)
+        Err(Refusal::AlignNotPowerOfTwo)
     }
 }
 
 // The larger of two alignments.
-pub fn max(a: u64, b: u64) -> Answer
+pub fn max(a: u64, b: u64) -> Result<u64, Refusal>
     ensures answer { number_says result ≡ max_for 64 a b }
     ensures meaning { Meets (aligns_causes 64 a b) (Larger a b) (number_says result) }
 {
     if is_power_of_two(a) {
         if is_power_of_two(b) {
-            if a < b {
-                Answer::Number(b)
-            } else {
-                Answer::Number(a)
-            }
+            if a < b { Ok(b) } else { Ok(a) }
         } else {
-            Answer::Refused(refusal::ALIGN_NOT_POWER_OF_TWO)
+            Err(Refusal::AlignNotPowerOfTwo)
         }
     } else {
-        Answer::Refused(refusal::ALIGN_NOT_POWER_OF_TWO)
+        Err(Refusal::AlignNotPowerOfTwo)
     }
 }
 
 // The smaller of two alignments.
-pub fn min(a: u64, b: u64) -> Answer
+pub fn min(a: u64, b: u64) -> Result<u64, Refusal>
     ensures answer { number_says result ≡ min_for 64 a b }
     ensures meaning { Meets (aligns_causes 64 a b) (Smaller a b) (number_says result) }
 {
     if is_power_of_two(a) {
         if is_power_of_two(b) {
-            if a > b {
-                Answer::Number(b)
-            } else {
-                Answer::Number(a)
-            }
+            if a > b { Ok(b) } else { Ok(a) }
         } else {
-            Answer::Refused(refusal::ALIGN_NOT_POWER_OF_TWO)
+            Err(Refusal::AlignNotPowerOfTwo)
         }
     } else {
-        Answer::Refused(refusal::ALIGN_NOT_POWER_OF_TWO)
+        Err(Refusal::AlignNotPowerOfTwo)
     }
 }
 
 // The product, where 64 bits hold it: what it wraps to, divided by one factor, is then the other. The compiler makes one
 // multiplication and a test of its overflow of this: no division.
-pub fn checked_mul(a: u64, b: u64) -> Product
+pub fn checked_mul(a: u64, b: u64) -> Option<u64>
     ensures { product_says result ≡ checked 64 (a * b) }
 {
     let product = wrapping_mul(a, b);
     if b == 0 {
-        return Product::Fits(product);
+        return Some(product);
     }
     if product / b == a {
-        Product::Fits(product)
+        Some(product)
     } else {
-        Product::Passes
+        None
     }
 }
 

@@ -5,13 +5,11 @@
 ghost use Rattle.std.specs.Prelude.{◌≡◌};
 ghost use Rattle.layout.specs.View.{layout_of, layout_says};
 ghost use Rattle.scalar.specs.Scalar.{scalar_for};
-ghost use Rattle.layouts32.specs.View.{layout_says32};
 ghost use Rattle.width.specs.Width.{narrow_of, bits_of, target_of, width_extend, width_pad, width_array};
 
-use layout::{DstLayout, LayoutAnswer};
-use layouts32::LayoutAnswer32;
+use layout::DstLayout;
 use scalar::GREATEST_SCALAR_CODE;
-use util::refusal;
+use util::Refusal;
 
 #[derive(Clone, Copy)]
 pub enum Width {
@@ -38,7 +36,12 @@ pub fn bits(narrow: bool) -> u8
 }
 
 // The layout with one member more.
-pub fn extend(narrow: bool, own: DstLayout, field: DstLayout, repr_packed: u64) -> LayoutAnswer
+pub fn extend(
+    narrow: bool,
+    own: DstLayout<u64>,
+    field: DstLayout<u64>,
+    repr_packed: u64,
+) -> Result<DstLayout<u64>, Refusal>
     ensures { layout_says result ≡ width_extend narrow (layout_of own) (layout_of field) repr_packed }
 {
     if narrow {
@@ -49,7 +52,7 @@ pub fn extend(narrow: bool, own: DstLayout, field: DstLayout, repr_packed: u64) 
 }
 
 // The layout with its size rounded up to its alignment at every count.
-pub fn pad_to_align(narrow: bool, layout: DstLayout) -> LayoutAnswer
+pub fn pad_to_align(narrow: bool, layout: DstLayout<u64>) -> Result<DstLayout<u64>, Refusal>
     ensures { layout_says result ≡ width_pad narrow (layout_of layout) }
 {
     if narrow {
@@ -60,7 +63,7 @@ pub fn pad_to_align(narrow: bool, layout: DstLayout) -> LayoutAnswer
 }
 
 // The layout of an array.
-pub fn for_array(narrow: bool, elem: DstLayout, count: u64) -> LayoutAnswer
+pub fn for_array(narrow: bool, elem: DstLayout<u64>, count: u64) -> Result<DstLayout<u64>, Refusal>
     ensures { layout_says result ≡ width_array narrow (layout_of elem) count }
 {
     if narrow {
@@ -71,22 +74,20 @@ pub fn for_array(narrow: bool, elem: DstLayout, count: u64) -> LayoutAnswer
 }
 
 // A layout of 32 bits as one of 64.
-fn wide_answer(answer: LayoutAnswer32) -> LayoutAnswer
-    ensures { layout_says result ≡ layout_says32 answer }
+fn wide_answer(answer: Result<DstLayout<u32>, Refusal>) -> Result<DstLayout<u64>, Refusal>
+    ensures { layout_says result ≡ layout_says answer }
 {
-    match answer {
-        LayoutAnswer32::Layout(layout) => LayoutAnswer::Layout(layouts32::wide_layout(layout)),
-        LayoutAnswer32::Refused(number) => LayoutAnswer::Refused(number),
-    }
+    let layout = answer?;
+    Ok(layouts32::wide_layout(layout))
 }
 
 // The layout of a scalar, by its code.
-pub fn scalar(narrow: bool, code: u64) -> LayoutAnswer
+pub fn scalar(narrow: bool, code: u64) -> Result<DstLayout<u64>, Refusal>
     ensures { layout_says result ≡ scalar_for (target_of narrow) code }
 {
     if narrow {
         if code > GREATEST_SCALAR_CODE {
-            LayoutAnswer::Refused(refusal::SCALAR_CODE)
+            Err(Refusal::ScalarCode)
         } else {
             wide_answer(scalar32::scalar(code as u32))
         }

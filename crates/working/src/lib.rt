@@ -11,18 +11,19 @@ ghost use Rattle.compose_defs.specs.Compose.{composed, and_then, ported, compose
 ghost use Rattle.compose_defs.specs.Typed.{addition_for, NextMember};
 ghost use Rattle.working.specs.View.{add_says, untouched};
 
-use layout::{Check, DstLayout, LayoutAnswer};
+use layout::DstLayout;
+use util::Refusal;
 
 // What an addition gives: whether the member was accepted, and the working layout after it.
 #[derive(Clone, Copy)]
-pub struct Addition {
-    pub answer: Check,
-    pub layout: DstLayout,
+pub struct Addition<N> {
+    pub answer: Result<(), Refusal>,
+    pub layout: DstLayout<N>,
 }
 
 // The empty layout, with its own alignment; 0 means that none is asked for. What a composition of no members gives, under any
 // packing.
-pub fn begin(repr_align: u64) -> LayoutAnswer
+pub fn begin(repr_align: u64) -> Result<DstLayout<u64>, Refusal>
     ensures answer { layout_says result ≡ new_zst_for 64 repr_align }
     ensures meaning { (packing : ℕ) → compose_members 64 ported repr_align packing [] ≡ and_then (layout_says result) 0 composed }
 {
@@ -30,37 +31,37 @@ pub fn begin(repr_align: u64) -> LayoutAnswer
 }
 
 // The layout after a step: a refusal leaves it as it was.
-fn settle(own: DstLayout, next: LayoutAnswer) -> Addition
+fn settle(own: DstLayout<u64>, next: Result<DstLayout<u64>, Refusal>) -> Addition<u64>
     ensures answer { add_says result.answer result.layout ≡ layout_says next }
     ensures lent { untouched result.answer own result.layout }
 {
     match next {
-        LayoutAnswer::Layout(layout) => Addition {
-            answer: Check::Accepted,
+        Ok(layout) => Addition {
+            answer: Ok(()),
             layout,
         },
-        LayoutAnswer::Refused(number) => Addition {
-            answer: Check::Refused(number),
+        Err(refusal) => Addition {
+            answer: Err(refusal),
             layout: own,
         },
     }
 }
 
 // The step of a member's record; the working layout is tested before it.
-fn record_step(own: DstLayout, member: &[u8], repr_packed: u64) -> LayoutAnswer
+fn record_step(
+    own: DstLayout<u64>,
+    member: &[u8],
+    repr_packed: u64,
+) -> Result<DstLayout<u64>, Refusal>
     ensures { layout_says result ≡ addition_for 64 repr_packed (layout_of own) (decode_for 64 member.now) }
 {
-    match own.check() {
-        Check::Accepted => match record::decode(member) {
-            LayoutAnswer::Layout(field) => extend::extend(own, field, repr_packed),
-            LayoutAnswer::Refused(number) => LayoutAnswer::Refused(number),
-        },
-        Check::Refused(number) => LayoutAnswer::Refused(number),
-    }
+    own.check()?;
+    let field = record::decode(member)?;
+    extend::extend(own, field, repr_packed)
 }
 
 // The addition of a member by value, to a layout by value.
-pub fn with_member(own: DstLayout, field: DstLayout, repr_packed: u64) -> Addition
+pub fn with_member(own: DstLayout<u64>, field: DstLayout<u64>, repr_packed: u64) -> Addition<u64>
     ensures answer { add_says result.answer result.layout ≡ addition_for 64 repr_packed (layout_of own) (answered (layout_of field)) }
     ensures meaning { NextMember 64 repr_packed (layout_of own) (answered (layout_of field)) (add_says result.answer result.layout) }
     ensures lent { untouched result.answer own result.layout }
@@ -69,7 +70,7 @@ pub fn with_member(own: DstLayout, field: DstLayout, repr_packed: u64) -> Additi
 }
 
 // The addition of a member by its record, to a layout by value.
-pub fn with_record(own: DstLayout, member: &[u8], repr_packed: u64) -> Addition
+pub fn with_record(own: DstLayout<u64>, member: &[u8], repr_packed: u64) -> Addition<u64>
     ensures answer { add_says result.answer result.layout ≡ addition_for 64 repr_packed (layout_of own) (decode_for 64 member.now) }
     ensures meaning { NextMember 64 repr_packed (layout_of own) (decode_for 64 member.now) (add_says result.answer result.layout) }
     ensures lent { untouched result.answer own result.layout }
@@ -78,7 +79,7 @@ pub fn with_record(own: DstLayout, member: &[u8], repr_packed: u64) -> Addition
 }
 
 // The addition of a member to a lent layout, which a refusal leaves as it was.
-pub fn add(own: &mut DstLayout, field: DstLayout, repr_packed: u64) -> Check
+pub fn add(own: &mut DstLayout<u64>, field: DstLayout<u64>, repr_packed: u64) -> Result<(), Refusal>
     ensures answer { add_says result own.new ≡ addition_for 64 repr_packed (layout_of own.old) (answered (layout_of field)) }
     ensures meaning { NextMember 64 repr_packed (layout_of own.old) (answered (layout_of field)) (add_says result own.new) }
     ensures lent { untouched result own.old own.new }
@@ -89,7 +90,7 @@ pub fn add(own: &mut DstLayout, field: DstLayout, repr_packed: u64) -> Check
 }
 
 // The addition of a member by its record to a lent layout, which a refusal leaves as it was.
-pub fn add_record(own: &mut DstLayout, member: &[u8], repr_packed: u64) -> Check
+pub fn add_record(own: &mut DstLayout<u64>, member: &[u8], repr_packed: u64) -> Result<(), Refusal>
     ensures answer { add_says result own.new ≡ addition_for 64 repr_packed (layout_of own.old)
         (decode_for 64 member.now) }
     ensures meaning { NextMember 64 repr_packed (layout_of own.old) (decode_for 64 member.now)

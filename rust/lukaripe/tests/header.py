@@ -161,8 +161,9 @@ def declared_in_crates(sources):
     for source in sources:
         text = re.sub(r"//.*", "", open(source).read())
         if source.endswith("/refusal.rt"):
-            for name, number in re.findall(r"pub const (\w+): u64 = (\d+);", text):
-                declared.constants["LUKARIPE_REFUSED_" + name] = number
+            for name, number in re.findall(r"(\w+) = (\d+),", text):
+                words = re.sub(r"(?<=.)(?=[A-Z])", "_", name).upper()
+                declared.constants["LUKARIPE_REFUSED_" + words] = number
         for name, body in re.findall(r"#\[repr\(C\)\]\s*(?:#\[derive.*?\]\s*)?pub struct (\w+) \{(.*?)\}", text, re.S):
             declared.structs[in_c(name)] = crate_fields(body)
         for name, parameters, result in re.findall(r'pub extern "C" fn (\w+)\((.*?)\) -> (\w+)', text, re.S):

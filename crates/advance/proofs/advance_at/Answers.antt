@@ -16,22 +16,22 @@ use Rattle.advance.proofs.advance_at.Goals as goal
 use Rattle.advance.proofs.advance_at.Goals.{Start}
 
 -- the base, and the phase with the bytes, rounded down by the mask
-based : (k : Start) → bit_and k.args.tail.size_base (2 ^ 64 - 1 - (k.args.align - 1)) ≡ down k.args.tail.size_base k.args.align
-based k = mask_down 64 k.args.tail.size_base k.requires.power k.ranges.align.fits (omega arith)
+based : (k : Start) → bit_and k.args.tail.size_base (2 ^ 64 - 1 - (k.args.parts.align - 1)) ≡ down k.args.tail.size_base k.args.parts.align
+based k = mask_down 64 k.args.tail.size_base k.requires.power (omega arith) (omega arith)
 
-moved : (k : Start) → k.args.phase + k.args.bytes < 2 ^ 64
-    → bit_and (k.args.phase + k.args.bytes) (2 ^ 64 - 1 - (k.args.align - 1)) ≡ down (k.args.phase + k.args.bytes) k.args.align
-moved k h = mask_down 64 (k.args.phase + k.args.bytes) k.requires.power k.ranges.align.fits h
+moved : (k : Start) → k.args.parts.phase + k.args.bytes < 2 ^ 64
+    → bit_and (k.args.parts.phase + k.args.bytes) (2 ^ 64 - 1 - (k.args.parts.align - 1)) ≡ down (k.args.parts.phase + k.args.bytes) k.args.parts.align
+moved k h = mask_down 64 (k.args.parts.phase + k.args.bytes) k.requires.power (omega arith) h
 
 pub overflow_sub-align_mask : goal.overflow_sub-align_mask
 overflow_sub-align_mask c = positive c.requires.power
 
 pub overflow_sub-phase_capacity : goal.overflow_sub-phase_capacity
-overflow_sub-phase_capacity c = omega (arith, based c.before, down_le c.args.tail.size_base c.args.align)
+overflow_sub-phase_capacity c = omega (arith, based c.before, down_le c.args.tail.size_base c.args.parts.align)
 
 pub overflow_sub-max_advance : goal.overflow_sub-max_advance
 overflow_sub-max_advance c =
-    omega (arith, based c.before, offset_fits 64 c.args.tail.size_base c.requires.power c.ranges.align.fits (omega arith) c.requires.below)
+    omega (arith, based c.before, offset_fits 64 c.args.tail.size_base c.requires.power (omega arith) (omega arith) c.requires.below)
 
 pub returns-then-bytes-max_advance : goal.returns-then-bytes-max_advance
 returns-then-bytes-max_advance c =
@@ -42,15 +42,15 @@ overflow_add-advanced_phase c = omega (arith, based c.before.before)
 
 pub overflow_add-result : goal.overflow_add-result
 overflow_add-result c =
-    omega (arith, moved c.before.before.before (omega (arith, based c.before.before.before)), advance_fits 64 c.args.tail.size_base c.args.phase c.args.bytes c.requires.power c.ranges.align.fits (omega (arith, based c.before.before.before, offset_fits 64 c.args.tail.size_base c.requires.power c.ranges.align.fits (omega arith) c.requires.below)))
+    omega (arith, moved c.before.before.before (omega (arith, based c.before.before.before)), advance_fits 64 c.args.tail.size_base c.args.parts.phase c.args.bytes c.requires.power (omega arith) (omega (arith, based c.before.before.before, offset_fits 64 c.args.tail.size_base c.requires.power (omega arith) (omega arith) c.requires.below)))
 
 pub overflow_add-result-2 : goal.overflow_add-result-2
 overflow_add-result-2 c =
-    omega (arith, double 64 c.requires.power c.ranges.align.fits, mask_mod (c.args.phase + c.args.bytes) c.requires.power, mod-lt (c.args.phase + c.args.bytes) (positive c.requires.power))
+    omega (arith, double 64 c.requires.power (omega arith), mask_mod (c.args.parts.phase + c.args.bytes) c.requires.power, mod-lt (c.args.parts.phase + c.args.bytes) (positive c.requires.power))
 
 pub returns : goal.returns
 returns c =
     let t = trailing_of c.args.tail in
-    let f : c.args.phase + c.args.bytes < 2 ^ 64 = omega (arith, based c.before.before.before) in
-    ap₂ (λ (b m : ℕ). answered (record { offset = t.offset; elem = c.args.elem; base = t.base + b; word = c.args.align + m })) (moved c.before.before.before f) (mask_mod (c.args.phase + c.args.bytes) c.requires.power)
-    ∙ sym (advance_answered 64 t c.args.bytes c.args.elem c.requires (omega arith) (omega (arith, based c.before.before.before, offset_fits 64 c.args.tail.size_base c.requires.power c.ranges.align.fits (omega arith) c.requires.below)))
+    let f : c.args.parts.phase + c.args.bytes < 2 ^ 64 = omega (arith, based c.before.before.before) in
+    ap₂ (λ (b m : ℕ). answered (record { offset = t.offset; elem = c.args.elem; base = t.base + b; word = c.args.parts.align + m })) (moved c.before.before.before f) (mask_mod (c.args.parts.phase + c.args.bytes) c.requires.power)
+    ∙ sym (advance_answered 64 t c.args.bytes c.args.elem c.requires (omega arith) (omega (arith, based c.before.before.before, offset_fits 64 c.args.tail.size_base c.requires.power (omega arith) (omega arith) c.requires.below)))

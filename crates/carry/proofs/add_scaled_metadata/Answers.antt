@@ -17,11 +17,11 @@ returns-in_default c =
 pub returns-then-base-scaled : goal.returns-then-base-scaled
 unfolding metadata_for unless
 returns-then-base-scaled c =
-    let x = product_told 64 (c.args.metadata * c.args.multiple) c.checked_mul.result c.checked_mul.ensures c.in-Fits.is in
+    let x = product_told 64 (c.args.metadata * c.args.multiple) c.checked_mul.result c.checked_mul.ensures c.in-Some.is in
     simp (lt-ltb (2 ^ 64 - 1) (c.args.base + c.args.metadata * c.args.multiple) (omega (arith, x.0)))
 
 pub returns-else-base-scaled : goal.returns-else-base-scaled
 unfolding metadata_for unless
 returns-else-base-scaled c =
-    let x = product_told 64 (c.args.metadata * c.args.multiple) c.checked_mul.result c.checked_mul.ensures c.in-Fits.is in
+    let x = product_told 64 (c.args.metadata * c.args.multiple) c.checked_mul.result c.checked_mul.ensures c.in-Some.is in
     simp (le-ltb (2 ^ 64 - 1) (c.args.base + c.args.metadata * c.args.multiple) (omega (arith, x.0))) (ap (λ (z : ℕ). answered (c.args.base + z)) x.0)

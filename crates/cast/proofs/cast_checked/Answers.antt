@@ -1,4 +1,5 @@
 -- `cast::cast_checked` meets its contract. Assumes nothing.
+use Rattle.util.proofs.Told.{handed_on}
 use mathlib.Core.Path.{◌≡◌, refl, sym, ap, ap₂, ◌∙◌, subst}
 use mathlib.Core.Bool.{Bool, false}
 use mathlib.Core.List.{[], ◌∷◌}
@@ -46,7 +47,7 @@ unfolding unless
 passed k f e l z = simp (sym e ∙ f, le-ltb (2 ^ 64 - 1) (k.args.addr + k.args.len) l, eq-eqb (tested k % k.args.layout.align) 0 z)
 
 -- what is left to say of a size
-abbrev says : Start → SizeInfo → Outcome Grant
+abbrev says : Start → SizeInfo ℕ → Outcome Grant
 says k i = unless (too_small 64 (info_of i) k.args.len ∷ []) (greatest_grant 64 (info_of i) (side_of k.args.cast_type) k.args.len)
 
 pub returns-then-elem_size_zero : goal.returns-then-elem_size_zero
@@ -70,16 +71,16 @@ returns-then-tested_address-layout-ne0 c =
 pub fit_trailing-requires : goal.fit_trailing-requires
 fit_trailing-requires c =
     let g = c.in-SliceDst.is in
-    let w = subst (λ (i : SizeInfo). (no_word (info_of i)).means → ⊥) g c.requires.1.0 in
-    let z = subst (λ (i : SizeInfo). (elem_zero (info_of i)).means → ⊥) g (no (elem_decided (info_of c.args.layout.size_info)) (sym c.elem_size_zero.ensures ∙ c.if-elem_size_zero.false)) in
+    let w = subst (λ (i : SizeInfo ℕ). (no_word (info_of i)).means → ⊥) g c.requires.1.0 in
+    let z = subst (λ (i : SizeInfo ℕ). (elem_zero (info_of i)).means → ⊥) g (no (elem_decided (info_of c.args.layout.size_info)) (sym c.elem_size_zero.ensures ∙ c.if-elem_size_zero.false)) in
     (omega (arith, w), omega (arith, z))
 
-pub split_around-requires-in-Granted : goal.split_around-requires-in-Granted
-split_around-requires-in-Granted c =
+pub split_around-requires-in-SliceDst : goal.split_around-requires-in-SliceDst
+split_around-requires-in-SliceDst c =
     let g = c.in-SliceDst.is in
-    let w = subst (λ (i : SizeInfo). (no_word (info_of i)).means → ⊥) g c.requires.1.0 in
-    let z = subst (λ (i : SizeInfo). (elem_zero (info_of i)).means → ⊥) g (no (elem_decided (info_of c.args.layout.size_info)) (sym c.elem_size_zero.ensures ∙ c.if-elem_size_zero.false)) in
-    fit_within 64 (trailing (trailing_of c.in-SliceDst.tail)) c.args.len c.fit_trailing.result c.fit_trailing.ensures c.in-Granted.is (lit< tt) w z
+    let w = subst (λ (i : SizeInfo ℕ). (no_word (info_of i)).means → ⊥) g c.requires.1.0 in
+    let z = subst (λ (i : SizeInfo ℕ). (elem_zero (info_of i)).means → ⊥) g (no (elem_decided (info_of c.args.layout.size_info)) (sym c.elem_size_zero.ensures ∙ c.if-elem_size_zero.false)) in
+    fit_within 64 (trailing (trailing_of c.in-SliceDst.tail)) c.args.len c.fit_trailing.result c.fit_trailing.ensures c.in_ok-fit-in-SliceDst.was (lit< tt) w z
 
 pub returns-then-size-len : goal.returns-then-size-len
 unfolding unless
@@ -95,16 +96,16 @@ returns-else-size-len c =
     let u : answered (record { count = 0; split = split_at (side_of c.args.cast_type) c.args.len s }) ≡ unless (too_small 64 (fixed s) c.args.len ∷ []) (greatest_grant 64 (fixed s) (side_of c.args.cast_type) c.args.len) = simp (le-ltb c.args.len s c.if-size-len.false) (refl) in
     ap (λ (x : ℕ). answered (record { count = 0; split = x })) c.split_around.ensures ∙ u ∙ ap (says c.before.before.before.before.before.before.before.before.before) (sym c.in-Sized.is) ∙ sym (passed c.before.before.before.before.before.before.before.before.before c.if-elem_size_zero.false c.elem_size_zero.ensures (omega arith) (straight c.before.before.before.before.before.before.before.before.before c.tested_address.result c.tested_address.ensures c.if-tested_address-layout-ne0.false))
 
-pub returns-in-Granted : goal.returns-in-Granted
-returns-in-Granted c =
+pub returns-in_ok-fit-in-SliceDst : goal.returns-in_ok-fit-in-SliceDst
+returns-in_ok-fit-in-SliceDst c =
     let i = trailing (trailing_of c.in-SliceDst.tail) in
-    let f = fit_told 64 i c.args.len c.fit_trailing.result c.fit_trailing.ensures c.in-Granted.is in
-    let ok = accepted_as (too_small 64 i c.args.len ∷ []) (greatest_grant 64 i prefix c.args.len) (greatest_grant 64 i (side_of c.args.cast_type) c.args.len) (told_by cast_says c.fit_trailing.ensures c.in-Granted.is) in
-    ap₂ (λ (n s : ℕ). answered (record { count = n; split = s })) f.0 (c.split_around-in-Granted.ensures ∙ ap (split_at (side_of c.args.cast_type) c.args.len) f.1)
-    ∙ sym ok ∙ ap (says c.before.before.before.before.before.before.before.before.before.before) (sym c.in-SliceDst.is) ∙ sym (passed c.before.before.before.before.before.before.before.before.before.before c.if-elem_size_zero.false c.elem_size_zero.ensures (omega arith) (straight c.before.before.before.before.before.before.before.before.before.before c.tested_address.result c.tested_address.ensures c.if-tested_address-layout-ne0.false))
+    let f = fit_told 64 i c.args.len c.fit_trailing.result c.fit_trailing.ensures c.in_ok-fit-in-SliceDst.was in
+    let ok = accepted_as (too_small 64 i c.args.len ∷ []) (greatest_grant 64 i prefix c.args.len) (greatest_grant 64 i (side_of c.args.cast_type) c.args.len) (told_by cast_says c.fit_trailing.ensures c.in_ok-fit-in-SliceDst.was) in
+    ap₂ (λ (n s : ℕ). answered (record { count = n; split = s })) f.0 (c.split_around-in-SliceDst.ensures ∙ ap (split_at (side_of c.args.cast_type) c.args.len) f.1)
+    ∙ sym ok ∙ ap (says c.before.before.before.before.before.before.before.before.before.before.before) (sym c.in-SliceDst.is) ∙ sym (passed c.before.before.before.before.before.before.before.before.before.before.before c.if-elem_size_zero.false c.elem_size_zero.ensures (omega arith) (straight c.before.before.before.before.before.before.before.before.before.before.before c.tested_address.result c.tested_address.ensures c.if-tested_address-layout-ne0.false))
 
-pub returns-in-Refused : goal.returns-in-Refused
-returns-in-Refused c =
+pub returns-in_err-fit-in-SliceDst : goal.returns-in_err-fit-in-SliceDst
+returns-in_err-fit-in-SliceDst c =
     let i = trailing (trailing_of c.in-SliceDst.tail) in
-    let ok = refused_as (too_small 64 i c.args.len ∷ []) (greatest_grant 64 i prefix c.args.len) (greatest_grant 64 i (side_of c.args.cast_type) c.args.len) (told_by cast_says c.fit_trailing.ensures c.in-Refused.is) in
-    sym ok ∙ ap (says c.before.before.before.before.before.before.before.before.before) (sym c.in-SliceDst.is) ∙ sym (passed c.before.before.before.before.before.before.before.before.before c.if-elem_size_zero.false c.elem_size_zero.ensures (omega arith) (straight c.before.before.before.before.before.before.before.before.before c.tested_address.result c.tested_address.ensures c.if-tested_address-layout-ne0.false))
+    let ok = refused_as (too_small 64 i c.args.len ∷ []) (greatest_grant 64 i prefix c.args.len) (greatest_grant 64 i (side_of c.args.cast_type) c.args.len) (told_by cast_says c.fit_trailing.ensures c.in_err-fit-in-SliceDst.was) in
+    handed_on _ c.from_residual.result _ c.from_residual.ensures.1 (sym ok ∙ ap (says c.before.before.before.before.before.before.before.before.before.before.before) (sym c.in-SliceDst.is) ∙ sym (passed c.before.before.before.before.before.before.before.before.before.before.before c.if-elem_size_zero.false c.elem_size_zero.ensures (omega arith) (straight c.before.before.before.before.before.before.before.before.before.before.before c.tested_address.result c.tested_address.ensures c.if-tested_address-layout-ne0.false)))

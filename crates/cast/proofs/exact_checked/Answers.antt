@@ -1,4 +1,5 @@
 -- `cast::exact_checked` meets its contract. Assumes nothing.
+use Prim.Native.Nat.{ℕ}
 use mathlib.Core.Path.{sym, ap, subst}
 use Rattle.layout_defs.specs.Extend.{IsTrailing, is_trailing}
 use Rattle.layout.specs.declared.SizeInfo.{SizeInfo}
@@ -7,7 +8,7 @@ use Rattle.cast.proofs.Told.{exact_fixed}
 use Rattle.cast.proofs.exact_checked.Goals as goal
 
 pub exact_elems-requires : goal.exact_elems-requires
-exact_elems-requires c = (c.requires, subst (λ (i : SizeInfo). IsTrailing (info_of i)) (sym c.in-SliceDst.is) tt)
+exact_elems-requires c = (c.requires, subst (λ (i : SizeInfo ℕ). IsTrailing (info_of i)) (sym c.in-SliceDst.is) tt)
 
 pub returns-in-Sized : goal.returns-in-Sized
-returns-in-Sized c = exact_fixed 64 (layout_of c.args.layout) c.args.size (ap (λ (i : SizeInfo). is_trailing (info_of i)) c.in-Sized.is)
+returns-in-Sized c = exact_fixed 64 (layout_of c.args.layout) c.args.size (ap (λ (i : SizeInfo ℕ). is_trailing (info_of i)) c.in-Sized.is)

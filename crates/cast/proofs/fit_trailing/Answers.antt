@@ -24,18 +24,18 @@ pub fit_elems-requires : goal.fit_elems-requires
 fit_elems-requires c =
     let t = trailing_of c.args.tail in (
       c.requires.1,
-      align_told c.align.result c.align.ensures.meaning c.in-Number-align.is,
-      room_told 64 t c.args.len c.max_trailing_bytes.result (omega arith) c.max_trailing_bytes.ensures.answer c.in-Number.is,
+      align_told c.align.result c.align.ensures.meaning c.in_ok-size_align.was,
+      room_told 64 t c.args.len c.max_trailing_bytes.result (omega arith) c.max_trailing_bytes.ensures.answer c.in-Ok.is,
     )
 
-pub returns-in-Number-align : goal.returns-in-Number-align
+pub returns : goal.returns
 unfolding unless
-returns-in-Number-align c =
+returns c =
     let t = trailing_of c.args.tail in
-    let g = room_told 64 t c.args.len c.max_trailing_bytes.result (omega arith) c.max_trailing_bytes.ensures.answer c.in-Number.is in
+    let g = room_told 64 t c.args.len c.max_trailing_bytes.result (omega arith) c.max_trailing_bytes.ensures.answer c.in-Ok.is in
     c.fit_elems.ensures
-    ∙ simp (le-ltb c.args.len (size_at 64 t 0) (omega (arith, g.fits, size_mono t.base (A 64 t) (p 64 t) (0 * t.elem) c.in-Number.max_slice_bytes (align_pos 64 t (lit< tt) (λ z. omega arith)) (omega arith))))
+    ∙ simp (le-ltb c.args.len (size_at 64 t 0) (omega (arith, g.fits, size_mono t.base (A 64 t) (p 64 t) (0 * t.elem) c.in-Ok.max_slice_bytes (align_pos 64 t (lit< tt) (λ z. omega arith)) (omega arith))))
 
-pub returns-in-Refused : goal.returns-in-Refused
-returns-in-Refused c =
-    absurd (omega (arith, (align_refused c.align.result c.align.ensures.meaning c.in-Refused.is).0))
+pub returns-in_err-size_align : goal.returns-in_err-size_align
+returns-in_err-size_align c =
+    absurd (omega (arith, (align_refused c.align.result c.align.ensures.meaning c.in_err-size_align.was).0))

@@ -1,4 +1,5 @@
 -- `cast::metadata_for_exact_size` meets its contract. Assumes nothing.
+use Rattle.util.proofs.Told.{handed_on}
 use mathlib.Core.Path.{sym, ◌∙◌}
 use mathlib.Core.List.{[], ◌∷◌}
 use lib.Dec.{lit<}
@@ -15,30 +16,30 @@ use Rattle.cast.proofs.metadata_for_exact_size.Goals as goal
 
 pub exact_checked-requires : goal.exact_checked-requires
 unfolding check_for
-exact_checked-requires c = let l = layout_of c.args.layout in accepted_none (layout_causes 64 l) tt (layout_decided 64 l (omega arith)) (told_by check_says c.check.ensures.answer c.in-Accepted.is)
+exact_checked-requires c = let l = layout_of c.args.layout in accepted_none (layout_causes 64 l) tt (layout_decided 64 l (omega arith)) (told_by check_says c.check.ensures.answer c.in_ok-check.was)
 
-pub returns-in-Accepted-clause-answer : goal.returns-in-Accepted-clause-answer
+pub returns-clause-answer : goal.returns-clause-answer
 unfolding exact_for check_for
-returns-in-Accepted-clause-answer c =
+returns-clause-answer c =
     let l = layout_of c.args.layout in
     let cs = no_exact 64 l c.args.size ∷ [] in
-    let n = count_in 64 l.info c.args.size in c.exact_checked.ensures ∙ sym (accepted_first (layout_causes 64 l) cs tt n (told_by check_says c.check.ensures.answer c.in-Accepted.is))
+    let n = count_in 64 l.info c.args.size in c.exact_checked.ensures ∙ sym (accepted_first (layout_causes 64 l) cs tt n (told_by check_says c.check.ensures.answer c.in_ok-check.was))
 
-pub returns-in-Accepted-clause-meaning : goal.returns-in-Accepted-clause-meaning
-returns-in-Accepted-clause-meaning c =
+pub returns-clause-meaning : goal.returns-clause-meaning
+returns-clause-meaning c =
     let l = layout_of c.args.layout in
     let cs = no_exact 64 l c.args.size ∷ [] in
-    let n = count_in 64 l.info c.args.size in means (exact_meets 64 l c.args.size (omega arith) (lit< tt)) (returns-in-Accepted-clause-answer c)
+    let n = count_in 64 l.info c.args.size in means (exact_meets 64 l c.args.size (omega arith) (lit< tt)) (returns-clause-answer c)
 
-pub returns-in-Refused-clause-answer : goal.returns-in-Refused-clause-answer
+pub returns-in_err-check-clause-answer : goal.returns-in_err-check-clause-answer
 unfolding exact_for check_for
-returns-in-Refused-clause-answer c =
+returns-in_err-check-clause-answer c =
     let l = layout_of c.args.layout in
     let cs = no_exact 64 l c.args.size ∷ [] in
-    let n = count_in 64 l.info c.args.size in sym (refused_first (layout_causes 64 l) cs tt n (told_by check_says c.check.ensures.answer c.in-Refused.is))
+    let n = count_in 64 l.info c.args.size in handed_on _ c.from_residual.result _ c.from_residual.ensures.1 (sym (refused_first (layout_causes 64 l) cs tt n (told_by check_says c.check.ensures.answer c.in_err-check.was)))
 
-pub returns-in-Refused-clause-meaning : goal.returns-in-Refused-clause-meaning
-returns-in-Refused-clause-meaning c =
+pub returns-in_err-check-clause-meaning : goal.returns-in_err-check-clause-meaning
+returns-in_err-check-clause-meaning c =
     let l = layout_of c.args.layout in
     let cs = no_exact 64 l c.args.size ∷ [] in
-    let n = count_in 64 l.info c.args.size in means (exact_meets 64 l c.args.size (omega arith) (lit< tt)) (returns-in-Refused-clause-answer c)
+    let n = count_in 64 l.info c.args.size in means (exact_meets 64 l c.args.size (omega arith) (lit< tt)) (returns-in_err-check-clause-answer c)

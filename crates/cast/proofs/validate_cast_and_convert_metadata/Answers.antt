@@ -1,4 +1,5 @@
 -- `cast::validate_cast_and_convert_metadata` meets its contract. Assumes nothing.
+use Rattle.util.proofs.Told.{handed_on}
 use mathlib.Core.Path.{sym, ◌∙◌}
 use lib.Dec.{lit<}
 use native.Mathlib.Omega.{arith}
@@ -14,34 +15,34 @@ use Rattle.cast.proofs.validate_cast_and_convert_metadata.Goals as goal
 
 pub cast_checked-requires : goal.cast_checked-requires
 unfolding check_for
-cast_checked-requires c = let l = layout_of c.args.layout in accepted_none (layout_causes 64 l) tt (layout_decided 64 l (omega arith)) (told_by check_says c.check.ensures.answer c.in-Accepted.is)
+cast_checked-requires c = let l = layout_of c.args.layout in accepted_none (layout_causes 64 l) tt (layout_decided 64 l (omega arith)) (told_by check_says c.check.ensures.answer c.in_ok-check.was)
 
-pub returns-in-Accepted-clause-answer : goal.returns-in-Accepted-clause-answer
+pub returns-clause-answer : goal.returns-clause-answer
 unfolding cast_for check_for
-returns-in-Accepted-clause-answer c =
+returns-clause-answer c =
     let l = layout_of c.args.layout in
     let side = side_of c.args.cast_type in
     let cs = bytes_causes 64 l side c.args.addr c.args.bytes_len in
-    let g = greatest_grant 64 l.info side c.args.bytes_len in c.cast_checked.ensures ∙ sym (accepted_first (layout_causes 64 l) cs tt g (told_by check_says c.check.ensures.answer c.in-Accepted.is))
+    let g = greatest_grant 64 l.info side c.args.bytes_len in c.cast_checked.ensures ∙ sym (accepted_first (layout_causes 64 l) cs tt g (told_by check_says c.check.ensures.answer c.in_ok-check.was))
 
-pub returns-in-Accepted-clause-meaning : goal.returns-in-Accepted-clause-meaning
-returns-in-Accepted-clause-meaning c =
+pub returns-clause-meaning : goal.returns-clause-meaning
+returns-clause-meaning c =
     let l = layout_of c.args.layout in
     let side = side_of c.args.cast_type in
     let cs = bytes_causes 64 l side c.args.addr c.args.bytes_len in
-    let g = greatest_grant 64 l.info side c.args.bytes_len in means (cast_meets 64 l side c.args.addr c.args.bytes_len (omega arith) (lit< tt)) (returns-in-Accepted-clause-answer c)
+    let g = greatest_grant 64 l.info side c.args.bytes_len in means (cast_meets 64 l side c.args.addr c.args.bytes_len (omega arith) (lit< tt)) (returns-clause-answer c)
 
-pub returns-in-Refused-clause-answer : goal.returns-in-Refused-clause-answer
+pub returns-in_err-check-clause-answer : goal.returns-in_err-check-clause-answer
 unfolding cast_for check_for
-returns-in-Refused-clause-answer c =
+returns-in_err-check-clause-answer c =
     let l = layout_of c.args.layout in
     let side = side_of c.args.cast_type in
     let cs = bytes_causes 64 l side c.args.addr c.args.bytes_len in
-    let g = greatest_grant 64 l.info side c.args.bytes_len in sym (refused_first (layout_causes 64 l) cs tt g (told_by check_says c.check.ensures.answer c.in-Refused.is))
+    let g = greatest_grant 64 l.info side c.args.bytes_len in handed_on _ c.from_residual.result _ c.from_residual.ensures.1 (sym (refused_first (layout_causes 64 l) cs tt g (told_by check_says c.check.ensures.answer c.in_err-check.was)))
 
-pub returns-in-Refused-clause-meaning : goal.returns-in-Refused-clause-meaning
-returns-in-Refused-clause-meaning c =
+pub returns-in_err-check-clause-meaning : goal.returns-in_err-check-clause-meaning
+returns-in_err-check-clause-meaning c =
     let l = layout_of c.args.layout in
     let side = side_of c.args.cast_type in
     let cs = bytes_causes 64 l side c.args.addr c.args.bytes_len in
-    let g = greatest_grant 64 l.info side c.args.bytes_len in means (cast_meets 64 l side c.args.addr c.args.bytes_len (omega arith) (lit< tt)) (returns-in-Refused-clause-answer c)
+    let g = greatest_grant 64 l.info side c.args.bytes_len in means (cast_meets 64 l side c.args.addr c.args.bytes_len (omega arith) (lit< tt)) (returns-in_err-check-clause-answer c)

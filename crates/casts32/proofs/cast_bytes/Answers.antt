@@ -1,4 +1,5 @@
 -- `casts32::cast_bytes` meets its contract. Assumes nothing.
+use Rattle.layout.specs.View.{layout_of}
 use mathlib.Core.Path.{sym, ap, ap₂, ◌∙◌}
 use Prim.Native.Nat.{ℕ}
 use lib.Dec.{lit<}
@@ -10,14 +11,13 @@ use Rattle.cast.specs.View.{side_of}
 use Rattle.widths_defs.specs.Low.{mapped}
 use Rattle.widths_casts_defs.specs.Low.{low_grant}
 use Rattle.widths_casts_defs.proofs.Casting.{cast_low}
-use Rattle.layouts32.specs.View.{layout_of32}
 use Rattle.util_defs.proofs.Refusals.{means}
 use Rattle.casts32.proofs.cast_bytes.Goals as goal
 
 pub returns-clause-answer : goal.returns-clause-answer
 returns-clause-answer c =
     let q = c.wide_layout.ensures in
-    let l = layout_of32 c.args.layout in
+    let l = layout_of c.args.layout in
     let side = side_of c.args.cast_type in
     let a = c.args.addr in
     let n = c.args.bytes_len in c.low_grant.ensures
@@ -28,7 +28,7 @@ returns-clause-answer c =
 pub returns-clause-meaning : goal.returns-clause-meaning
 returns-clause-meaning c =
     let q = c.wide_layout.ensures in
-    let l = layout_of32 c.args.layout in
+    let l = layout_of c.args.layout in
     let side = side_of c.args.cast_type in
     let a = c.args.addr in
     let n = c.args.bytes_len in means (cast_meets 32 l side a n q.1.align (lit< tt)) (returns-clause-answer c)

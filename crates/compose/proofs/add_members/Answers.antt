@@ -12,15 +12,15 @@ use Rattle.compose.proofs.add_members.Goals as goal
 pub loop-place-init : goal.loop-place-init
 loop-place-init c = refl
 
-pub returns-in-Refused : goal.returns-in-Refused
-returns-in-Refused c =
+pub returns-in-Err : goal.returns-in-Err
+returns-in-Err c =
     let s = c.args.members.now in
-    sym (turn_off 64 (member_step 64 c.args.heed c.args.repr_packed) (length s / 48) c.loop-place.place s (layout_of c.loop-place.l) c.loop-place-test.true (told_by layout_says c.member_step.ensures c.in-Refused.is)) ∙ c.loop-place.invariant
+    sym (turn_off 64 (member_step 64 c.args.heed c.args.repr_packed) (length s / 48) c.loop-place.place s (layout_of c.loop-place.l) c.loop-place-test.true (told_by layout_says c.member_step.ensures c.in-Err.is)) ∙ c.loop-place.invariant
 
 pub loop-place-preserved : goal.loop-place-preserved
 loop-place-preserved c =
     let s = c.args.members.now in
-    sym (turn_on 64 (member_step 64 c.args.heed c.args.repr_packed) (length s / 48) c.loop-place.place s (layout_of c.loop-place.l) c.loop-place-test.true (told_by layout_says c.member_step.ensures c.in-Layout.is)) ∙ c.loop-place.invariant
+    sym (turn_on 64 (member_step 64 c.args.heed c.args.repr_packed) (length s / 48) c.loop-place.place s (layout_of c.loop-place.l) c.loop-place-test.true (told_by layout_says c.member_step.ensures c.in-Ok.is)) ∙ c.loop-place.invariant
 
 pub returns : goal.returns
 returns c =

@@ -1,4 +1,5 @@
 -- `compose::add_to_sized` meets its contract. Assumes nothing.
+use Prim.Native.Nat.{ℕ}
 use mathlib.Core.Path.{sym, ap, ◌∙◌}
 use mathlib.Core.Bool.{true}
 use Prim.Native.Nat.{◌+◌, ◌-◌, ◌*◌, ◌/◌}
@@ -21,17 +22,17 @@ sized_step-requires c = c.loop-i.invariant.0
 
 pub returns-in-SliceDst : goal.returns-in-SliceDst
 returns-in-SliceDst c = let s = c.args.members.now in
-    c.add_members.ensures ∙ sym (turn_on 64 (member_step 64 c.args.heed c.args.repr_packed) (length s / 48) c.loop-i.i s (sized_of c.loop-i.own) c.loop-i-test.true (told_by layout_says c.sized_step.ensures c.in-Layout.is)) ∙ c.loop-i.invariant.1
+    c.add_members.ensures ∙ sym (turn_on 64 (member_step 64 c.args.heed c.args.repr_packed) (length s / 48) c.loop-i.i s (sized_of c.loop-i.own) c.loop-i-test.true (told_by layout_says c.sized_step.ensures c.in-Ok.is)) ∙ c.loop-i.invariant.1
 
-pub returns-in-Refused : goal.returns-in-Refused
-returns-in-Refused c = let s = c.args.members.now in
-    sym (turn_off 64 (member_step 64 c.args.heed c.args.repr_packed) (length s / 48) c.loop-i.i s (sized_of c.loop-i.own) c.loop-i-test.true (told_by layout_says c.sized_step.ensures c.in-Refused.is)) ∙ c.loop-i.invariant.1
+pub returns-in-Err : goal.returns-in-Err
+returns-in-Err c = let s = c.args.members.now in
+    sym (turn_off 64 (member_step 64 c.args.heed c.args.repr_packed) (length s / 48) c.loop-i.i s (sized_of c.loop-i.own) c.loop-i-test.true (told_by layout_says c.sized_step.ensures c.in-Err.is)) ∙ c.loop-i.invariant.1
 
 pub loop-i-preserved : goal.loop-i-preserved
 loop-i-preserved c = let s = c.args.members.now in
     let at = c.loop-i.i * 48 in
-    let next = c.in-Layout.next in
-    let e = told_by layout_says c.sized_step.ensures c.in-Layout.is ∙ ap (λ (z : SizeInfo). answered (record { align = next.align; info = info_of z; mark = next.statically_shallow_unpadded; modifier = next.align_modifier })) c.in-Sized.is in
+    let next = c.in-Ok.next in
+    let e = told_by layout_says c.sized_step.ensures c.in-Ok.is ∙ ap (λ (z : SizeInfo ℕ). answered (record { align = next.align; info = info_of z; mark = next.statically_shallow_unpadded; modifier = next.align_modifier })) c.in-Sized.is in
     (step_power 64 c.args.heed c.args.repr_packed (sized_of c.loop-i.own) (decode_for 64 (take (at + 48 - at) (drop at s))) c.loop-i.invariant.0 e, sym (turn_on 64 (member_step 64 c.args.heed c.args.repr_packed) (length s / 48) c.loop-i.i s (sized_of c.loop-i.own) c.loop-i-test.true e) ∙ c.loop-i.invariant.1)
 
 pub returns : goal.returns

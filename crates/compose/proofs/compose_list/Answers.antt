@@ -7,16 +7,16 @@ use Rattle.compose.proofs.compose_list.Goals as goal
 
 pub add_to_sized-requires : goal.add_to_sized-requires
 add_to_sized-requires c =
-    begin_power 64 c.args.heed c.args.repr_align c.args.repr_packed (told_by layout_says c.begin.ensures c.in-Layout.is)
+    begin_power 64 c.args.heed c.args.repr_align c.args.repr_packed (told_by layout_says c.begin.ensures c.in-Ok.is)
 
-pub returns-in-Layout : goal.returns-in-Layout
-returns-in-Layout c =
+pub returns-in-Ok : goal.returns-in-Ok
+returns-in-Ok c =
     c.add_to_sized.ensures
-    ∙ sym (compose_on 64 c.args.heed c.args.repr_align c.args.repr_packed c.args.members.now c.if-members-eq0.true (empty_sized 64 c.args.heed c.args.repr_align c.args.repr_packed (told_by layout_says c.begin.ensures c.in-Layout.is)))
+    ∙ sym (compose_on 64 c.args.heed c.args.repr_align c.args.repr_packed c.args.members.now c.if-members-eq0.true (empty_sized 64 c.args.heed c.args.repr_align c.args.repr_packed (told_by layout_says c.begin.ensures c.in-Ok.is)))
 
-pub returns-in-Refused : goal.returns-in-Refused
-returns-in-Refused c =
-    sym (compose_off 64 c.args.heed c.args.repr_align c.args.repr_packed c.args.members.now c.if-members-eq0.true (told_by layout_says c.begin.ensures c.in-Refused.is))
+pub returns-in-Err : goal.returns-in-Err
+returns-in-Err c =
+    sym (compose_off 64 c.args.heed c.args.repr_align c.args.repr_packed c.args.members.now c.if-members-eq0.true (told_by layout_says c.begin.ensures c.in-Err.is))
 
 pub returns-else-members-eq0 : goal.returns-else-members-eq0
 returns-else-members-eq0 c = sym (compose_length 64 c.args.heed c.args.repr_align c.args.repr_packed c.args.members.now c.if-members-eq0.false)

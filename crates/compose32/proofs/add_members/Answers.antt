@@ -1,30 +1,30 @@
 -- `compose32::add_members` meets its contract. Assumes nothing.
+use Rattle.layout.specs.View.{layout_of, layout_says}
 use mathlib.Core.Path.{sym, ◌∙◌}
 use Prim.Native.Nat.{◌-◌, ◌*◌, ◌/◌}
 use native.Mathlib.Omega.{arith}
 use lib.ListN.{length, drop}
 use Rattle.util_defs.proofs.Tables.{told_by}
-use Rattle.layouts32.specs.View.{layout_of32, layout_says32}
 use Rattle.compose_defs.specs.Compose.{member_step}
 use Rattle.compose_defs.proofs.Compositions.{turn_on, turn_off, begun, ended}
 use Rattle.compose32.proofs.add_members.Goals as goal
 
 pub loop-place-init : goal.loop-place-init
 loop-place-init c =
-    begun 32 (member_step 32 c.args.heed c.args.repr_packed) (length c.args.members.now / 48) c.args.members.now (layout_of32 c.args.start)
+    begun 32 (member_step 32 c.args.heed c.args.repr_packed) (length c.args.members.now / 48) c.args.members.now (layout_of c.args.start)
 
-pub returns-in-Refused : goal.returns-in-Refused
-returns-in-Refused c =
+pub returns-in-Err : goal.returns-in-Err
+returns-in-Err c =
     let s = c.args.members.now in
-    sym (turn_off 32 (member_step 32 c.args.heed c.args.repr_packed) (length s / 48) c.loop-place.place s (layout_of32 c.loop-place.l) c.loop-place-test.true (told_by layout_says32 c.member_step.ensures c.in-Refused.is)) ∙ c.loop-place.invariant
+    sym (turn_off 32 (member_step 32 c.args.heed c.args.repr_packed) (length s / 48) c.loop-place.place s (layout_of c.loop-place.l) c.loop-place-test.true (told_by layout_says c.member_step.ensures c.in-Err.is)) ∙ c.loop-place.invariant
 
 pub loop-place-preserved : goal.loop-place-preserved
 loop-place-preserved c =
     let s = c.args.members.now in
-    sym (turn_on 32 (member_step 32 c.args.heed c.args.repr_packed) (length s / 48) c.loop-place.place s (layout_of32 c.loop-place.l) c.loop-place-test.true (told_by layout_says32 c.member_step.ensures c.in-Layout.is)) ∙ c.loop-place.invariant
+    sym (turn_on 32 (member_step 32 c.args.heed c.args.repr_packed) (length s / 48) c.loop-place.place s (layout_of c.loop-place.l) c.loop-place-test.true (told_by layout_says c.member_step.ensures c.in-Ok.is)) ∙ c.loop-place.invariant
 
 pub returns : goal.returns
 returns c =
     let s = c.args.members.now in
     let i = c.loop-place.place in
-    sym (ended 32 (member_step 32 c.args.heed c.args.repr_packed) (length s / 48) i (drop (i * 48) s) (layout_of32 c.loop-place.l) (omega arith)) ∙ c.loop-place.invariant
+    sym (ended 32 (member_step 32 c.args.heed c.args.repr_packed) (length s / 48) i (drop (i * 48) s) (layout_of c.loop-place.l) (omega arith)) ∙ c.loop-place.invariant

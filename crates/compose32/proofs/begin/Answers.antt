@@ -1,15 +1,16 @@
 -- `compose32::begin` meets its contract. Assumes nothing.
+use Rattle.util.proofs.Told.{handed_on}
+use Rattle.layout.specs.View.{layout_says}
 use mathlib.Core.Path.{sym, ◌∙◌}
 use Rattle.util_defs.proofs.Tables.{told_by}
-use Rattle.layouts32.specs.View.{layout_says32}
 use Rattle.compose_defs.proofs.Compositions.{begin_own, begin_on, begin_off}
 use Rattle.compose32.proofs.begin.Goals as goal
 
 pub returns-then-at_odds : goal.returns-then-at_odds
-returns-then-at_odds c = sym (begin_off 32 c.args.heed c.args.repr_align c.args.repr_packed (told_by layout_says32 c.new_zst.ensures.answer c.in-Layout.is) (sym c.at_odds.ensures ∙ c.if-at_odds.true))
+returns-then-at_odds c = sym (begin_off 32 c.args.heed c.args.repr_align c.args.repr_packed (told_by layout_says c.new_zst.ensures.answer c.in_ok-empty.was) (sym c.at_odds.ensures ∙ c.if-at_odds.true))
 
 pub returns-else-at_odds : goal.returns-else-at_odds
-returns-else-at_odds c = sym (begin_on 32 c.args.heed c.args.repr_align c.args.repr_packed (told_by layout_says32 c.new_zst.ensures.answer c.in-Layout.is) (sym c.at_odds.ensures ∙ c.if-at_odds.false))
+returns-else-at_odds c = sym (begin_on 32 c.args.heed c.args.repr_align c.args.repr_packed (told_by layout_says c.new_zst.ensures.answer c.in_ok-empty.was) (sym c.at_odds.ensures ∙ c.if-at_odds.false))
 
-pub returns-in-Refused : goal.returns-in-Refused
-returns-in-Refused c = sym (begin_own 32 c.args.heed c.args.repr_align c.args.repr_packed (told_by layout_says32 c.new_zst.ensures.answer c.in-Refused.is))
+pub returns-in_err-empty : goal.returns-in_err-empty
+returns-in_err-empty c = handed_on _ c.from_residual.result _ c.from_residual.ensures.1 (sym (begin_own 32 c.args.heed c.args.repr_align c.args.repr_packed (told_by layout_says c.new_zst.ensures.answer c.in_err-empty.was)))

@@ -1,4 +1,5 @@
 -- `convert::compute` meets its contract. Assumes nothing.
+use Prim.Native.Nat.{ℕ}
 use mathlib.Core.Path.{sym, ap, ◌∙◌}
 use borrow.Author.Tests.{lt-ltb, le-ltb}
 use Rattle.shift_defs.specs.Mode.{comparison_of}
@@ -25,11 +26,11 @@ unfolding unless
 returns-in-Sized c =
     let s = layout_of c.args.src_layout in
     let t = layout_of c.args.dst_layout in
-    c.compute_from_sized.ensures (mode_of c.args.mode) ∙ ap (λ (i : SizeInfo). by_kinds 64 (comparison_of 64 (mode_of c.args.mode)) (info_of i) t t.info) (sym c.in-Sized.is) ∙ simp (le-ltb s.align t.align c.if-src_layout-dst_layout.false)
+    c.compute_from_sized.ensures (mode_of c.args.mode) ∙ ap (λ (i : SizeInfo ℕ). by_kinds 64 (comparison_of 64 (mode_of c.args.mode)) (info_of i) t t.info) (sym c.in-Sized.is) ∙ simp (le-ltb s.align t.align c.if-src_layout-dst_layout.false)
 
 pub returns-in-SliceDst : goal.returns-in-SliceDst
 unfolding unless
 returns-in-SliceDst c =
     let s = layout_of c.args.src_layout in
     let t = layout_of c.args.dst_layout in
-    c.compute_from_unsized.ensures ∙ ap (λ (i : SizeInfo). by_kinds 64 (comparison_of 64 (mode_of c.args.mode)) (info_of i) t t.info) (sym c.in-SliceDst.is) ∙ simp (le-ltb s.align t.align c.if-src_layout-dst_layout.false)
+    c.compute_from_unsized.ensures ∙ ap (λ (i : SizeInfo ℕ). by_kinds 64 (comparison_of 64 (mode_of c.args.mode)) (info_of i) t t.info) (sym c.in-SliceDst.is) ∙ simp (le-ltb s.align t.align c.if-src_layout-dst_layout.false)

@@ -21,19 +21,19 @@ by_count o = cond (is_refused o) (refused 28) (answered (with_count o))
 pub returns-then-src_size-size : goal.returns-then-src_size-size
 unfolding unless
 returns-then-src_size-size c = λ m.
-    simp (eq-eqb c.args.src_size c.in-Sized.size c.if-src_size-size.true) refl ∙ ap (λ (i : SizeInfo). by_kinds 64 (comparison_of 64 m) (fixed c.args.src_size) (layout_of c.args.dst_layout) (info_of i)) (sym c.in-Sized.is)
+    simp (eq-eqb c.args.src_size c.in-Sized.size c.if-src_size-size.true) refl ∙ ap (λ (i : SizeInfo ℕ). by_kinds 64 (comparison_of 64 m) (fixed c.args.src_size) (layout_of c.args.dst_layout) (info_of i)) (sym c.in-Sized.is)
 
 pub returns-else-src_size-size : goal.returns-else-src_size-size
 unfolding unless
 returns-else-src_size-size c = λ m.
-    simp (ne_eqb c.args.src_size c.in-Sized.size c.if-src_size-size.false) refl ∙ ap (λ (i : SizeInfo). by_kinds 64 (comparison_of 64 m) (fixed c.args.src_size) (layout_of c.args.dst_layout) (info_of i)) (sym c.in-Sized.is)
+    simp (ne_eqb c.args.src_size c.in-Sized.size c.if-src_size-size.false) refl ∙ ap (λ (i : SizeInfo ℕ). by_kinds 64 (comparison_of 64 m) (fixed c.args.src_size) (layout_of c.args.dst_layout) (info_of i)) (sym c.in-Sized.is)
 
-pub returns-in-Number : goal.returns-in-Number
+pub returns-in-Ok : goal.returns-in-Ok
 unfolding unless
-returns-in-Number c = λ m.
-    ap by_count (sym (told_by number_says c.metadata_for_exact_size.ensures.answer c.in-Number.is)) ∙ ap (λ (i : SizeInfo). by_kinds 64 (comparison_of 64 m) (fixed c.args.src_size) (layout_of c.args.dst_layout) (info_of i)) (sym c.in-SliceDst.is)
+returns-in-Ok c = λ m.
+    ap by_count (sym (told_by number_says c.metadata_for_exact_size.ensures.answer c.in-Ok.is)) ∙ ap (λ (i : SizeInfo ℕ). by_kinds 64 (comparison_of 64 m) (fixed c.args.src_size) (layout_of c.args.dst_layout) (info_of i)) (sym c.in-SliceDst.is)
 
-pub returns-in-Refused : goal.returns-in-Refused
+pub returns-in-Err : goal.returns-in-Err
 unfolding unless
-returns-in-Refused c = λ m.
-    ap by_count (sym (told_by number_says c.metadata_for_exact_size.ensures.answer c.in-Refused.is)) ∙ ap (λ (i : SizeInfo). by_kinds 64 (comparison_of 64 m) (fixed c.args.src_size) (layout_of c.args.dst_layout) (info_of i)) (sym c.in-SliceDst.is)
+returns-in-Err c = λ m.
+    ap by_count (sym (told_by number_says c.metadata_for_exact_size.ensures.answer c.in-Err.is)) ∙ ap (λ (i : SizeInfo ℕ). by_kinds 64 (comparison_of 64 m) (fixed c.args.src_size) (layout_of c.args.dst_layout) (info_of i)) (sym c.in-SliceDst.is)

@@ -1,4 +1,5 @@
 -- `convert::compute_from_unsized` meets its contract. Assumes nothing.
+use Prim.Native.Nat.{ℕ}
 use mathlib.Core.Path.{sym, ap, ◌∙◌}
 use Rattle.shift_defs.specs.Mode.{comparison_of}
 use Rattle.shift.specs.View.{mode_of}
@@ -16,7 +17,7 @@ compute_unsized-requires c =
 
 pub returns-in-Sized : goal.returns-in-Sized
 unfolding unless
-returns-in-Sized c = ap (λ (i : SizeInfo). by_kinds 64 (comparison_of 64 (mode_of c.args.mode)) (trailing (trailing_of c.args.src)) (layout_of c.args.dst_layout) (info_of i)) (sym c.in-Sized.is)
+returns-in-Sized c = ap (λ (i : SizeInfo ℕ). by_kinds 64 (comparison_of 64 (mode_of c.args.mode)) (trailing (trailing_of c.args.src)) (layout_of c.args.dst_layout) (info_of i)) (sym c.in-Sized.is)
 
 pub returns-in-SliceDst : goal.returns-in-SliceDst
-returns-in-SliceDst c = c.compute_unsized.ensures ∙ ap (λ (i : SizeInfo). by_kinds 64 (comparison_of 64 (mode_of c.args.mode)) (trailing (trailing_of c.args.src)) (layout_of c.args.dst_layout) (info_of i)) (sym c.in-SliceDst.is)
+returns-in-SliceDst c = c.compute_unsized.ensures ∙ ap (λ (i : SizeInfo ℕ). by_kinds 64 (comparison_of 64 (mode_of c.args.mode)) (trailing (trailing_of c.args.src)) (layout_of c.args.dst_layout) (info_of i)) (sym c.in-SliceDst.is)

@@ -1,5 +1,6 @@
 -- `convert::try_compute` meets its contract. Assumes nothing.
-use mathlib.Core.Path.{sym, ◌∙◌}
+use Rattle.util.proofs.Told.{handed_on}
+use mathlib.Core.Path.{refl, sym, ◌∙◌}
 use mathlib.Core.List.{◌++◌}
 use lib.Dec.{lit<}
 use native.Mathlib.Omega.{arith}
@@ -16,87 +17,87 @@ use Rattle.convert_defs.proofs.Conversions.{compute_meets}
 use Rattle.util_defs.proofs.Refusals.{means}
 use Rattle.convert.proofs.try_compute.Goals as goal
 
-pub compute_answer-requires : goal.compute_answer-requires
+pub compute-requires : goal.compute-requires
 unfolding check_for
-compute_answer-requires c =
+compute-requires c =
     let s = layout_of c.args.src_layout in
     let t = layout_of c.args.dst_layout in (
-      accepted_none (layout_causes 64 s) tt (layout_decided 64 s (omega arith)) (told_by check_says c.check.ensures.answer c.in-Accepted.is),
-      accepted_none (layout_causes 64 t) tt (layout_decided 64 t (omega arith)) (told_by check_says c.check-in-Accepted.ensures.answer c.in-Accepted-check.is),
+      accepted_none (layout_causes 64 s) tt (layout_decided 64 s (omega arith)) (told_by check_says c.check.ensures.answer c.in_ok-check.was),
+      accepted_none (layout_causes 64 t) tt (layout_decided 64 t (omega arith)) (told_by check_says c.check-2.ensures.answer c.in_ok-check-2.was),
     )
 
-pub returns-in-Accepted-check-clause-answer : goal.returns-in-Accepted-check-clause-answer
+pub returns-clause-answer : goal.returns-clause-answer
 unfolding compute_for check_for
-returns-in-Accepted-check-clause-answer c =
+returns-clause-answer c =
     let s = layout_of c.args.src_layout in
     let t = layout_of c.args.dst_layout in
     let ds = conversion_causes 64 (comparison_of 64 (mode_of c.args.mode)) s t in
     let q = params_of 64 (comparison_of 64 (mode_of c.args.mode)) s.info t t.info in
-    c.compute_answer.ensures
-    ∙ sym (accepted_first (layout_causes 64 s) (layout_causes 64 t ++ ds) tt q (told_by check_says c.check.ensures.answer c.in-Accepted.is) ∙ accepted_first (layout_causes 64 t) ds tt q (told_by check_says c.check-in-Accepted.ensures.answer c.in-Accepted-check.is))
+    c.compute.ensures
+    ∙ sym (accepted_first (layout_causes 64 s) (layout_causes 64 t ++ ds) tt q (told_by check_says c.check.ensures.answer c.in_ok-check.was) ∙ accepted_first (layout_causes 64 t) ds tt q (told_by check_says c.check-2.ensures.answer c.in_ok-check-2.was))
 
-pub returns-in-Accepted-check-clause-meaning : goal.returns-in-Accepted-check-clause-meaning
-returns-in-Accepted-check-clause-meaning c =
+pub returns-clause-meaning : goal.returns-clause-meaning
+returns-clause-meaning c =
     let s = layout_of c.args.src_layout in
     let t = layout_of c.args.dst_layout in
     let ds = conversion_causes 64 (comparison_of 64 (mode_of c.args.mode)) s t in
     let q = params_of 64 (comparison_of 64 (mode_of c.args.mode)) s.info t t.info in
-    let m = compute_meets 64 (comparison_of 64 (mode_of c.args.mode)) s t (omega arith) (omega arith) (lit< tt) in means m (returns-in-Accepted-check-clause-answer c)
+    let m = compute_meets 64 (comparison_of 64 (mode_of c.args.mode)) s t (omega arith) (omega arith) (lit< tt) in means m (returns-clause-answer c)
 
-pub returns-in-Accepted-check-clause-fits : goal.returns-in-Accepted-check-clause-fits
+pub returns-clause-fits : goal.returns-clause-fits
 unfolding compute_for check_for
-returns-in-Accepted-check-clause-fits c =
+returns-clause-fits c =
     let s = layout_of c.args.src_layout in
     let t = layout_of c.args.dst_layout in
     let q = params_of 64 (comparison_of 64 (mode_of c.args.mode)) s.info t t.info in
-    λ q e. (held_accepted c.check.result c.check.ensures.meaning c.in-Accepted.is, held_accepted c.check-in-Accepted.result c.check-in-Accepted.ensures.meaning c.in-Accepted-check.is)
+    λ q e. (held_accepted c.check.result c.check.ensures.meaning c.in_ok-check.was, held_accepted c.check-2.result c.check-2.ensures.meaning c.in_ok-check-2.was)
 
-pub returns-in-Refused-check-clause-answer : goal.returns-in-Refused-check-clause-answer
+pub returns-in_err-check-2-clause-answer : goal.returns-in_err-check-2-clause-answer
 unfolding compute_for check_for
-returns-in-Refused-check-clause-answer c =
+returns-in_err-check-2-clause-answer c =
     let s = layout_of c.args.src_layout in
     let t = layout_of c.args.dst_layout in
     let ds = conversion_causes 64 (comparison_of 64 (mode_of c.args.mode)) s t in
     let q = params_of 64 (comparison_of 64 (mode_of c.args.mode)) s.info t t.info in
-    sym (accepted_first (layout_causes 64 s) (layout_causes 64 t ++ ds) tt q (told_by check_says c.check.ensures.answer c.in-Accepted.is) ∙ refused_first (layout_causes 64 t) ds tt q (told_by check_says c.check-in-Accepted.ensures.answer c.in-Refused-check.is))
+    handed_on _ c.from_residual-in_err-check-2.result _ c.from_residual-in_err-check-2.ensures.1 (sym (accepted_first (layout_causes 64 s) (layout_causes 64 t ++ ds) tt q (told_by check_says c.check.ensures.answer c.in_ok-check.was) ∙ refused_first (layout_causes 64 t) ds tt q (told_by check_says c.check-2.ensures.answer c.in_err-check-2.was)))
 
-pub returns-in-Refused-check-clause-meaning : goal.returns-in-Refused-check-clause-meaning
-returns-in-Refused-check-clause-meaning c =
+pub returns-in_err-check-2-clause-meaning : goal.returns-in_err-check-2-clause-meaning
+returns-in_err-check-2-clause-meaning c =
     let s = layout_of c.args.src_layout in
     let t = layout_of c.args.dst_layout in
     let ds = conversion_causes 64 (comparison_of 64 (mode_of c.args.mode)) s t in
     let q = params_of 64 (comparison_of 64 (mode_of c.args.mode)) s.info t t.info in
-    let m = compute_meets 64 (comparison_of 64 (mode_of c.args.mode)) s t (omega arith) (omega arith) (lit< tt) in means m (returns-in-Refused-check-clause-answer c)
+    let m = compute_meets 64 (comparison_of 64 (mode_of c.args.mode)) s t (omega arith) (omega arith) (lit< tt) in means m (returns-in_err-check-2-clause-answer c)
 
-pub returns-in-Refused-check-clause-fits : goal.returns-in-Refused-check-clause-fits
+pub returns-in_err-check-2-clause-fits : goal.returns-in_err-check-2-clause-fits
 unfolding compute_for check_for
-returns-in-Refused-check-clause-fits c =
+returns-in_err-check-2-clause-fits c =
     let s = layout_of c.args.src_layout in
     let t = layout_of c.args.dst_layout in
     let q = params_of 64 (comparison_of 64 (mode_of c.args.mode)) s.info t t.info in
-    λ q e. absurd (apart e)
+    (λ q e. absurd (apart (sym (handed_on _ c.from_residual-in_err-check-2.result _ c.from_residual-in_err-check-2.ensures.1 refl) ∙ e)))
 
-pub returns-in-Refused-clause-answer : goal.returns-in-Refused-clause-answer
+pub returns-in_err-check-clause-answer : goal.returns-in_err-check-clause-answer
 unfolding compute_for check_for
-returns-in-Refused-clause-answer c =
+returns-in_err-check-clause-answer c =
     let s = layout_of c.args.src_layout in
     let t = layout_of c.args.dst_layout in
     let ds = conversion_causes 64 (comparison_of 64 (mode_of c.args.mode)) s t in
     let q = params_of 64 (comparison_of 64 (mode_of c.args.mode)) s.info t t.info in
-    sym (refused_first (layout_causes 64 s) (layout_causes 64 t ++ ds) tt q (told_by check_says c.check.ensures.answer c.in-Refused.is))
+    handed_on _ c.from_residual.result _ c.from_residual.ensures.1 (sym (refused_first (layout_causes 64 s) (layout_causes 64 t ++ ds) tt q (told_by check_says c.check.ensures.answer c.in_err-check.was)))
 
-pub returns-in-Refused-clause-meaning : goal.returns-in-Refused-clause-meaning
-returns-in-Refused-clause-meaning c =
+pub returns-in_err-check-clause-meaning : goal.returns-in_err-check-clause-meaning
+returns-in_err-check-clause-meaning c =
     let s = layout_of c.args.src_layout in
     let t = layout_of c.args.dst_layout in
     let ds = conversion_causes 64 (comparison_of 64 (mode_of c.args.mode)) s t in
     let q = params_of 64 (comparison_of 64 (mode_of c.args.mode)) s.info t t.info in
-    let m = compute_meets 64 (comparison_of 64 (mode_of c.args.mode)) s t (omega arith) (omega arith) (lit< tt) in means m (returns-in-Refused-clause-answer c)
+    let m = compute_meets 64 (comparison_of 64 (mode_of c.args.mode)) s t (omega arith) (omega arith) (lit< tt) in means m (returns-in_err-check-clause-answer c)
 
-pub returns-in-Refused-clause-fits : goal.returns-in-Refused-clause-fits
+pub returns-in_err-check-clause-fits : goal.returns-in_err-check-clause-fits
 unfolding compute_for check_for
-returns-in-Refused-clause-fits c =
+returns-in_err-check-clause-fits c =
     let s = layout_of c.args.src_layout in
     let t = layout_of c.args.dst_layout in
     let q = params_of 64 (comparison_of 64 (mode_of c.args.mode)) s.info t t.info in
-    λ q e. absurd (apart e)
+    (λ q e. absurd (apart (sym (handed_on _ c.from_residual.result _ c.from_residual.ensures.1 refl) ∙ e)))

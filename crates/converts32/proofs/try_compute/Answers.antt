@@ -1,4 +1,5 @@
 -- `converts32::try_compute` meets its contract. Assumes nothing.
+use Rattle.layout.specs.View.{layout_of}
 use mathlib.Core.Path.{sym, ap₂, ◌∙◌}
 use mathlib.Core.Bool.{Bool}
 use lib.Dec.{lit<}
@@ -13,7 +14,6 @@ use Rattle.widths_layouts_defs.proofs.Layouts.{fits_width}
 use Rattle.widths_converts_defs.specs.Low.{low_params}
 use Rattle.widths_converts_defs.specs.Within.{compute_within}
 use Rattle.widths_converts_defs.proofs.Converting.{compute_low}
-use Rattle.layouts32.specs.View.{layout_of32}
 use Rattle.util_defs.proofs.Refusals.{means}
 use Rattle.converts32.proofs.try_compute.Goals as goal
 
@@ -21,8 +21,8 @@ pub returns-clause-answer : goal.returns-clause-answer
 returns-clause-answer c =
     let q = c.wide_layout-src.ensures in
     let r = c.wide_layout-dst.ensures in
-    let s = layout_of32 c.args.src_layout in
-    let t = layout_of32 c.args.dst_layout in
+    let s = layout_of c.args.src_layout in
+    let t = layout_of c.args.dst_layout in
     let m = mode_of c.args.mode in c.compute_within.ensures
     ∙ ap₂ (λ (b : Bool) (o : Outcome Params). mapped (low_params 32) (compute_within b o)) c.starts_in-start.ensures
     (c.try_compute.ensures.answer ∙ ap₂ (compute_for 64 (comparison_of 64 m)) q.0 r.0)
@@ -32,14 +32,14 @@ pub returns-clause-meaning : goal.returns-clause-meaning
 returns-clause-meaning c =
     let q = c.wide_layout-src.ensures in
     let r = c.wide_layout-dst.ensures in
-    let s = layout_of32 c.args.src_layout in
-    let t = layout_of32 c.args.dst_layout in
+    let s = layout_of c.args.src_layout in
+    let t = layout_of c.args.dst_layout in
     let m = mode_of c.args.mode in means (compute_meets 32 (comparison_of 32 m) s t q.1.align r.1.align (lit< tt)) (returns-clause-answer c)
 
 pub returns-clause-fits : goal.returns-clause-fits
 returns-clause-fits c =
     let q = c.wide_layout-src.ensures in
     let r = c.wide_layout-dst.ensures in
-    let s = layout_of32 c.args.src_layout in
-    let t = layout_of32 c.args.dst_layout in
+    let s = layout_of c.args.src_layout in
+    let t = layout_of c.args.dst_layout in
     (fits_width 32 s q.1, fits_width 32 t r.1)

@@ -1,5 +1,7 @@
 -- `describe::part` and `describe::add_members`, which call one another, meet their contracts: the bytes left fall. Assumes
 -- nothing.
+use Rattle.util.proofs.Told.{handed_on_at}
+use Rattle.std.specs.Prelude.{Ok}
 use mathlib.Core.Path.{refl, sym, ap, ◌∙◌}
 use native.Mathlib.Omega.{arith}
 use Rattle.util_defs.specs.Refusal.{Outcome}
@@ -38,34 +40,34 @@ pub add_members-loop-left-preserved : goal.add_members-loop-left-preserved
 add_members-loop-left-preserved t c =
     let k = c.args.narrow in
     let l = layout_of c.loop-left.own in
-    let m = layout_of c.in-Part.layout in
-    let read = sym c.part.ensures.answer ∙ ap part_says c.in-Part.is in
+    let m = layout_of c.in_ok-read.read.layout in
+    let read = sym c.part.ensures.answer ∙ ap part_says c.in_ok-read.was in
     let hl = c.loop-left.invariant.1.0 in
     let hm = part_held k c.args.s.now c.args.depth c.loop-left.at read in
     let hp = c.requires.1 in
-    let e = told_by layout_says c.extend.ensures c.in-Layout.is in (
-      omega (arith, c.loop-left.invariant.0, moved (bits_of k) (target_of k) c.args.s.now c.args.depth c.loop-left.at c.in-Part.next m read),
+    let e = told_by layout_says c.extend.ensures c.in-Ok.is in (
+      omega (arith, c.loop-left.invariant.0, moved (bits_of k) (target_of k) c.args.s.now c.args.depth c.loop-left.at c.in_ok-read.read.next m read),
       (
         extend_held k l m c.args.packed hl hm hp e,
         sym (add_on (bits_of k) (part_for (bits_of k) (target_of k) c.args.depth c.args.s.now) c.args.packed c.args.tag l c.loop-left.at c.loop-left.left (λ z. omega (arith, c.loop-left-test.true)) read (step_is (bits_of k) c.args.packed l m (extend_at k l m c.args.packed hl hm hp ∙ e))) ∙ c.loop-left.invariant.1.1,
       ),
     )
 
-pub add_members-returns-in-Refused-extend : goal.add_members-returns-in-Refused-extend
-add_members-returns-in-Refused-extend t c =
+pub add_members-returns-in-Err : goal.add_members-returns-in-Err
+add_members-returns-in-Err t c =
     let k = c.args.narrow in
     let l = layout_of c.loop-left.own in
-    let m = layout_of c.in-Part.layout in
-    let read = sym c.part.ensures.answer ∙ ap part_says c.in-Part.is in
+    let m = layout_of c.in_ok-read.read.layout in
+    let read = sym c.part.ensures.answer ∙ ap part_says c.in_ok-read.was in
     let hl = c.loop-left.invariant.1.0 in
     let hm = part_held k c.args.s.now c.args.depth c.loop-left.at read in
     let hp = c.requires.1 in
-    let e = told_by layout_says c.extend.ensures c.in-Refused-extend.is in
+    let e = told_by layout_says c.extend.ensures c.in-Err.is in
     sym (add_off (bits_of k) (part_for (bits_of k) (target_of k) c.args.depth c.args.s.now) c.args.packed c.args.tag l c.loop-left.at c.loop-left.left (λ z. omega (arith, c.loop-left-test.true)) read (step_is (bits_of k) c.args.packed l m (extend_at k l m c.args.packed hl hm hp ∙ e))) ∙ c.loop-left.invariant.1.1
 
-pub add_members-returns-in-Refused : goal.add_members-returns-in-Refused
-add_members-returns-in-Refused t c =
-    sym (add_stop (bits_of c.args.narrow) (part_for (bits_of c.args.narrow) (target_of c.args.narrow) c.args.depth c.args.s.now) c.args.packed c.args.tag (layout_of c.loop-left.own) c.loop-left.at c.loop-left.left (λ z. omega (arith, c.loop-left-test.true)) (sym c.part.ensures.answer ∙ ap part_says c.in-Refused.is)) ∙ c.loop-left.invariant.1.1
+pub add_members-returns-in_err-read : goal.add_members-returns-in_err-read
+add_members-returns-in_err-read t c =
+    handed_on_at _ c.from_residual.result _ c.from_residual.ensures.1 (sym (add_stop (bits_of c.args.narrow) (part_for (bits_of c.args.narrow) (target_of c.args.narrow) c.args.depth c.args.s.now) c.args.packed c.args.tag (layout_of c.loop-left.own) c.loop-left.at c.loop-left.left (λ z. omega (arith, c.loop-left-test.true)) (sym c.part.ensures.answer ∙ ap part_says c.in_err-read.was)) ∙ c.loop-left.invariant.1.1)
 
 pub add_members-returns : goal.add_members-returns
 add_members-returns t c =
@@ -73,52 +75,52 @@ add_members-returns t c =
 
 pub part-overflow_add-at : goal.part-overflow_add-at
 part-overflow_add-at t c =
-    omega (arith, head_room (bits_of c.args.narrow) c.args.s.now c.args.at c.args.depth (sym c.head_of.ensures.answer ∙ ap head_says c.in-Scalar.is))
+    omega (arith, head_room (bits_of c.args.narrow) c.args.s.now c.args.at c.args.depth (sym c.head_of.ensures.answer ∙ ap head_says (c.in_ok-head.was ∙ ap Ok c.in-Scalar.is)))
 
 pub part-overflow_add-at-in-Array : goal.part-overflow_add-at-in-Array
 part-overflow_add-at-in-Array t c =
-    omega (arith, head_room (bits_of c.args.narrow) c.args.s.now c.args.at c.args.depth (sym c.head_of.ensures.answer ∙ ap head_says c.in-Array.is))
+    omega (arith, head_room (bits_of c.args.narrow) c.args.s.now c.args.at c.args.depth (sym c.head_of.ensures.answer ∙ ap head_says (c.in_ok-head.was ∙ ap Ok c.in-Array.is)))
 
 pub part-overflow_add-at-in-Array-2 : goal.part-overflow_add-at-in-Array-2
 part-overflow_add-at-in-Array-2 t c =
-    omega (arith, head_room (bits_of c.args.narrow) c.args.s.now c.args.at c.args.depth (sym c.head_of.ensures.answer ∙ ap head_says c.in-Array.is))
+    omega (arith, head_room (bits_of c.args.narrow) c.args.s.now c.args.at c.args.depth (sym c.head_of.ensures.answer ∙ ap head_says (c.in_ok-head.was ∙ ap Ok c.in-Array.is)))
 
 pub part-overflow_sub-depth : goal.part-overflow_sub-depth
 part-overflow_sub-depth t c =
-    (head_room (bits_of c.args.narrow) c.args.s.now c.args.at c.args.depth (sym c.head_of.ensures.answer ∙ ap head_says c.in-Array.is)).0
+    (head_room (bits_of c.args.narrow) c.args.s.now c.args.at c.args.depth (sym c.head_of.ensures.answer ∙ ap head_says (c.in_ok-head.was ∙ ap Ok c.in-Array.is))).0
 
 pub part-part-requires : goal.part-part-requires
 part-part-requires t c =
-    (omega (arith, head_room (bits_of c.args.narrow) c.args.s.now c.args.at c.args.depth (sym c.head_of.ensures.answer ∙ ap head_says c.in-Array.is)), tt)
+    (omega (arith, head_room (bits_of c.args.narrow) c.args.s.now c.args.at c.args.depth (sym c.head_of.ensures.answer ∙ ap head_says (c.in_ok-head.was ∙ ap Ok c.in-Array.is))), tt)
 
-pub part-overflow_sub-depth-in-Layout : goal.part-overflow_sub-depth-in-Layout
-part-overflow_sub-depth-in-Layout t c =
-    (head_room (bits_of c.args.narrow) c.args.s.now c.args.at c.args.depth (sym c.head_of.ensures.answer ∙ ap head_says c.in-Struct.is)).0
+pub part-overflow_sub-depth-in-Ok : goal.part-overflow_sub-depth-in-Ok
+part-overflow_sub-depth-in-Ok t c =
+    (head_room (bits_of c.args.narrow) c.args.s.now c.args.at c.args.depth (sym c.head_of.ensures.answer ∙ ap head_says (c.in_ok-head.was ∙ ap Ok c.in-Struct.is))).0
 
 pub part-add_members-requires : goal.part-add_members-requires
 part-add_members-requires t c =
-    let e = sym c.head_of.ensures.answer ∙ ap head_says c.in-Struct.is in
+    let e = sym c.head_of.ensures.answer ∙ ap head_says (c.in_ok-head.was ∙ ap Ok c.in-Struct.is) in
     let h = head_held c.args.narrow c.args.s.now c.args.depth c.args.at e in (
       omega (arith, head_room (bits_of c.args.narrow) c.args.s.now c.args.at c.args.depth e),
-      (zst_held c.args.narrow c.in-Struct.align h.0 (told_by layout_says c.new_zst.ensures.answer c.in-Layout.is), h.1),
+      (zst_held c.args.narrow c.in-Struct.align h.0 (told_by layout_says c.new_zst.ensures.answer c.in-Ok.is), h.1),
     )
 
 pub part-overflow_add-at-in-Slice : goal.part-overflow_add-at-in-Slice
 part-overflow_add-at-in-Slice t c =
-    omega (arith, head_room (bits_of c.args.narrow) c.args.s.now c.args.at c.args.depth (sym c.head_of.ensures.answer ∙ ap head_says c.in-Slice.is))
+    omega (arith, head_room (bits_of c.args.narrow) c.args.s.now c.args.at c.args.depth (sym c.head_of.ensures.answer ∙ ap head_says (c.in_ok-head.was ∙ ap Ok c.in-Slice.is)))
 
 pub part-overflow_sub-depth-in-Slice : goal.part-overflow_sub-depth-in-Slice
 part-overflow_sub-depth-in-Slice t c =
-    (head_room (bits_of c.args.narrow) c.args.s.now c.args.at c.args.depth (sym c.head_of.ensures.answer ∙ ap head_says c.in-Slice.is)).0
+    (head_room (bits_of c.args.narrow) c.args.s.now c.args.at c.args.depth (sym c.head_of.ensures.answer ∙ ap head_says (c.in_ok-head.was ∙ ap Ok c.in-Slice.is))).0
 
 pub part-part-requires-in-Slice : goal.part-part-requires-in-Slice
 part-part-requires-in-Slice t c =
-    (omega (arith, head_room (bits_of c.args.narrow) c.args.s.now c.args.at c.args.depth (sym c.head_of.ensures.answer ∙ ap head_says c.in-Slice.is)), tt)
+    (omega (arith, head_room (bits_of c.args.narrow) c.args.s.now c.args.at c.args.depth (sym c.head_of.ensures.answer ∙ ap head_says (c.in_ok-head.was ∙ ap Ok c.in-Slice.is))), tt)
 
 pub part-returns-in-Scalar : goal.part-returns-in-Scalar
 part-returns-in-Scalar t c =
     let k = c.args.narrow in
-    let e = sym c.head_of.ensures.answer ∙ ap head_says c.in-Scalar.is in let told_here = part_told (bits_of k) (target_of k) (scalars_at k) c.args.depth c.args.s.now c.args.at
+    let e = sym c.head_of.ensures.answer ∙ ap head_says (c.in_ok-head.was ∙ ap Ok c.in-Scalar.is) in let told_here = part_told (bits_of k) (target_of k) (scalars_at k) c.args.depth c.args.s.now c.args.at
     (c.at_tag.ensures
     ∙ ap (λ (o : Outcome Layout). at_place c.args.at o (λ l. reached (l, c.args.at + 1))) (c.scalar.ensures ∙ code_scalar (target_of k) c.in-Scalar.code (head_room (bits_of k) c.args.s.now c.args.at c.args.depth e).1)
     ∙ sym (by_head (bits_of k) (target_of k) c.args.depth c.args.s.now c.args.at e)) in record { answer = told_here.0; meaning = told_here.1 }
@@ -126,45 +128,45 @@ part-returns-in-Scalar t c =
 pub part-returns-in-Array : goal.part-returns-in-Array
 part-returns-in-Array t c =
     let k = c.args.narrow in
-    let e = sym c.head_of.ensures.answer ∙ ap head_says c.in-Array.is in
+    let e = sym c.head_of.ensures.answer ∙ ap head_says (c.in_ok-head.was ∙ ap Ok c.in-Array.is) in
     let n = c.in-Array.count in let told_here = part_told (bits_of k) (target_of k) (scalars_at k) c.args.depth c.args.s.now c.args.at
     (c.array_part.ensures
     ∙ made_alike (part_says c.part.result) c.args.at (λ l. width_array k l n) (λ l. array_for (bits_of k) l n) (λ l j f. sym (array_at k l n (part_held k c.args.s.now (c.args.depth - 1) (c.args.at + 1 + 4) (sym c.part.ensures.answer ∙ f))))
     ∙ ap (λ (p : Placed Part). go_on p (made c.args.at (λ l. array_for (bits_of k) l n))) c.part.ensures.answer
     ∙ sym (by_head (bits_of k) (target_of k) c.args.depth c.args.s.now c.args.at e)) in record { answer = told_here.0; meaning = told_here.1 }
 
-pub part-returns-in-Layout : goal.part-returns-in-Layout
-part-returns-in-Layout t c =
+pub part-returns-in-Ok : goal.part-returns-in-Ok
+part-returns-in-Ok t c =
     let k = c.args.narrow in
-    let e = sym c.head_of.ensures.answer ∙ ap head_says c.in-Struct.is in
+    let e = sym c.head_of.ensures.answer ∙ ap head_says (c.in_ok-head.was ∙ ap Ok c.in-Struct.is) in
     let h = head_held k c.args.s.now c.args.depth c.args.at e in
-    let z = told_by layout_says c.new_zst.ensures.answer c.in-Layout.is in
-    let l = layout_of c.in-Layout.empty in let told_here = part_told (bits_of k) (target_of k) (scalars_at k) c.args.depth c.args.s.now c.args.at
+    let z = told_by layout_says c.new_zst.ensures.answer c.in-Ok.is in
+    let l = layout_of c.in-Ok.empty in let told_here = part_told (bits_of k) (target_of k) (scalars_at k) c.args.depth c.args.s.now c.args.at
     (c.struct_part.ensures
     ∙ made_alike (part_says c.add_members.result) c.args.at (width_pad k) (pad_for (bits_of k)) (λ r j f. sym (pad_at k r (added_held k c.args.s.now (c.args.depth - 1) c.in-Struct.packed c.args.at c.in-Struct.count l c.in-Struct.first (zst_held k c.in-Struct.align h.0 z) h.1 (sym c.add_members.ensures ∙ f))))
     ∙ ap (λ (p : Placed Part). go_on p (made c.args.at (pad_for (bits_of k)))) c.add_members.ensures
     ∙ sym (by_head (bits_of k) (target_of k) c.args.depth c.args.s.now c.args.at e
     ∙ body_on (bits_of k) (part_for (bits_of k) (target_of k) (c.args.depth - 1) c.args.s.now) c.args.at c.in-Struct.first c.in-Struct.align c.in-Struct.packed c.in-Struct.count (zst_at k c.in-Struct.align h.0 ∙ z))) in record { answer = told_here.0; meaning = told_here.1 }
 
-pub part-returns-in-Refused-new_zst : goal.part-returns-in-Refused-new_zst
-part-returns-in-Refused-new_zst t c =
+pub part-returns-in-Err : goal.part-returns-in-Err
+part-returns-in-Err t c =
     let k = c.args.narrow in
-    let e = sym c.head_of.ensures.answer ∙ ap head_says c.in-Struct.is in
-    let z = told_by layout_says c.new_zst.ensures.answer c.in-Refused-new_zst.is in let told_here = part_told (bits_of k) (target_of k) (scalars_at k) c.args.depth c.args.s.now c.args.at
+    let e = sym c.head_of.ensures.answer ∙ ap head_says (c.in_ok-head.was ∙ ap Ok c.in-Struct.is) in
+    let z = told_by layout_says c.new_zst.ensures.answer c.in-Err.is in let told_here = part_told (bits_of k) (target_of k) (scalars_at k) c.args.depth c.args.s.now c.args.at
     (sym (by_head (bits_of k) (target_of k) c.args.depth c.args.s.now c.args.at e
     ∙ body_off (bits_of k) (part_for (bits_of k) (target_of k) (c.args.depth - 1) c.args.s.now) c.args.at c.in-Struct.first c.in-Struct.align c.in-Struct.packed c.in-Struct.count (zst_at k c.in-Struct.align (head_held k c.args.s.now c.args.depth c.args.at e).0 ∙ z))) in record { answer = told_here.0; meaning = told_here.1 }
 
 pub part-returns-in-Slice : goal.part-returns-in-Slice
 part-returns-in-Slice t c =
     let k = c.args.narrow in
-    let e = sym c.head_of.ensures.answer ∙ ap head_says c.in-Slice.is in let told_here = part_told (bits_of k) (target_of k) (scalars_at k) c.args.depth c.args.s.now c.args.at
+    let e = sym c.head_of.ensures.answer ∙ ap head_says (c.in_ok-head.was ∙ ap Ok c.in-Slice.is) in let told_here = part_told (bits_of k) (target_of k) (scalars_at k) c.args.depth c.args.s.now c.args.at
     (c.slice_part.ensures
     ∙ made_alike (part_says c.part-in-Slice.result) c.args.at (slice_of_for 64) (slice_of_for (bits_of k)) (λ l j f. sym (slice_at k l (part_held k c.args.s.now (c.args.depth - 1) (c.args.at + 1) (sym c.part-in-Slice.ensures.answer ∙ f))))
     ∙ ap (λ (p : Placed Part). go_on p (made c.args.at (slice_of_for (bits_of k)))) c.part-in-Slice.ensures.answer
     ∙ sym (by_head (bits_of k) (target_of k) c.args.depth c.args.s.now c.args.at e)) in record { answer = told_here.0; meaning = told_here.1 }
 
-pub part-returns-in-Refused : goal.part-returns-in-Refused
-part-returns-in-Refused t c =
+pub part-returns-in_err-head : goal.part-returns-in_err-head
+part-returns-in_err-head t c =
     let k = c.args.narrow in
-    let e = sym c.head_of.ensures.answer ∙ ap head_says c.in-Refused.is in let told_here = part_told (bits_of k) (target_of k) (scalars_at k) c.args.depth c.args.s.now c.args.at
-    (sym (by_head (bits_of k) (target_of k) c.args.depth c.args.s.now c.args.at e)) in record { answer = told_here.0; meaning = told_here.1 }
+    let e = sym c.head_of.ensures.answer ∙ ap head_says c.in_err-head.was in let told_here = part_told (bits_of k) (target_of k) (scalars_at k) c.args.depth c.args.s.now c.args.at
+    (handed_on_at _ c.from_residual.result _ c.from_residual.ensures.1 (sym (by_head (bits_of k) (target_of k) c.args.depth c.args.s.now c.args.at e))) in record { answer = told_here.0; meaning = told_here.1 }

@@ -6,10 +6,10 @@ use Rattle.layout_defs.specs.Layout.{Layout}
 use Rattle.layout.specs.View.{layout_says}
 use Rattle.describe.proofs.at_tag.Goals as goal
 
-pub returns-in-Layout : goal.returns-in-Layout
-returns-in-Layout c =
-    sym (ap (λ (o : Outcome Layout). at_place c.args.tag o (λ l. reached (l, c.args.next))) (ap layout_says c.in-Layout.is))
+pub returns-in-Ok : goal.returns-in-Ok
+returns-in-Ok c =
+    sym (ap (λ (o : Outcome Layout). at_place c.args.tag o (λ l. reached (l, c.args.next))) (ap layout_says c.in-Ok.is))
 
-pub returns-in-Refused : goal.returns-in-Refused
-returns-in-Refused c =
-    sym (ap (λ (o : Outcome Layout). at_place c.args.tag o (λ l. reached (l, c.args.next))) (ap layout_says c.in-Refused.is))
+pub returns-in-Err : goal.returns-in-Err
+returns-in-Err c =
+    sym (ap (λ (o : Outcome Layout). at_place c.args.tag o (λ l. reached (l, c.args.next))) (ap layout_says c.in-Err.is))

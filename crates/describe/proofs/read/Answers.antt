@@ -7,10 +7,10 @@ use Rattle.width.proofs.Steps.{scalars_at}
 use Rattle.describe.proofs.read.Goals as goal
 
 pub returns-then-next-description : goal.returns-then-next-description
-returns-then-next-description c = let told_here = whole_told (bits_of c.args.narrow) (target_of c.args.narrow) (scalars_at c.args.narrow) c.args.description.now (whole_on (bits_of c.args.narrow) (target_of c.args.narrow) c.args.description.now (sym c.part.ensures.answer ∙ ap part_says c.in-Part.is) c.if-next-description.true) in record { answer = told_here.0; meaning = told_here.1 }
+returns-then-next-description c = let told_here = whole_told (bits_of c.args.narrow) (target_of c.args.narrow) (scalars_at c.args.narrow) c.args.description.now (whole_on (bits_of c.args.narrow) (target_of c.args.narrow) c.args.description.now (sym c.part.ensures.answer ∙ ap part_says c.in-Ok.is) c.if-next-description.true) in record { answer = told_here.0; meaning = told_here.1 }
 
 pub returns-else-next-description : goal.returns-else-next-description
-returns-else-next-description c = let told_here = whole_told (bits_of c.args.narrow) (target_of c.args.narrow) (scalars_at c.args.narrow) c.args.description.now (whole_over (bits_of c.args.narrow) (target_of c.args.narrow) c.args.description.now (sym c.part.ensures.answer ∙ ap part_says c.in-Part.is) c.if-next-description.false) in record { answer = told_here.0; meaning = told_here.1 }
+returns-else-next-description c = let told_here = whole_told (bits_of c.args.narrow) (target_of c.args.narrow) (scalars_at c.args.narrow) c.args.description.now (whole_over (bits_of c.args.narrow) (target_of c.args.narrow) c.args.description.now (sym c.part.ensures.answer ∙ ap part_says c.in-Ok.is) c.if-next-description.false) in record { answer = told_here.0; meaning = told_here.1 }
 
-pub returns-in-Refused : goal.returns-in-Refused
-returns-in-Refused c = let told_here = whole_told (bits_of c.args.narrow) (target_of c.args.narrow) (scalars_at c.args.narrow) c.args.description.now (whole_off (bits_of c.args.narrow) (target_of c.args.narrow) c.args.description.now (sym c.part.ensures.answer ∙ ap part_says c.in-Refused.is)) in record { answer = told_here.0; meaning = told_here.1 }
+pub returns-in-Err : goal.returns-in-Err
+returns-in-Err c = let told_here = whole_told (bits_of c.args.narrow) (target_of c.args.narrow) (scalars_at c.args.narrow) c.args.description.now (whole_off (bits_of c.args.narrow) (target_of c.args.narrow) c.args.description.now (sym c.part.ensures.answer ∙ ap part_says c.in-Err.is)) in record { answer = told_here.0; meaning = told_here.1 }

@@ -1,4 +1,5 @@
 -- `describe::struct_part` meets its contract. Assumes nothing.
+use Rattle.util.proofs.Told.{handed_on_at}
 use mathlib.Core.Path.{sym, ap, ◌∙◌}
 use Rattle.util_defs.specs.Refusal.{Outcome}
 use Rattle.util_defs.specs.Placed.{Placed, reached, at_place, go_on}
@@ -9,11 +10,11 @@ use Rattle.describe_defs.specs.Heads.{made}
 use Rattle.width.specs.Width.{width_pad}
 use Rattle.describe.proofs.struct_part.Goals as goal
 
-pub returns-in-Part : goal.returns-in-Part
-returns-in-Part c =
-    c.at_tag.ensures ∙ ap (λ (o : Outcome Layout). at_place c.args.tag o (λ l. reached (l, c.in-Part.next))) c.pad_to_align.ensures
-    ∙ sym (ap (λ (p : Placed Part). go_on p (made c.args.tag (width_pad c.args.narrow))) (ap part_says c.in-Part.is))
+pub returns : goal.returns
+returns c =
+    c.at_tag.ensures ∙ ap (λ (o : Outcome Layout). at_place c.args.tag o (λ l. reached (l, c.in_ok-read.read.next))) c.pad_to_align.ensures
+    ∙ sym (ap (λ (p : Placed Part). go_on p (made c.args.tag (width_pad c.args.narrow))) (ap part_says c.in_ok-read.was))
 
-pub returns-in-Refused : goal.returns-in-Refused
-returns-in-Refused c =
-    sym (ap (λ (p : Placed Part). go_on p (made c.args.tag (width_pad c.args.narrow))) (ap part_says c.in-Refused.is))
+pub returns-in_err-read : goal.returns-in_err-read
+returns-in_err-read c =
+    handed_on_at _ c.from_residual.result _ c.from_residual.ensures.1 (sym (ap (λ (p : Placed Part). go_on p (made c.args.tag (width_pad c.args.narrow))) (ap part_says c.in_err-read.was)))

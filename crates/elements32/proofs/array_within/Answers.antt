@@ -1,4 +1,5 @@
 -- `elements32::array_within` meets its contract. Assumes nothing.
+use Rattle.util.proofs.Told.{handed_on}
 use mathlib.Core.Path.{sym, ap, ◌∙◌}
 use mathlib.Core.Bool.{Bool, cond}
 use Rattle.util_defs.specs.Refusal.{answered, refused}
@@ -9,17 +10,17 @@ use Rattle.elements32.proofs.array_within.Goals as goal
 
 pub returns-then-info_within : goal.returns-then-info_within
 returns-then-info_within c =
-    let l = layout_of c.in-Layout.array in
-    let e = told_by layout_says c.for_array.ensures.answer c.in-Layout.is in
+    let l = layout_of c.in_ok-array.array in
+    let e = told_by layout_says c.for_array.ensures.answer c.in_ok-array.was in
     let b = sym c.info_within.ensures ∙ c.if-info_within.true in
     sym (ap (array_within c.args.max) e ∙ ap (λ (x : Bool). cond x (answered l) (refused 37)) b)
 
 pub returns-else-info_within : goal.returns-else-info_within
 returns-else-info_within c =
-    let l = layout_of c.in-Layout.array in
-    let e = told_by layout_says c.for_array.ensures.answer c.in-Layout.is in
+    let l = layout_of c.in_ok-array.array in
+    let e = told_by layout_says c.for_array.ensures.answer c.in_ok-array.was in
     let b = sym c.info_within.ensures ∙ c.if-info_within.false in
     sym (ap (array_within c.args.max) e ∙ ap (λ (x : Bool). cond x (answered l) (refused 37)) b)
 
-pub returns-in-Refused : goal.returns-in-Refused
-returns-in-Refused c = ap (array_within c.args.max) (sym (told_by layout_says c.for_array.ensures.answer c.in-Refused.is))
+pub returns-in_err-array : goal.returns-in_err-array
+returns-in_err-array c = handed_on _ c.from_residual.result _ c.from_residual.ensures.1 (ap (array_within c.args.max) (sym (told_by layout_says c.for_array.ensures.answer c.in_err-array.was)))

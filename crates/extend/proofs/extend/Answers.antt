@@ -1,4 +1,5 @@
 -- `extend::extend` meets its contract. Assumes nothing.
+use Prim.Native.Nat.{ℕ}
 use Rattle.std.proofs.Common.{sym, subst, arith}
 use Rattle.layout_defs.specs.Extend.{IsTrailing}
 use Rattle.layout.specs.View.{info_of, layout_of}
@@ -8,7 +9,7 @@ use Rattle.util_defs.proofs.Refusals.{means}
 use Rattle.extend.proofs.extend.Goals as goal
 
 pub after_trailing-requires : goal.after_trailing-requires
-after_trailing-requires c = subst (λ (i : SizeInfo). IsTrailing (info_of i)) (sym c.in-SliceDst.is) tt
+after_trailing-requires c = subst (λ (i : SizeInfo ℕ). IsTrailing (info_of i)) (sym c.in-SliceDst.is) tt
 
 pub returns-in-Sized-clause-answer : goal.returns-in-Sized-clause-answer
 returns-in-Sized-clause-answer c = simp c.in-Sized.is c.extend_sized.ensures.answer

@@ -20,12 +20,12 @@ packed_align-requires c = (c.requires, no (tells_not (tells_packing 64 c.args.re
 
 pub extend_aligned-requires : goal.extend_aligned-requires
 extend_aligned-requires c =
-    subst PowerOfTwo (sym (number_told c.packed_align.result c.packed_align.ensures refl c.in-Number.is)) (member_power 64 c.args.repr_packed c.requires c.ranges.repr_packed.fits (no (tells_not (tells_packing 64 c.args.repr_packed c.ranges.repr_packed.fits)) (sym c.bad_packing.ensures ∙ c.if-bad_packing.false)))
+    subst PowerOfTwo (sym (number_told c.packed_align.result c.packed_align.ensures refl c.in_ok-field_align.was)) (member_power 64 c.args.repr_packed c.requires c.ranges.repr_packed.fits (no (tells_not (tells_packing 64 c.args.repr_packed c.ranges.repr_packed.fits)) (sym c.bad_packing.ensures ∙ c.if-bad_packing.false)))
 
-pub returns-in-Number : goal.returns-in-Number
+pub returns : goal.returns
 unfolding unless
-returns-in-Number c =
-    simp (sym c.bad_packing.ensures ∙ c.if-bad_packing.false, sym c.above_max.ensures ∙ c.if-above_max.false) (c.extend_aligned.ensures c.args.repr_packed (number_told c.packed_align.result c.packed_align.ensures refl c.in-Number.is))
+returns c =
+    simp (sym c.bad_packing.ensures ∙ c.if-bad_packing.false, sym c.above_max.ensures ∙ c.if-above_max.false) (c.extend_aligned.ensures c.args.repr_packed (number_told c.packed_align.result c.packed_align.ensures refl c.in_ok-field_align.was))
 
-pub returns-in-Refused : goal.returns-in-Refused
-returns-in-Refused c = absurd (number_kept c.packed_align.result c.packed_align.ensures refl c.in-Refused.is)
+pub returns-in_err-field_align : goal.returns-in_err-field_align
+returns-in_err-field_align c = absurd (number_kept c.packed_align.result c.packed_align.ensures refl c.in_err-field_align.was)

@@ -1,4 +1,5 @@
 -- `extend::extend_onto` meets its contract. Assumes nothing.
+use Rattle.util.proofs.Told.{handed_on}
 use Rattle.std.proofs.Common.{◌∙◌, arith}
 use Rattle.util_defs.proofs.Helpers.{power}
 use Rattle.util_defs.proofs.Tables.{told_by, accepted_none}
@@ -12,12 +13,12 @@ pub extend_checked-requires : goal.extend_checked-requires
 unfolding check_for
 extend_checked-requires c =
     let m = c.args.field in
-    power 64 m.align (omega arith) (accepted_none (layout_causes 64 (layout_of m)) tt (layout_decided 64 (layout_of m) (omega arith)) (told_by check_says c.check.ensures.answer c.in-Accepted.is)).0
+    power 64 m.align (omega arith) (accepted_none (layout_causes 64 (layout_of m)) tt (layout_decided 64 (layout_of m) (omega arith)) (told_by check_says c.check.ensures.answer c.in_ok-check.was)).0
 
-pub returns-in-Accepted : goal.returns-in-Accepted
-returns-in-Accepted c =
-    c.extend_checked.ensures ∙ onto_step 64 (sized_of c.args.own) (layout_of c.args.field) c.args.repr_packed (told_by check_says c.check.ensures.answer c.in-Accepted.is)
+pub returns : goal.returns
+returns c =
+    c.extend_checked.ensures ∙ onto_step 64 (sized_of c.args.own) (layout_of c.args.field) c.args.repr_packed (told_by check_says c.check.ensures.answer c.in_ok-check.was)
 
-pub returns-in-Refused : goal.returns-in-Refused
-returns-in-Refused c =
-    onto_member 64 (sized_of c.args.own) (layout_of c.args.field) c.args.repr_packed (told_by check_says c.check.ensures.answer c.in-Refused.is)
+pub returns-in_err-check : goal.returns-in_err-check
+returns-in_err-check c =
+    handed_on _ c.from_residual.result _ c.from_residual.ensures.1 (onto_member 64 (sized_of c.args.own) (layout_of c.args.field) c.args.repr_packed (told_by check_says c.check.ensures.answer c.in_err-check.was))

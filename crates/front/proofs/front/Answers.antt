@@ -1,4 +1,5 @@
 -- `front::front` meets its contract. Assumes nothing.
+use Prim.Native.Nat.{ℕ}
 use mathlib.Core.Path.{sym, ap, subst, ◌∙◌}
 use lib.Dec.{lit<}
 use lib.ListN.{length}
@@ -14,14 +15,14 @@ use Rattle.front.proofs.front.Goals as goal
 pub slice_bounds-result-end : goal.slice_bounds-result-end
 slice_bounds-result-end c =
     let serves =
-    subst (λ (r : Serving). Serves 64 (layout_of c.args.layout) c.args.map_addr (length c.args.map.now) c.args.spare_addr (length c.args.spare.now) (serving_says r))
+    subst (λ (r : Serving ℕ). Serves 64 (layout_of c.args.layout) c.args.map_addr (length c.args.map.now) c.args.spare_addr (length c.args.spare.now) (serving_says r))
     c.in-Map.is c.which_serves.ensures.meaning in
     sym (length-take-le _ _ (within_map serves))
 
 pub slice_bounds-result-end-in-Spare : goal.slice_bounds-result-end-in-Spare
 slice_bounds-result-end-in-Spare c =
     let serves =
-    subst (λ (r : Serving). Serves 64 (layout_of c.args.layout) c.args.map_addr (length c.args.map.now) c.args.spare_addr (length c.args.spare.now) (serving_says r))
+    subst (λ (r : Serving ℕ). Serves 64 (layout_of c.args.layout) c.args.map_addr (length c.args.map.now) c.args.spare_addr (length c.args.spare.now) (serving_says r))
     c.in-Spare.is c.which_serves.ensures.meaning in
     sym (length-take-le _ _ (within_spare serves))
 

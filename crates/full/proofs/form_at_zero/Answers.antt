@@ -15,11 +15,11 @@ pub returns-in_default : goal.returns-in_default
 returns-in_default c =
     let t = trailing_of c.args.layout in
     sym (form_past 64 t (form (size_at 64 t 0) c.args.align t.elem) c.requires.0 c.requires.1
-    (size_not 64 t 0 c.size_for_elems.result c.requires.0 (omega arith) c.size_for_elems.ensures.meaning (opened c.in_default.in_default-own.keys2)))
+    (size_not 64 t 0 c.size_for_elems.result c.requires.0 (omega arith) c.size_for_elems.ensures.meaning c.in_default.is))
 
 pub returns : goal.returns
 returns c =
     let t = trailing_of c.args.layout in
-    let z = size_told 64 t 0 c.size_for_elems.result c.size_for_elems.ensures.meaning c.in-Size.is in
+    let z = size_told 64 t 0 c.size_for_elems.result c.size_for_elems.ensures.meaning c.in-Ok.is in
     ap (λ (b : ℕ). answered (form b c.args.align t.elem)) z.1
     ∙ sym (form_given 64 t (form (size_at 64 t 0) c.args.align t.elem) c.requires.0 c.requires.1 z.0)

@@ -1,4 +1,5 @@
 -- `full::normal_form` meets its contract. Assumes nothing.
+use Rattle.util.proofs.Told.{handed_on}
 use native.Mathlib.Omega.{arith}
 use Rattle.rounding.proofs.Words.{word_stop}
 use Rattle.rounding.proofs.Told.{parts_told, parts_refused}
@@ -9,17 +10,17 @@ use Rattle.util_defs.proofs.Refusals.{means}
 use Rattle.full.proofs.normal_form.Goals as goal
 
 pub normal_form_at-requires : goal.normal_form_at-requires
-normal_form_at-requires c = parts_told c.components.result c.components.ensures.meaning c.in-Components.is
+normal_form_at-requires c = parts_told c.components.result c.components.ensures.meaning c.in_ok-parts.was
 
-pub returns-in-Components-clause-answer : goal.returns-in-Components-clause-answer
-returns-in-Components-clause-answer c = c.normal_form_at.ensures
+pub returns-clause-answer : goal.returns-clause-answer
+returns-clause-answer c = c.normal_form_at.ensures
 
-pub returns-in-Components-clause-meaning : goal.returns-in-Components-clause-meaning
-returns-in-Components-clause-meaning c = means (form_meets 64 (trailing_of c.args.layout) (omega arith)) (returns-in-Components-clause-answer c)
+pub returns-clause-meaning : goal.returns-clause-meaning
+returns-clause-meaning c = means (form_meets 64 (trailing_of c.args.layout) (omega arith)) (returns-clause-answer c)
 
-pub returns-in-Refused-clause-answer : goal.returns-in-Refused-clause-answer
+pub returns-in_err-parts-clause-answer : goal.returns-in_err-parts-clause-answer
 unfolding form_for
-returns-in-Refused-clause-answer c = word_stop _ _ (parts_refused c.components.result c.components.ensures.meaning c.in-Refused.is)
+returns-in_err-parts-clause-answer c = handed_on _ c.from_residual.result _ c.from_residual.ensures.1 (word_stop _ _ (parts_refused c.components.result c.components.ensures.meaning c.in_err-parts.was))
 
-pub returns-in-Refused-clause-meaning : goal.returns-in-Refused-clause-meaning
-returns-in-Refused-clause-meaning c = means (form_meets 64 (trailing_of c.args.layout) (omega arith)) (returns-in-Refused-clause-answer c)
+pub returns-in_err-parts-clause-meaning : goal.returns-in_err-parts-clause-meaning
+returns-in_err-parts-clause-meaning c = means (form_meets 64 (trailing_of c.args.layout) (omega arith)) (returns-in_err-parts-clause-answer c)

@@ -1,4 +1,5 @@
 -- `full::sizes_agree` meets its contract. Assumes nothing.
+use Rattle.util.proofs.Told.{handed_on}
 use mathlib.Core.Path.{sym, ap, ◌∙◌}
 use native.Mathlib.Omega.{arith}
 use Rattle.util_defs.specs.Refusal.{answered}
@@ -12,32 +13,32 @@ use Rattle.full.proofs.sizes_agree.Goals as goal
 
 pub sizes_agree_at-requires : goal.sizes_agree_at-requires
 sizes_agree_at-requires c = (
-  parts_told c.components.result c.components.ensures.meaning c.in-Components.is,
-  parts_told c.components-in-Components.result c.components-in-Components.ensures.meaning c.in-Components-components.is,
+  parts_told c.components.result c.components.ensures.meaning c.in_ok-parts.was,
+  parts_told c.components-2.result c.components-2.ensures.meaning c.in_ok-other_parts.was,
 )
 
-pub returns-in-Components-components-clause-answer : goal.returns-in-Components-components-clause-answer
-returns-in-Components-components-clause-answer c =
-    let x = parts_told c.components.result c.components.ensures.meaning c.in-Components.is in
-    let y = parts_told c.components-in-Components.result c.components-in-Components.ensures.meaning c.in-Components-components.is in ap answered c.sizes_agree_at.ensures ∙ sym (agree_answered 64 (trailing_of c.args.first) (trailing_of c.args.other) (not_zero x) (not_zero y))
+pub returns-clause-answer : goal.returns-clause-answer
+returns-clause-answer c =
+    let x = parts_told c.components.result c.components.ensures.meaning c.in_ok-parts.was in
+    let y = parts_told c.components-2.result c.components-2.ensures.meaning c.in_ok-other_parts.was in ap answered c.sizes_agree_at.ensures ∙ sym (agree_answered 64 (trailing_of c.args.first) (trailing_of c.args.other) (not_zero x) (not_zero y))
 
-pub returns-in-Components-components-clause-meaning : goal.returns-in-Components-components-clause-meaning
-returns-in-Components-components-clause-meaning c =
-    let x = parts_told c.components.result c.components.ensures.meaning c.in-Components.is in
-    let y = parts_told c.components-in-Components.result c.components-in-Components.ensures.meaning c.in-Components-components.is in means (agree_meets 64 (trailing_of c.args.first) (trailing_of c.args.other) (omega arith) (omega arith)) (returns-in-Components-components-clause-answer c)
+pub returns-clause-meaning : goal.returns-clause-meaning
+returns-clause-meaning c =
+    let x = parts_told c.components.result c.components.ensures.meaning c.in_ok-parts.was in
+    let y = parts_told c.components-2.result c.components-2.ensures.meaning c.in_ok-other_parts.was in means (agree_meets 64 (trailing_of c.args.first) (trailing_of c.args.other) (omega arith) (omega arith)) (returns-clause-answer c)
 
-pub returns-in-Refused-components-clause-answer : goal.returns-in-Refused-components-clause-answer
+pub returns-in_err-other_parts-clause-answer : goal.returns-in_err-other_parts-clause-answer
 unfolding agree_for
-returns-in-Refused-components-clause-answer c =
-    let x = parts_told c.components.result c.components.ensures.meaning c.in-Components.is in word_stop _ _ (parts_refused c.components-in-Components.result c.components-in-Components.ensures.meaning c.in-Refused-components.is) ∙ sym (word_clear _ _ _ (not_zero x))
+returns-in_err-other_parts-clause-answer c =
+    let x = parts_told c.components.result c.components.ensures.meaning c.in_ok-parts.was in handed_on _ c.from_residual-in_err-other_parts.result _ c.from_residual-in_err-other_parts.ensures.1 (word_stop _ _ (parts_refused c.components-2.result c.components-2.ensures.meaning c.in_err-other_parts.was) ∙ sym (word_clear _ _ _ (not_zero x)))
 
-pub returns-in-Refused-components-clause-meaning : goal.returns-in-Refused-components-clause-meaning
-returns-in-Refused-components-clause-meaning c =
-    let x = parts_told c.components.result c.components.ensures.meaning c.in-Components.is in means (agree_meets 64 (trailing_of c.args.first) (trailing_of c.args.other) (omega arith) (omega arith)) (returns-in-Refused-components-clause-answer c)
+pub returns-in_err-other_parts-clause-meaning : goal.returns-in_err-other_parts-clause-meaning
+returns-in_err-other_parts-clause-meaning c =
+    let x = parts_told c.components.result c.components.ensures.meaning c.in_ok-parts.was in means (agree_meets 64 (trailing_of c.args.first) (trailing_of c.args.other) (omega arith) (omega arith)) (returns-in_err-other_parts-clause-answer c)
 
-pub returns-in-Refused-clause-answer : goal.returns-in-Refused-clause-answer
+pub returns-in_err-parts-clause-answer : goal.returns-in_err-parts-clause-answer
 unfolding agree_for
-returns-in-Refused-clause-answer c = word_stop _ _ (parts_refused c.components.result c.components.ensures.meaning c.in-Refused.is)
+returns-in_err-parts-clause-answer c = handed_on _ c.from_residual.result _ c.from_residual.ensures.1 (word_stop _ _ (parts_refused c.components.result c.components.ensures.meaning c.in_err-parts.was))
 
-pub returns-in-Refused-clause-meaning : goal.returns-in-Refused-clause-meaning
-returns-in-Refused-clause-meaning c = means (agree_meets 64 (trailing_of c.args.first) (trailing_of c.args.other) (omega arith) (omega arith)) (returns-in-Refused-clause-answer c)
+pub returns-in_err-parts-clause-meaning : goal.returns-in_err-parts-clause-meaning
+returns-in_err-parts-clause-meaning c = means (agree_meets 64 (trailing_of c.args.first) (trailing_of c.args.other) (omega arith) (omega arith)) (returns-in_err-parts-clause-answer c)

@@ -19,7 +19,7 @@ returns-then-same_sum c =
     let t = trailing_of c.args.other in
     let z = yes c.same_sum.ensures c.if-same_sum.true in
     c.same_steps.ensures
-    ∙ agree_steps 64 s t c.requires.0 c.requires.1 (omega arith) (word_fits 64 c.requires.1 c.ranges.align2.fits) c.if-elem-other.false
+    ∙ agree_steps 64 s t c.requires.0 c.requires.1 (omega arith) (word_fits 64 c.requires.1 (omega arith)) c.if-elem-other.false
     (ap (λ (u : ℕ). s.base + u) (sym c.rounded_phase-rounded.ensures) ∙ z ∙ ap (λ (u : ℕ). t.base + u) c.rounded_phase-rounded2.ensures)
 
 pub returns-else-same_sum : goal.returns-else-same_sum
@@ -27,5 +27,5 @@ returns-else-same_sum c =
     let s = trailing_of c.args.first in
     let t = trailing_of c.args.other in
     let n = no c.same_sum.ensures c.if-same_sum.false in
-    agree_apart 64 s t c.requires.0 c.requires.1 (omega arith) (word_fits 64 c.requires.1 c.ranges.align2.fits) c.if-elem-other.false
+    agree_apart 64 s t c.requires.0 c.requires.1 (omega arith) (word_fits 64 c.requires.1 (omega arith)) c.if-elem-other.false
     (λ z. n (ap (λ (u : ℕ). s.base + u) c.rounded_phase-rounded.ensures ∙ z ∙ ap (λ (u : ℕ). t.base + u) (sym c.rounded_phase-rounded2.ensures)))

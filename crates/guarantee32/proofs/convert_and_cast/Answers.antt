@@ -1,4 +1,5 @@
 -- `guarantee32::convert_and_cast` meets its contract. Assumes nothing.
+use Rattle.layout.specs.View.{layout_of}
 use mathlib.Core.Path.{sym, ap, ◌∙◌, subst}
 use lib.Dec.{lit<}
 use Rattle.util_defs.specs.Refusal.{Outcome}
@@ -7,7 +8,6 @@ use Rattle.shift.specs.View.{mode_of}
 use Rattle.convert_defs.specs.Convert.{Params}
 use Rattle.guarantee.specs.Demand.{count_after, Demand3Of}
 use Rattle.guarantee.proofs.Demand.{demand_3_modes, same_answers}
-use Rattle.layouts32.specs.View.{layout_of32}
 use Rattle.guarantee32.proofs.convert_and_cast.Goals as goal
 
 pub returns-clause-answer : goal.returns-clause-answer
@@ -20,8 +20,8 @@ returns-clause-answer c =
 
 pub returns-clause-meaning : goal.returns-clause-meaning
 returns-clause-meaning c =
-    let s = layout_of32 c.args.src_layout in
-    let t = layout_of32 c.args.dst_layout in
+    let s = layout_of c.args.src_layout in
+    let t = layout_of c.args.dst_layout in
     let m = mode_of c.args.mode in
     let computed = c.try_compute-computed.ensures.answer in
     let count = c.converted_count-count.ensures ∙ ap (λ (o : Outcome Params). count_after 32 o c.args.src_meta) computed in

@@ -1,4 +1,5 @@
 -- `heads::struct_head` meets its contract. Assumes nothing.
+use Rattle.util.proofs.Told.{handed_on_at}
 use mathlib.Core.Path.{sym, ap, ◌∙◌}
 use Prim.Native.Nat.{ℕ, ◌+◌}
 use Rattle.util_defs.specs.Placed.{Placed, go_on}
@@ -8,10 +9,10 @@ use Rattle.describe_defs.proofs.Steps.{power_found}
 use Rattle.heads.proofs.struct_head.Goals as goal
 
 pub aligned_head-requires : goal.aligned_head-requires
-aligned_head-requires c = (power_found c.args.bits c.args.s.now (c.args.at + 1) (sym c.read_power.ensures ∙ ap number_read c.in-Number.is)).at.within
+aligned_head-requires c = (power_found c.args.bits c.args.s.now (c.args.at + 1) (sym c.read_power.ensures ∙ ap number_read c.in_ok-align.was)).at.within
 
-pub returns-in-Number : goal.returns-in-Number
-returns-in-Number c = c.aligned_head.ensures ∙ sym (ap (λ (p : Placed ℕ). go_on p (aligned_head c.args.bits c.args.s.now c.args.at (counted c.args.long))) (sym c.read_power.ensures ∙ ap number_read c.in-Number.is))
+pub returns : goal.returns
+returns c = c.aligned_head.ensures ∙ sym (ap (λ (p : Placed ℕ). go_on p (aligned_head c.args.bits c.args.s.now c.args.at (counted c.args.long))) (sym c.read_power.ensures ∙ ap number_read c.in_ok-align.was))
 
-pub returns-in-Refused : goal.returns-in-Refused
-returns-in-Refused c = sym (ap (λ (p : Placed ℕ). go_on p (aligned_head c.args.bits c.args.s.now c.args.at (counted c.args.long))) (sym c.read_power.ensures ∙ ap number_read c.in-Refused.is))
+pub returns-in_err-align : goal.returns-in_err-align
+returns-in_err-align c = handed_on_at _ c.from_residual.result _ c.from_residual.ensures.1 (sym (ap (λ (p : Placed ℕ). go_on p (aligned_head c.args.bits c.args.s.now c.args.at (counted c.args.long))) (sym c.read_power.ensures ∙ ap number_read c.in_err-align.was)))

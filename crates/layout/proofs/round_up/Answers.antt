@@ -1,4 +1,7 @@
 -- `layout::round_up` meets its contract. Assumes nothing.
+use Rattle.util.specs.declared.refusal.Refusal.{Refusal}
+use Rattle.std.specs.Prelude.{Ok, Result}
+use Rattle.util.proofs.Told.{handed_on}
 use mathlib.Core.Path.{◌≡◌, sym, ap, ◌∙◌}
 use mathlib.Core.List.{[], ◌∷◌}
 use Prim.Native.Nat.{ℕ, ◌+◌}
@@ -8,8 +11,6 @@ use Rattle.util_defs.specs.Round.{up, padding}
 use Rattle.util_defs.specs.Refusal.{answered}
 use Rattle.util_defs.specs.Helpers.{align_causes, padding_for}
 use Rattle.util.specs.View.{number_says}
-use Rattle.util.specs.declared.Answer.{Answer}
-use Rattle.util.specs.declared.Answer.TheVariants as Variants
 use Rattle.util_defs.proofs.Tables.{told_by, accepted_none, refused_first}
 use Rattle.util_defs.proofs.Powers.{positive}
 use Rattle.util_defs.proofs.Rounding.{up_padding}
@@ -22,7 +23,7 @@ use Rattle.layout.proofs.round_up.Goals as goal
 use Rattle.layout.proofs.round_up.Goals.{Start}
 
 -- an answer of the padding says that the alignment is a power of two
-aligned : (k : Start) (r : Answer) {n : ℕ} → number_says r ≡ padding_for 64 k.args.len k.args.align → r ≡ Variants.Number n → PowerOfTwo k.args.align
+aligned : (k : Start) (r : Result ℕ Refusal) {n : ℕ} → number_says r ≡ padding_for 64 k.args.len k.args.align → r ≡ Ok n → PowerOfTwo k.args.align
 unfolding padding_for
 aligned k r e g =
     let a = k.args.align in
@@ -30,8 +31,8 @@ aligned k r e g =
 
 pub returns-then-padding-len-clause-answer : goal.returns-then-padding-len-clause-answer
 returns-then-padding-len-clause-answer c =
-    let p = aligned c.before.before.before c.padding_needed_for.result c.padding_needed_for.ensures.answer c.in-Number.is in
-    let e = number_told c.padding_needed_for.result c.padding_needed_for.ensures.answer (padding_answered 64 c.args.len p c.ranges.align.fits) c.in-Number.is in
+    let p = aligned c.before.before.before.before c.padding_needed_for.result c.padding_needed_for.ensures.answer c.in_ok-padding.was in
+    let e = number_told c.padding_needed_for.result c.padding_needed_for.ensures.answer (padding_answered 64 c.args.len p c.ranges.align.fits) c.in_ok-padding.was in
     let u = up_padding c.args.len c.args.align (positive p) in past 64 (up c.args.len c.args.align) (up c.args.len c.args.align) (omega arith) ∙ sym (round_power 64 c.args.len p c.ranges.align.fits)
 
 pub returns-then-padding-len-clause-meaning : goal.returns-then-padding-len-clause-meaning
@@ -40,22 +41,22 @@ returns-then-padding-len-clause-meaning c =
 
 pub returns-else-padding-len-clause-answer : goal.returns-else-padding-len-clause-answer
 returns-else-padding-len-clause-answer c =
-    let p = aligned c.before.before.before c.padding_needed_for.result c.padding_needed_for.ensures.answer c.in-Number.is in
-    let e = number_told c.padding_needed_for.result c.padding_needed_for.ensures.answer (padding_answered 64 c.args.len p c.ranges.align.fits) c.in-Number.is in
+    let p = aligned c.before.before.before.before c.padding_needed_for.result c.padding_needed_for.ensures.answer c.in_ok-padding.was in
+    let e = number_told c.padding_needed_for.result c.padding_needed_for.ensures.answer (padding_answered 64 c.args.len p c.ranges.align.fits) c.in_ok-padding.was in
     let u = up_padding c.args.len c.args.align (positive p) in
-    let s : c.args.len + c.in-Number.padding ≡ up c.args.len c.args.align = omega arith in ap answered s ∙ within 64 (up c.args.len c.args.align) (up c.args.len c.args.align) (omega arith) ∙ sym (round_power 64 c.args.len p c.ranges.align.fits)
+    let s : c.args.len + c.in_ok-padding.padding ≡ up c.args.len c.args.align = omega arith in ap answered s ∙ within 64 (up c.args.len c.args.align) (up c.args.len c.args.align) (omega arith) ∙ sym (round_power 64 c.args.len p c.ranges.align.fits)
 
 pub returns-else-padding-len-clause-meaning : goal.returns-else-padding-len-clause-meaning
 returns-else-padding-len-clause-meaning c =
     means (round_meets 64 c.args.len c.args.align c.ranges.align.fits) (returns-else-padding-len-clause-answer c)
 
-pub returns-in-Refused-clause-answer : goal.returns-in-Refused-clause-answer
+pub returns-in_err-padding-clause-answer : goal.returns-in_err-padding-clause-answer
 unfolding round_up_for padding_for
-returns-in-Refused-clause-answer c =
+returns-in_err-padding-clause-answer c =
     let v = c.args.len in
-    let a = c.args.align in sym (refused_first (align_causes 64 a) (rounding_passes 64 (up v a) ∷ []) (padding v a) (up v a) (told_by number_says c.padding_needed_for.ensures.answer c.in-Refused.is))
+    let a = c.args.align in handed_on _ c.from_residual.result _ c.from_residual.ensures.1 (sym (refused_first (align_causes 64 a) (rounding_passes 64 (up v a) ∷ []) (padding v a) (up v a) (told_by number_says c.padding_needed_for.ensures.answer c.in_err-padding.was)))
 
-pub returns-in-Refused-clause-meaning : goal.returns-in-Refused-clause-meaning
-returns-in-Refused-clause-meaning c =
+pub returns-in_err-padding-clause-meaning : goal.returns-in_err-padding-clause-meaning
+returns-in_err-padding-clause-meaning c =
     let v = c.args.len in
-    let a = c.args.align in means (round_meets 64 v a c.ranges.align.fits) (returns-in-Refused-clause-answer c)
+    let a = c.args.align in means (round_meets 64 v a c.ranges.align.fits) (returns-in_err-padding-clause-answer c)

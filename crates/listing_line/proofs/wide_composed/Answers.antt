@@ -1,11 +1,12 @@
 -- `listing_line::wide_composed` meets its contract. Assumes nothing.
+use Rattle.compose.proofs.Told.{composed_on}
+use Rattle.compose.specs.View.{compose_says}
 use mathlib.Core.Path.{sym, ap, ◌∙◌}
 use Rattle.compose_defs.specs.Compose.{composed}
-use Rattle.compose32.specs.View.{compose_says32}
 use Rattle.listing_line.proofs.wide_composed.Goals as goal
 
-pub returns-in-Layout : goal.returns-in-Layout
-returns-in-Layout c = ap composed c.wide_layout.ensures.0 ∙ sym (ap compose_says32 c.in-Layout.is)
+pub returns : goal.returns
+returns c = ap composed c.wide_layout.ensures.0 ∙ sym (ap compose_says c.in_ok-l.was)
 
-pub returns-in-Refused : goal.returns-in-Refused
-returns-in-Refused c = sym (ap compose_says32 c.in-Refused.is)
+pub returns-in_err-l : goal.returns-in_err-l
+returns-in_err-l c = composed_on c.from_residual.result _ c.from_residual.ensures.1 (sym (ap compose_says c.in_err-l.was))

@@ -1,4 +1,5 @@
 -- `needs::dynamic_padding` meets its contract. Assumes nothing.
+use Prim.Native.Nat.{ℕ}
 use mathlib.Core.Path.{subst}
 use native.Mathlib.Omega.{arith}
 use Rattle.layout_defs.specs.Layout.{no_word}
@@ -9,7 +10,7 @@ use Rattle.needs.proofs.dynamic_padding.Goals as goal
 
 pub trailing_padding-requires : goal.trailing_padding-requires
 trailing_padding-requires c =
-    let n : (no_word (info_of (SliceDst c.in-SliceDst.tail))).means → ⊥ = subst (λ (i : SizeInfo). (no_word (info_of i)).means → ⊥) c.in-SliceDst.is c.requires in
+    let n : (no_word (info_of (SliceDst c.in-SliceDst.tail))).means → ⊥ = subst (λ (i : SizeInfo ℕ). (no_word (info_of i)).means → ⊥) c.in-SliceDst.is c.requires in
     omega (arith, n)
 
 pub returns-in-Sized : goal.returns-in-Sized

@@ -1,4 +1,5 @@
 -- `needs::requires_static_padding` meets its contract. Assumes nothing.
+use Rattle.util.proofs.Told.{handed_on}
 use mathlib.Core.Path.{sym}
 use mathlib.Core.Bool.{not}
 use native.Mathlib.Omega.{arith}
@@ -10,20 +11,20 @@ use Rattle.padding_defs.proofs.Marks.{static_meets}
 use Rattle.util_defs.proofs.Refusals.{means}
 use Rattle.needs.proofs.requires_static_padding.Goals as goal
 
-pub returns-in-Accepted-clause-answer : goal.returns-in-Accepted-clause-answer
+pub returns-clause-answer : goal.returns-clause-answer
 unfolding static_for check_for
-returns-in-Accepted-clause-answer c =
-    let l = layout_of c.args.layout in sym (accepted_as (layout_causes 64 l) tt (not l.mark) (told_by check_says c.check.ensures.answer c.in-Accepted.is))
+returns-clause-answer c =
+    let l = layout_of c.args.layout in sym (accepted_as (layout_causes 64 l) tt (not l.mark) (told_by check_says c.check.ensures.answer c.in_ok-check.was))
 
-pub returns-in-Accepted-clause-meaning : goal.returns-in-Accepted-clause-meaning
-returns-in-Accepted-clause-meaning c =
-    let l = layout_of c.args.layout in means (static_meets 64 l (omega arith)) (returns-in-Accepted-clause-answer c)
+pub returns-clause-meaning : goal.returns-clause-meaning
+returns-clause-meaning c =
+    let l = layout_of c.args.layout in means (static_meets 64 l (omega arith)) (returns-clause-answer c)
 
-pub returns-in-Refused-clause-answer : goal.returns-in-Refused-clause-answer
+pub returns-in_err-check-clause-answer : goal.returns-in_err-check-clause-answer
 unfolding static_for check_for
-returns-in-Refused-clause-answer c =
-    let l = layout_of c.args.layout in sym (refused_as (layout_causes 64 l) tt (not l.mark) (told_by check_says c.check.ensures.answer c.in-Refused.is))
+returns-in_err-check-clause-answer c =
+    let l = layout_of c.args.layout in handed_on _ c.from_residual.result _ c.from_residual.ensures.1 (sym (refused_as (layout_causes 64 l) tt (not l.mark) (told_by check_says c.check.ensures.answer c.in_err-check.was)))
 
-pub returns-in-Refused-clause-meaning : goal.returns-in-Refused-clause-meaning
-returns-in-Refused-clause-meaning c =
-    let l = layout_of c.args.layout in means (static_meets 64 l (omega arith)) (returns-in-Refused-clause-answer c)
+pub returns-in_err-check-clause-meaning : goal.returns-in_err-check-clause-meaning
+returns-in_err-check-clause-meaning c =
+    let l = layout_of c.args.layout in means (static_meets 64 l (omega arith)) (returns-in_err-check-clause-answer c)

@@ -1,4 +1,5 @@
 -- `padding::pad_checked` meets its contract. Assumes nothing.
+use Rattle.util.proofs.Told.{handed_on}
 use mathlib.Core.Path.{sym, ap, ap₂, ◌∙◌, subst}
 use mathlib.Core.Bool.{Bool}
 use mathlib.Core.List.{[], ◌∷◌}
@@ -28,7 +29,7 @@ aligned k = power 64 k.args.layout.align (omega arith) k.requires.0
 abbrev made : Start → Info → Layout
 made k i = record { align = k.args.layout.align; info = padded_info 64 k.args.layout.align i; mark = padded_mark k.args.layout.align i k.args.layout.statically_shallow_unpadded; modifier = k.args.layout.align_modifier }
 
-abbrev says : Start → SizeInfo → Outcome Layout
+abbrev says : Start → SizeInfo ℕ → Outcome Layout
 says k i = unless (rounding_passes 64 (padding_needs 64 k.args.layout.align (info_of i)) ∷ []) (made k (info_of i))
 
 pub pad_mark-unpadded-requires : goal.pad_mark-unpadded-requires
@@ -36,49 +37,49 @@ pad_mark-unpadded-requires c = aligned c
 
 pub pad_trailing-requires : goal.pad_trailing-requires
 pad_trailing-requires c =
-    let n : (no_word (info_of (SliceDst c.in-SliceDst.tail))).means → ⊥ = subst (λ (i : SizeInfo). (no_word (info_of i)).means → ⊥) c.in-SliceDst.is c.requires.1.0 in
+    let n : (no_word (info_of (SliceDst c.in-SliceDst.tail))).means → ⊥ = subst (λ (i : SizeInfo ℕ). (no_word (info_of i)).means → ⊥) c.in-SliceDst.is c.requires.1.0 in
     (aligned c.before.before, omega (arith, n))
 
-pub returns-in-Number : goal.returns-in-Number
+pub returns-in_ok-padded-in-Sized : goal.returns-in_ok-padded-in-Sized
 unfolding padded
-returns-in-Number c =
+returns-in_ok-padded-in-Sized c =
     let a = c.args.layout.align in
     let g = c.in-Sized.is in
     let s = c.in-Sized.size in
     let cs = rounding_passes 64 (up s a) ∷ [] in
-    let e = told_by number_says (c.round_up.ensures.answer ∙ round_power 64 s (aligned c.before.before.before.before) (omega arith)) c.in-Number.is in
-    ap₂ (λ (n : ℕ) (m : Bool). answered (record { align = a; info = fixed n; mark = m; modifier = c.args.layout.align_modifier })) (answer_is cs (up s a) e) (c.pad_mark-unpadded.ensures ∙ ap (λ (i : SizeInfo). padded_mark a (info_of i) c.args.layout.statically_shallow_unpadded) g)
-    ∙ sym (accepted_as cs (up s a) (made c.before.before.before.before (fixed s)) e)
-    ∙ ap (says c.before.before.before.before) (sym g)
+    let e = told_by number_says (c.round_up.ensures.answer ∙ round_power 64 s (aligned c.before.before.before.before.before) (omega arith)) c.in_ok-padded-in-Sized.was in
+    ap₂ (λ (n : ℕ) (m : Bool). answered (record { align = a; info = fixed n; mark = m; modifier = c.args.layout.align_modifier })) (answer_is cs (up s a) e) (c.pad_mark-unpadded.ensures ∙ ap (λ (i : SizeInfo ℕ). padded_mark a (info_of i) c.args.layout.statically_shallow_unpadded) g)
+    ∙ sym (accepted_as cs (up s a) (made c.before.before.before.before.before (fixed s)) e)
+    ∙ ap (says c.before.before.before.before.before) (sym g)
 
-pub returns-in-Refused : goal.returns-in-Refused
+pub returns-in_err-padded-in-Sized : goal.returns-in_err-padded-in-Sized
 unfolding padded
-returns-in-Refused c =
+returns-in_err-padded-in-Sized c =
     let a = c.args.layout.align in
     let g = c.in-Sized.is in
     let s = c.in-Sized.size in
     let cs = rounding_passes 64 (up s a) ∷ [] in
-    let e = told_by number_says (c.round_up.ensures.answer ∙ round_power 64 s (aligned c.before.before.before.before) (omega arith)) c.in-Refused.is in
-    sym (refused_as cs (up s a) (made c.before.before.before.before (fixed s)) e) ∙ ap (says c.before.before.before.before) (sym g)
+    let e = told_by number_says (c.round_up.ensures.answer ∙ round_power 64 s (aligned c.before.before.before.before.before.before) (omega arith)) c.in_err-padded-in-Sized.was in
+    handed_on _ c.from_residual.result _ c.from_residual.ensures.1 (sym (refused_as cs (up s a) (made c.before.before.before.before.before.before (fixed s)) e) ∙ ap (says c.before.before.before.before.before.before) (sym g))
 
-pub returns-in-Info : goal.returns-in-Info
+pub returns-in_ok-padded_info-in-SliceDst : goal.returns-in_ok-padded_info-in-SliceDst
 unfolding padded
-returns-in-Info c =
+returns-in_ok-padded_info-in-SliceDst c =
     let a = c.args.layout.align in
     let g = c.in-SliceDst.is in
     let t = trailing_of c.in-SliceDst.tail in
     let cs = rounding_passes 64 (padding_needs 64 a (trailing t)) ∷ [] in
-    let e = told_by info_says c.pad_trailing.ensures c.in-Info.is in
-    ap₂ (λ (i : Info) (m : Bool). answered (record { align = a; info = i; mark = m; modifier = c.args.layout.align_modifier })) (answer_is cs (trailing (padded_tail 64 a t)) e) (c.pad_mark-unpadded.ensures ∙ ap (λ (i : SizeInfo). padded_mark a (info_of i) c.args.layout.statically_shallow_unpadded) g)
-    ∙ sym (accepted_as cs (trailing (padded_tail 64 a t)) (made c.before.before.before.before (trailing t)) e)
-    ∙ ap (says c.before.before.before.before) (sym g)
+    let e = told_by info_says c.pad_trailing.ensures c.in_ok-padded_info-in-SliceDst.was in
+    ap₂ (λ (i : Info) (m : Bool). answered (record { align = a; info = i; mark = m; modifier = c.args.layout.align_modifier })) (answer_is cs (trailing (padded_tail 64 a t)) e) (c.pad_mark-unpadded.ensures ∙ ap (λ (i : SizeInfo ℕ). padded_mark a (info_of i) c.args.layout.statically_shallow_unpadded) g)
+    ∙ sym (accepted_as cs (trailing (padded_tail 64 a t)) (made c.before.before.before.before.before (trailing t)) e)
+    ∙ ap (says c.before.before.before.before.before) (sym g)
 
-pub returns-in-Refused-pad_trailing : goal.returns-in-Refused-pad_trailing
+pub returns-in_err-padded_info-in-SliceDst : goal.returns-in_err-padded_info-in-SliceDst
 unfolding padded
-returns-in-Refused-pad_trailing c =
+returns-in_err-padded_info-in-SliceDst c =
     let a = c.args.layout.align in
     let g = c.in-SliceDst.is in
     let t = trailing_of c.in-SliceDst.tail in
     let cs = rounding_passes 64 (padding_needs 64 a (trailing t)) ∷ [] in
-    let e = told_by info_says c.pad_trailing.ensures c.in-Refused-pad_trailing.is in
-    sym (refused_as cs (trailing (padded_tail 64 a t)) (made c.before.before.before.before (trailing t)) e) ∙ ap (says c.before.before.before.before) (sym g)
+    let e = told_by info_says c.pad_trailing.ensures c.in_err-padded_info-in-SliceDst.was in
+    handed_on _ c.from_residual-in_err-padded_info-in-SliceDst.result _ c.from_residual-in_err-padded_info-in-SliceDst.ensures.1 (sym (refused_as cs (trailing (padded_tail 64 a t)) (made c.before.before.before.before.before.before (trailing t)) e) ∙ ap (says c.before.before.before.before.before.before) (sym g))

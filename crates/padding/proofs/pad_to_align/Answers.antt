@@ -1,4 +1,5 @@
 -- `padding::pad_to_align` meets its contract. Assumes nothing.
+use Rattle.util.proofs.Told.{handed_on}
 use mathlib.Core.Path.{sym, ◌∙◌}
 use mathlib.Core.List.{[], ◌∷◌}
 use native.Mathlib.Omega.{arith}
@@ -16,26 +17,26 @@ pub pad_checked-requires : goal.pad_checked-requires
 unfolding check_for
 pad_checked-requires c =
     let l = layout_of c.args.layout in
-    accepted_none (layout_causes 64 l) tt (layout_decided 64 l (omega arith)) (told_by check_says c.check.ensures.answer c.in-Accepted.is)
+    accepted_none (layout_causes 64 l) tt (layout_decided 64 l (omega arith)) (told_by check_says c.check.ensures.answer c.in_ok-check.was)
 
-pub returns-in-Accepted-clause-answer : goal.returns-in-Accepted-clause-answer
+pub returns-clause-answer : goal.returns-clause-answer
 unfolding pad_for check_for
-returns-in-Accepted-clause-answer c =
+returns-clause-answer c =
     let l = layout_of c.args.layout in
-    let ds = rounding_passes 64 (padding_needs 64 l.align l.info) ∷ [] in c.pad_checked.ensures ∙ sym (accepted_first (layout_causes 64 l) ds tt (padded 64 l) (told_by check_says c.check.ensures.answer c.in-Accepted.is))
+    let ds = rounding_passes 64 (padding_needs 64 l.align l.info) ∷ [] in c.pad_checked.ensures ∙ sym (accepted_first (layout_causes 64 l) ds tt (padded 64 l) (told_by check_says c.check.ensures.answer c.in_ok-check.was))
 
-pub returns-in-Accepted-clause-meaning : goal.returns-in-Accepted-clause-meaning
-returns-in-Accepted-clause-meaning c =
+pub returns-clause-meaning : goal.returns-clause-meaning
+returns-clause-meaning c =
     let l = layout_of c.args.layout in
-    let ds = rounding_passes 64 (padding_needs 64 l.align l.info) ∷ [] in means (pad_meets 64 l (omega arith)) (returns-in-Accepted-clause-answer c)
+    let ds = rounding_passes 64 (padding_needs 64 l.align l.info) ∷ [] in means (pad_meets 64 l (omega arith)) (returns-clause-answer c)
 
-pub returns-in-Refused-clause-answer : goal.returns-in-Refused-clause-answer
+pub returns-in_err-check-clause-answer : goal.returns-in_err-check-clause-answer
 unfolding pad_for check_for
-returns-in-Refused-clause-answer c =
+returns-in_err-check-clause-answer c =
     let l = layout_of c.args.layout in
-    let ds = rounding_passes 64 (padding_needs 64 l.align l.info) ∷ [] in sym (refused_first (layout_causes 64 l) ds tt (padded 64 l) (told_by check_says c.check.ensures.answer c.in-Refused.is))
+    let ds = rounding_passes 64 (padding_needs 64 l.align l.info) ∷ [] in handed_on _ c.from_residual.result _ c.from_residual.ensures.1 (sym (refused_first (layout_causes 64 l) ds tt (padded 64 l) (told_by check_says c.check.ensures.answer c.in_err-check.was)))
 
-pub returns-in-Refused-clause-meaning : goal.returns-in-Refused-clause-meaning
-returns-in-Refused-clause-meaning c =
+pub returns-in_err-check-clause-meaning : goal.returns-in_err-check-clause-meaning
+returns-in_err-check-clause-meaning c =
     let l = layout_of c.args.layout in
-    let ds = rounding_passes 64 (padding_needs 64 l.align l.info) ∷ [] in means (pad_meets 64 l (omega arith)) (returns-in-Refused-clause-answer c)
+    let ds = rounding_passes 64 (padding_needs 64 l.align l.info) ∷ [] in means (pad_meets 64 l (omega arith)) (returns-in_err-check-clause-answer c)

@@ -9,23 +9,23 @@ use Rattle.padding_defs.specs.Pad.{padded_tail}
 use Rattle.padding.proofs.pad_trailing.Goals as goal
 
 pub pad_coarser-requires : goal.pad_coarser-requires
-pad_coarser-requires c = (c.requires.0, parts_told c.components.result c.components.ensures.meaning c.in-Components.is)
+pad_coarser-requires c = (c.requires.0, parts_told c.components.result c.components.ensures.meaning c.in_ok-parts.was)
 
-pub returns-then-size_align-align : goal.returns-then-size_align-align
+pub returns-then-parts-align : goal.returns-then-parts-align
 unfolding padded_tail
-returns-then-size_align-align c =
+returns-then-parts-align c =
     let t = trailing_of c.args.tail in
-    let x = parts_told c.components.result c.components.ensures.meaning c.in-Components.is in
+    let x = parts_told c.components.result c.components.ensures.meaning c.in_ok-parts.was in
     let e = align_is 64 x (omega arith) in
-    simp (lt-ltb (A 64 t) c.args.align (omega (arith, e, c.if-size_align-align.true))) c.pad_coarser.ensures
+    simp (lt-ltb (A 64 t) c.args.align (omega (arith, e, c.if-parts-align.true))) c.pad_coarser.ensures
 
-pub returns-else-size_align-align : goal.returns-else-size_align-align
+pub returns-else-parts-align : goal.returns-else-parts-align
 unfolding padded_tail
-returns-else-size_align-align c =
+returns-else-parts-align c =
     let t = trailing_of c.args.tail in
-    let x = parts_told c.components.result c.components.ensures.meaning c.in-Components.is in
+    let x = parts_told c.components.result c.components.ensures.meaning c.in_ok-parts.was in
     let e = align_is 64 x (omega arith) in
-    simp (le-ltb (A 64 t) c.args.align (omega (arith, e, c.if-size_align-align.false))) c.pad_finer.ensures
+    simp (le-ltb (A 64 t) c.args.align (omega (arith, e, c.if-parts-align.false))) c.pad_finer.ensures
 
-pub returns-in-Refused : goal.returns-in-Refused
-returns-in-Refused c = absurd (omega (arith, c.requires.1, (parts_refused c.components.result c.components.ensures.meaning c.in-Refused.is).0))
+pub returns-in_err-parts : goal.returns-in_err-parts
+returns-in_err-parts c = absurd (omega (arith, c.requires.1, (parts_refused c.components.result c.components.ensures.meaning c.in_err-parts.was).0))

@@ -1,9 +1,10 @@
 -- `places::land` meets its contract. Assumes nothing.
+use Rattle.util.specs.declared.refusal.Refusal.{Refusal}
+use Rattle.std.specs.Prelude.{Result}
 use Rattle.std.proofs.Common.{ℕ, ◌+◌, ◌%◌, ◌^◌, sym, ap, ◌∙◌, subst}
 use Rattle.util_defs.specs.Refusal.{Meets}
 use Rattle.util_defs.proofs.Refusals.{answered_means}
 use Rattle.util_defs.proofs.Tables.{told_by}
-use Rattle.util.specs.declared.Answer.{Answer}
 use Rattle.util.specs.View.{number_says}
 use Rattle.layout_defs.specs.Extend.{LeastPlace, round_up_causes, round_up_for}
 use Rattle.layout.specs.View.{layout_of}
@@ -14,15 +15,15 @@ pub overflow_sub-result : goal.overflow_sub-result
 overflow_sub-result c =
     let a = c.packed_align.result in
     let end = c.args.end in
-    (answered_means (subst (λ (r : Answer). Meets (round_up_causes 64 end a) (LeastPlace end a) (number_says r)) c.in-Number.is c.round_up.ensures.meaning)).1.after
+    (answered_means (subst (λ (r : Result ℕ Refusal). Meets (round_up_causes 64 end a) (LeastPlace end a) (number_says r)) c.in-Ok.is c.round_up.ensures.meaning)).1.after
 
-pub returns-in-Number : goal.returns-in-Number
-returns-in-Number c =
+pub returns-in-Ok : goal.returns-in-Ok
+returns-in-Ok c =
     landed 64 c.args.repr_packed c.args.end (layout_of c.args.field)
-    (sym (ap (round_up_for 64 c.args.end) c.packed_align.ensures) ∙ told_by number_says c.round_up.ensures.answer c.in-Number.is)
-    (c.wrapping_add_u64.ensures.value ∙ ap (λ (z : ℕ). (c.in-Number.place + z) % 2 ^ 64) c.end_of.ensures)
+    (sym (ap (round_up_for 64 c.args.end) c.packed_align.ensures) ∙ told_by number_says c.round_up.ensures.answer c.in-Ok.is)
+    (c.wrapping_add_u64.ensures.value ∙ ap (λ (z : ℕ). (c.in-Ok.place + z) % 2 ^ 64) c.end_of.ensures)
 
-pub returns-in-Refused : goal.returns-in-Refused
-returns-in-Refused c =
+pub returns-in-Err : goal.returns-in-Err
+returns-in-Err c =
     never_landed 64 c.args.repr_packed c.args.end (layout_of c.args.field) c.args.end 0 c.args.end
-    (sym (ap (round_up_for 64 c.args.end) c.packed_align.ensures) ∙ told_by number_says c.round_up.ensures.answer c.in-Refused.is)
+    (sym (ap (round_up_for 64 c.args.end) c.packed_align.ensures) ∙ told_by number_says c.round_up.ensures.answer c.in-Err.is)

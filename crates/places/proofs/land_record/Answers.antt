@@ -10,10 +10,10 @@ use Rattle.places.proofs.land_record.Goals as goal
 same : {l m : Layout} → answered l ≡ answered m → l ≡ m
 same e = cc
 
-pub returns-in-Layout : goal.returns-in-Layout
-returns-in-Layout c = λ m e.
+pub returns-in-Ok : goal.returns-in-Ok
+returns-in-Ok c = λ m e.
     let s = c.land.result in
-    subst (λ (z : Layout). Lands 64 c.args.repr_packed c.args.end z s.place s.gap s.end) (same (sym (told_by layout_says c.decode.ensures.answer c.in-Layout.is) ∙ e)) c.land.ensures
+    subst (λ (z : Layout). Lands 64 c.args.repr_packed c.args.end z s.place s.gap s.end) (same (sym (told_by layout_says c.decode.ensures.answer c.in-Ok.is) ∙ e)) c.land.ensures
 
-pub returns-in-Refused : goal.returns-in-Refused
-returns-in-Refused c = λ m e. absurd (apart (sym (told_by layout_says c.decode.ensures.answer c.in-Refused.is) ∙ e))
+pub returns-in-Err : goal.returns-in-Err
+returns-in-Err c = λ m e. absurd (apart (sym (told_by layout_says c.decode.ensures.answer c.in-Err.is) ∙ e))

@@ -1,28 +1,34 @@
 -- `places32::compose_and_write` meets its contract. Assumes nothing.
+use Rattle.compose.proofs.Told.{composed_on}
+use Rattle.compose.specs.View.{compose_says}
 use Rattle.std.proofs.Common.{sym, refl, ap, ◌∙◌}
 use Rattle.compose_defs.specs.Compose.{ported}
 use Rattle.compose_defs.specs.Places.{listed}
-use Rattle.compose32.specs.View.{compose_says32}
 use Rattle.compose_defs.proofs.Written.{struct_on, composes_of}
+use Rattle.compose_defs.specs.Compose.{Composed}
+use Rattle.compose_defs.specs.Places.{written, places_of, gaps_of}
+use Rattle.make.specs.Make.{empty_layout}
 use Rattle.places32.proofs.compose_and_write.Goals as goal
 
 pub write_places-requires : goal.write_places-requires
-write_places-requires c = let s = c.args.members.now in (composes_of 32 c.args.repr_align c.args.repr_packed (listed 32 s) (sym (struct_on 32 ported c.args.repr_align c.args.repr_packed s c.requires.0) ∙ sym c.for_repr_c_struct.ensures ∙ ap compose_says32 c.in-Layout.is), c.requires.1)
+write_places-requires c = let s = c.args.members.now in (composes_of 32 c.args.repr_align c.args.repr_packed (listed 32 s) (sym (struct_on 32 ported c.args.repr_align c.args.repr_packed s c.requires.0) ∙ sym c.for_repr_c_struct.ensures ∙ ap compose_says c.in_ok-l.was), c.requires.1)
 
-pub returns-in-Layout-clause-result_value : goal.returns-in-Layout-clause-result_value
-returns-in-Layout-clause-result_value c = let s = c.args.members.now in sym (sym (struct_on 32 ported c.args.repr_align c.args.repr_packed s c.requires.0) ∙ sym c.for_repr_c_struct.ensures ∙ ap compose_says32 c.in-Layout.is)
+pub returns-clause-result_value : goal.returns-clause-result_value
+returns-clause-result_value c = let s = c.args.members.now in sym (sym (struct_on 32 ported c.args.repr_align c.args.repr_packed s c.requires.0) ∙ sym c.for_repr_c_struct.ensures ∙ ap compose_says c.in_ok-l.was)
 
-pub returns-in-Layout-clause-places_after : goal.returns-in-Layout-clause-places_after
-returns-in-Layout-clause-places_after c = c.write_places.ensures.places_after
+pub returns-clause-places_after : goal.returns-clause-places_after
+returns-clause-places_after c = c.write_places.ensures.places_after
 
-pub returns-in-Layout-clause-gaps_after : goal.returns-in-Layout-clause-gaps_after
-returns-in-Layout-clause-gaps_after c = c.write_places.ensures.gaps_after
+pub returns-clause-gaps_after : goal.returns-clause-gaps_after
+returns-clause-gaps_after c = c.write_places.ensures.gaps_after
 
-pub returns-in-Refused-clause-result_value : goal.returns-in-Refused-clause-result_value
-returns-in-Refused-clause-result_value c = let s = c.args.members.now in sym (sym (struct_on 32 ported c.args.repr_align c.args.repr_packed s c.requires.0) ∙ sym c.for_repr_c_struct.ensures ∙ ap compose_says32 c.in-Refused.is)
+pub returns-in_err-l-clause-result_value : goal.returns-in_err-l-clause-result_value
+returns-in_err-l-clause-result_value c = let s = c.args.members.now in composed_on c.from_residual.result _ c.from_residual.ensures.1 (sym (sym (struct_on 32 ported c.args.repr_align c.args.repr_packed s c.requires.0) ∙ sym c.for_repr_c_struct.ensures ∙ ap compose_says c.in_err-l.was))
 
-pub returns-in-Refused-clause-places_after : goal.returns-in-Refused-clause-places_after
-returns-in-Refused-clause-places_after c = refl
+pub returns-in_err-l-clause-places_after : goal.returns-in_err-l-clause-places_after
+returns-in_err-l-clause-places_after c =
+    sym (ap (λ (o : Composed). written o (places_of c.args.repr_packed (empty_layout c.args.repr_align) (listed 32 c.args.members.now)) c.args.places.now) (composed_on c.from_residual.result _ c.from_residual.ensures.1 refl))
 
-pub returns-in-Refused-clause-gaps_after : goal.returns-in-Refused-clause-gaps_after
-returns-in-Refused-clause-gaps_after c = refl
+pub returns-in_err-l-clause-gaps_after : goal.returns-in_err-l-clause-gaps_after
+returns-in_err-l-clause-gaps_after c =
+    sym (ap (λ (o : Composed). written o (gaps_of c.args.repr_packed (empty_layout c.args.repr_align) (listed 32 c.args.members.now)) c.args.gaps.now) (composed_on c.from_residual.result _ c.from_residual.ensures.1 refl))

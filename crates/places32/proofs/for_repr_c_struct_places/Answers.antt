@@ -1,6 +1,6 @@
 -- `places32::for_repr_c_struct_places` meets its contract. Assumes nothing.
+use Rattle.compose.specs.View.{compose_says}
 use Rattle.std.proofs.Common.{◌≡◌, ℕ, ◌/◌, Bool, true, false, ◌&&◌, eqb, length, sym, refl, ◌∙◌, arith, eqb-true}
-use Rattle.compose32.specs.View.{compose_says32}
 use Rattle.compose_defs.proofs.Written.{places_on, places_off, places_length, list_places_mean}
 use Rattle.places32.proofs.for_repr_c_struct_places.Goals as goal
 
@@ -24,7 +24,7 @@ pub returns-then-both_are-clause-gaps : goal.returns-then-both_are-clause-gaps
 returns-then-both_are-clause-gaps c = c.compose_and_write.ensures.gaps_after
 
 pub returns-then-both_are-clause-meaning : goal.returns-then-both_are-clause-meaning
-returns-then-both_are-clause-meaning c = let s = c.args.members.now in list_places_mean 32 c.args.repr_align c.args.repr_packed s c.args.places.now c.args.gaps.now (compose_says32 c.compose_and_write.result) c.compose_and_write.ensures.result_value c.compose_and_write.ensures.places_after c.compose_and_write.ensures.gaps_after
+returns-then-both_are-clause-meaning c = let s = c.args.members.now in list_places_mean 32 c.args.repr_align c.args.repr_packed s c.args.places.now c.args.gaps.now (compose_says c.compose_and_write.result) c.compose_and_write.ensures.result_value c.compose_and_write.ensures.places_after c.compose_and_write.ensures.gaps_after
 
 pub returns-else-both_are-clause-answer : goal.returns-else-both_are-clause-answer
 returns-else-both_are-clause-answer c = let s = c.args.members.now in sym (places_off 32 c.args.repr_align c.args.repr_packed s (length c.args.places.now) (length c.args.gaps.now) c.if-members-eq0.true (sym c.both_are.ensures ∙ c.if-both_are.false))

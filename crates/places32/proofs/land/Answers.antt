@@ -1,12 +1,13 @@
 -- `places32::land` meets its contract. Assumes nothing.
+use Rattle.util.specs.declared.refusal.Refusal.{Refusal}
+use Rattle.std.specs.Prelude.{Result}
+use Rattle.layout.specs.View.{layout_of}
+use Rattle.util.specs.View.{number_says}
 use Rattle.std.proofs.Common.{ℕ, ◌+◌, ◌%◌, ◌^◌, sym, ap, ◌∙◌, subst}
 use Rattle.util_defs.specs.Refusal.{Meets}
 use Rattle.util_defs.proofs.Refusals.{answered_means}
 use Rattle.util_defs.proofs.Tables.{told_by}
-use Rattle.numbers32.specs.declared.Answer32.{Answer32}
-use Rattle.numbers32.specs.View.{number_says32}
 use Rattle.layout_defs.specs.Extend.{LeastPlace, round_up_causes, round_up_for}
-use Rattle.layouts32.specs.View.{layout_of32}
 use Rattle.compose_defs.proofs.Landing.{landed, never_landed}
 use Rattle.places32.proofs.land.Goals as goal
 
@@ -14,15 +15,15 @@ pub overflow_sub-result : goal.overflow_sub-result
 overflow_sub-result c =
     let a = c.packed_align.result in
     let end = c.args.end in
-    (answered_means (subst (λ (r : Answer32). Meets (round_up_causes 32 end a) (LeastPlace end a) (number_says32 r)) c.in-Number.is c.round_up.ensures.meaning)).1.after
+    (answered_means (subst (λ (r : Result ℕ Refusal). Meets (round_up_causes 32 end a) (LeastPlace end a) (number_says r)) c.in-Ok.is c.round_up.ensures.meaning)).1.after
 
-pub returns-in-Number : goal.returns-in-Number
-returns-in-Number c =
-    landed 32 c.args.repr_packed c.args.end (layout_of32 c.args.field)
-    (sym (ap (round_up_for 32 c.args.end) c.packed_align.ensures) ∙ told_by number_says32 c.round_up.ensures.answer c.in-Number.is)
-    (c.wrapping_add_u32.ensures.value ∙ ap (λ (z : ℕ). (c.in-Number.place + z) % 2 ^ 32) c.end_of.ensures)
+pub returns-in-Ok : goal.returns-in-Ok
+returns-in-Ok c =
+    landed 32 c.args.repr_packed c.args.end (layout_of c.args.field)
+    (sym (ap (round_up_for 32 c.args.end) c.packed_align.ensures) ∙ told_by number_says c.round_up.ensures.answer c.in-Ok.is)
+    (c.wrapping_add_u32.ensures.value ∙ ap (λ (z : ℕ). (c.in-Ok.place + z) % 2 ^ 32) c.end_of.ensures)
 
-pub returns-in-Refused : goal.returns-in-Refused
-returns-in-Refused c =
-    never_landed 32 c.args.repr_packed c.args.end (layout_of32 c.args.field) c.args.end 0 c.args.end
-    (sym (ap (round_up_for 32 c.args.end) c.packed_align.ensures) ∙ told_by number_says32 c.round_up.ensures.answer c.in-Refused.is)
+pub returns-in-Err : goal.returns-in-Err
+returns-in-Err c =
+    never_landed 32 c.args.repr_packed c.args.end (layout_of c.args.field) c.args.end 0 c.args.end
+    (sym (ap (round_up_for 32 c.args.end) c.packed_align.ensures) ∙ told_by number_says c.round_up.ensures.answer c.in-Err.is)

@@ -1,4 +1,5 @@
 -- `rewrite::rewrite` meets its contract. Assumes nothing.
+use Rattle.util.proofs.Told.{handed_on_at}
 use mathlib.Core.Path.{sym, ap, ◌∙◌}
 use Rattle.width.specs.Width.{bits_of, target_of}
 use Rattle.describe.specs.View.{read_says}
@@ -8,7 +9,7 @@ use Rattle.rewrite.proofs.rewrite.Goals as goal
 
 pub rewrite_read-requires : goal.rewrite_read-requires
 rewrite_read-requires c =
-    is_read (bits_of c.args.narrow) (target_of c.args.narrow) c.args.description.now (sym (ap read_says c.in-Layout.is) ∙ c.read.ensures.answer)
+    is_read (bits_of c.args.narrow) (target_of c.args.narrow) c.args.description.now (sym (ap read_says c.in_ok-read.was) ∙ c.read.ensures.answer)
 
-pub returns-in-Refused : goal.returns-in-Refused
-returns-in-Refused c = let told_here = ends_unread (bits_of c.args.narrow) (target_of c.args.narrow) (way_of c.args.long) c.args.description.now c.args.out.now (sym (ap read_says c.in-Refused.is) ∙ c.read.ensures.answer) in record { result_value = told_here.0; out_after = told_here.1 }
+pub returns-in_err-read : goal.returns-in_err-read
+returns-in_err-read c = let told_here = ends_unread (bits_of c.args.narrow) (target_of c.args.narrow) (way_of c.args.long) c.args.description.now c.args.out.now (sym (ap read_says c.in_err-read.was) ∙ c.read.ensures.answer) in record { result_value = handed_on_at _ c.from_residual.result _ c.from_residual.ensures.1 told_here.0; out_after = told_here.1 }

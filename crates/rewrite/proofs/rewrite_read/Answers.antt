@@ -1,4 +1,5 @@
 -- `rewrite::rewrite_read` meets its contract. Assumes nothing.
+use Rattle.util.proofs.Told.{handed_on_at}
 use mathlib.Core.Path.{sym, ap, ◌∙◌}
 use native.Mathlib.Omega.{arith}
 use lib.ListN.{length}
@@ -14,28 +15,28 @@ count_turned-requires c =
 
 pub has_room-requires : goal.has_room-requires
 has_room-requires c =
-    few_turned (bits_of c.args.narrow) (target_of c.args.narrow) (way_of c.args.long) c.args.description.now c.requires (sym (ap turned_says c.in-Turned.is) ∙ c.count_turned.ensures)
+    few_turned (bits_of c.args.narrow) (target_of c.args.narrow) (way_of c.args.long) c.args.description.now c.requires (sym (ap turned_says c.in_ok-turned.was) ∙ c.count_turned.ensures)
 
 pub write_heads-requires : goal.write_heads-requires
 write_heads-requires c =
-    (read_whole (bits_of c.args.narrow) (target_of c.args.narrow) c.args.description.now c.requires, room_of (bits_of c.args.narrow) (target_of c.args.narrow) (way_of c.args.long) c.args.description.now c.requires c.args.out.now (sym (ap turned_says c.in-Turned.is) ∙ c.count_turned.ensures) (sym c.has_room.ensures ∙ c.if-has_room.true))
+    (read_whole (bits_of c.args.narrow) (target_of c.args.narrow) c.args.description.now c.requires, room_of (bits_of c.args.narrow) (target_of c.args.narrow) (way_of c.args.long) c.args.description.now c.requires c.args.out.now (sym (ap turned_says c.in_ok-turned.was) ∙ c.count_turned.ensures) (sym c.has_room.ensures ∙ c.if-has_room.true))
 
 pub overflow_add-bytes : goal.overflow_add-bytes
 overflow_add-bytes c =
-    omega (arith, long_bytes (bits_of c.args.narrow) (target_of c.args.narrow) (way_of c.args.long) c.args.description.now c.requires c.args.out.now (sym (ap turned_says c.in-Turned.is) ∙ c.count_turned.ensures) (sym c.has_room.ensures ∙ c.if-has_room.true) (ap way_of c.if-long.true) c.well_formed.1.1.0.0)
+    omega (arith, long_bytes (bits_of c.args.narrow) (target_of c.args.narrow) (way_of c.args.long) c.args.description.now c.requires c.args.out.now (sym (ap turned_says c.in_ok-turned.was) ∙ c.count_turned.ensures) (sym c.has_room.ensures ∙ c.if-has_room.true) (ap way_of c.if-long.true) c.well_formed.1.1.0.0)
 
 pub overflow_sub-bytes : goal.overflow_sub-bytes
 overflow_sub-bytes c =
-    few_turned (bits_of c.args.narrow) (target_of c.args.narrow) (way_of c.args.long) c.args.description.now c.requires (sym (ap turned_says c.in-Turned.is) ∙ c.count_turned.ensures)
+    few_turned (bits_of c.args.narrow) (target_of c.args.narrow) (way_of c.args.long) c.args.description.now c.requires (sym (ap turned_says c.in_ok-turned.was) ∙ c.count_turned.ensures)
 
 pub returns-then-long : goal.returns-then-long
-returns-then-long c = let told_here = ends_written (bits_of c.args.narrow) (target_of c.args.narrow) (way_of c.args.long) c.args.description.now c.requires c.args.out.now (sym (ap turned_says c.in-Turned.is) ∙ c.count_turned.ensures) (sym c.has_room.ensures ∙ c.if-has_room.true) (sym (ap (λ (w : Way). length_to w (length c.args.description.now) c.in-Turned.turned) (ap way_of c.if-long.true))) c.write_heads.ensures in record { result_value = told_here.0; out_after = told_here.1 }
+returns-then-long c = let told_here = ends_written (bits_of c.args.narrow) (target_of c.args.narrow) (way_of c.args.long) c.args.description.now c.requires c.args.out.now (sym (ap turned_says c.in_ok-turned.was) ∙ c.count_turned.ensures) (sym c.has_room.ensures ∙ c.if-has_room.true) (sym (ap (λ (w : Way). length_to w (length c.args.description.now) c.in_ok-turned.turned) (ap way_of c.if-long.true))) c.write_heads.ensures in record { result_value = told_here.0; out_after = told_here.1 }
 
 pub returns-else-long : goal.returns-else-long
-returns-else-long c = let told_here = ends_written (bits_of c.args.narrow) (target_of c.args.narrow) (way_of c.args.long) c.args.description.now c.requires c.args.out.now (sym (ap turned_says c.in-Turned.is) ∙ c.count_turned.ensures) (sym c.has_room.ensures ∙ c.if-has_room.true) (sym (ap (λ (w : Way). length_to w (length c.args.description.now) c.in-Turned.turned) (ap way_of c.if-long.false))) c.write_heads.ensures in record { result_value = told_here.0; out_after = told_here.1 }
+returns-else-long c = let told_here = ends_written (bits_of c.args.narrow) (target_of c.args.narrow) (way_of c.args.long) c.args.description.now c.requires c.args.out.now (sym (ap turned_says c.in_ok-turned.was) ∙ c.count_turned.ensures) (sym c.has_room.ensures ∙ c.if-has_room.true) (sym (ap (λ (w : Way). length_to w (length c.args.description.now) c.in_ok-turned.turned) (ap way_of c.if-long.false))) c.write_heads.ensures in record { result_value = told_here.0; out_after = told_here.1 }
 
 pub returns-else-has_room : goal.returns-else-has_room
-returns-else-has_room c = let told_here = ends_short (bits_of c.args.narrow) (target_of c.args.narrow) (way_of c.args.long) c.args.description.now c.requires c.args.out.now (sym (ap turned_says c.in-Turned.is) ∙ c.count_turned.ensures) (sym c.has_room.ensures ∙ c.if-has_room.false) in record { result_value = told_here.0; out_after = told_here.1 }
+returns-else-has_room c = let told_here = ends_short (bits_of c.args.narrow) (target_of c.args.narrow) (way_of c.args.long) c.args.description.now c.requires c.args.out.now (sym (ap turned_says c.in_ok-turned.was) ∙ c.count_turned.ensures) (sym c.has_room.ensures ∙ c.if-has_room.false) in record { result_value = told_here.0; out_after = told_here.1 }
 
-pub returns-in-Above : goal.returns-in-Above
-returns-in-Above c = let told_here = ends_above (bits_of c.args.narrow) (target_of c.args.narrow) (way_of c.args.long) c.args.description.now c.requires c.args.out.now (sym (ap turned_says c.in-Above.is) ∙ c.count_turned.ensures) in record { result_value = told_here.0; out_after = told_here.1 }
+pub returns-in_err-turned : goal.returns-in_err-turned
+returns-in_err-turned c = let told_here = ends_above (bits_of c.args.narrow) (target_of c.args.narrow) (way_of c.args.long) c.args.description.now c.requires c.args.out.now (sym (ap turned_says c.in_err-turned.was) ∙ c.count_turned.ensures) in record { result_value = handed_on_at _ c.from_residual.result _ c.from_residual.ensures.1 told_here.0; out_after = told_here.1 }

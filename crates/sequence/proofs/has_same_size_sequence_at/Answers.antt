@@ -25,8 +25,8 @@ returns-then-same_start c =
     let s = trailing_of c.args.first in
     let t = trailing_of c.args.other in
     c.same_stride.ensures
-    ∙ sym (at_parts 64 (λ a q. same_stride s.elem a q c.args.align2 c.args.phase2) c.requires.0 (omega arith))
-    ∙ sym (at_parts 64 (λ a q. same_stride s.elem (A 64 s) (p 64 s) a q) c.requires.1 (omega (arith, double 64 c.requires.1.power c.ranges.align2.fits, c.requires.1.sum, c.requires.1.below)))
+    ∙ sym (at_parts 64 (λ a q. same_stride s.elem a q c.args.other_parts.align c.args.other_parts.phase) c.requires.0 (omega arith))
+    ∙ sym (at_parts 64 (λ a q. same_stride s.elem (A 64 s) (p 64 s) a q) c.requires.1 (omega (arith, double 64 c.requires.1.power (omega arith), c.requires.1.sum, c.requires.1.below)))
     ∙ simp (eq-eqb s.elem t.elem c.if-elem-other.false, sym c.same_start.ensures ∙ c.if-same_start.true)
 
 pub returns-else-same_start : goal.returns-else-same_start

@@ -11,19 +11,19 @@ use Rattle.sequence.proofs.same_start.Goals as goal
 pub returns-in_default : goal.returns-in_default
 returns-in_default c =
     let s = trailing_of c.args.first in
-    let n = size_not 64 s 0 c.size_for_elems.result c.requires.0 (omega arith) c.size_for_elems.ensures.meaning (opened c.in_default.in_default-own.keys2) in
+    let n = size_not 64 s 0 c.size_for_elems.result c.requires.0 (omega arith) c.size_for_elems.ensures.meaning c.in_default.is in
     sym (told_false (tells_start 64 s (trailing_of c.args.other)) (λ x. omega (arith, x.0)))
 
 pub returns-in_default-size_for_elems : goal.returns-in_default-size_for_elems
 returns-in_default-size_for_elems c =
     let t = trailing_of c.args.other in
-    let n = size_not 64 t 0 c.size_for_elems-2.result c.requires.1 (omega arith) c.size_for_elems-2.ensures.meaning (opened c.in_default-size_for_elems.in_default-size_for_elems-own.keys2) in
+    let n = size_not 64 t 0 c.size_for_elems-2.result c.requires.1 (omega arith) c.size_for_elems-2.ensures.meaning c.in_default-size_for_elems.is in
     sym (told_false (tells_start 64 (trailing_of c.args.first) t) (λ x. omega (arith, x.1.0)))
 
 pub returns : goal.returns
 returns c =
     let s = trailing_of c.args.first in
     let t = trailing_of c.args.other in
-    let x = size_told 64 s 0 c.size_for_elems.result c.size_for_elems.ensures.meaning c.in-Size.is in
-    let y = size_told 64 t 0 c.size_for_elems-2.result c.size_for_elems-2.ensures.meaning c.in-Size-size_for_elems.is in
-    agree (tells_as (λ e. (x.0, (y.0, sym x.1 ∙ e ∙ y.1))) (λ z. x.1 ∙ z.1.1 ∙ sym y.1) (tells_eq c.in-Size.first_size c.in-Size-size_for_elems.other_size)) (tells_start 64 s t)
+    let x = size_told 64 s 0 c.size_for_elems.result c.size_for_elems.ensures.meaning c.in-Ok.is in
+    let y = size_told 64 t 0 c.size_for_elems-2.result c.size_for_elems-2.ensures.meaning c.in-Ok-size_for_elems.is in
+    agree (tells_as (λ e. (x.0, (y.0, sym x.1 ∙ e ∙ y.1))) (λ z. x.1 ∙ z.1.1 ∙ sym y.1) (tells_eq c.in-Ok.first_size c.in-Ok-size_for_elems.other_size)) (tells_start 64 s t)

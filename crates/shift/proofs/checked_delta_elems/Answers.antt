@@ -1,4 +1,5 @@
 -- `shift::checked_delta_elems` meets its contract. Assumes nothing.
+use Prim.Native.Nat.{ℕ}
 use mathlib.Core.Path.{refl, sym, ap₂, ◌∙◌, subst}
 use native.Mathlib.Omega.{arith}
 use borrow.Author.Tests.{eq-eqb, ne_eqb}
@@ -13,19 +14,19 @@ use Rattle.shift.proofs.checked_delta_elems.Goals as goal
 
 pub matching_delta_elems-requires : goal.matching_delta_elems-requires
 matching_delta_elems-requires c =
-    let v = subst (λ (i : SizeInfo). (no_word (info_of i)).means → ⊥) c.in-SliceDst.is c.requires.0 in
-    let w = subst (λ (i : SizeInfo). (no_word (info_of i)).means → ⊥) c.in-SliceDst-dst_info.is c.requires.1 in
+    let v = subst (λ (i : SizeInfo ℕ). (no_word (info_of i)).means → ⊥) c.in-SliceDst.is c.requires.0 in
+    let w = subst (λ (i : SizeInfo ℕ). (no_word (info_of i)).means → ⊥) c.in-SliceDst-dst_info.is c.requires.1 in
     (omega (arith, v), omega (arith, w), omega arith)
 
 pub returns-then-dst-eq0 : goal.returns-then-dst-eq0
 returns-then-dst-eq0 c =
     let t = trailing_of c.in-SliceDst-dst_info.dst in
     simp (eq-eqb t.elem 0 c.if-dst-eq0.true) refl
-    ∙ ap₂ (λ (i j : SizeInfo). shift_between 64 (comparison_of 64 (mode_of c.args.mode)) (info_of i) (layout_of c.args.dst_layout) (info_of j)) (sym c.in-SliceDst.is) (sym c.in-SliceDst-dst_info.is)
+    ∙ ap₂ (λ (i j : SizeInfo ℕ). shift_between 64 (comparison_of 64 (mode_of c.args.mode)) (info_of i) (layout_of c.args.dst_layout) (info_of j)) (sym c.in-SliceDst.is) (sym c.in-SliceDst-dst_info.is)
 
 pub returns-else-dst-eq0 : goal.returns-else-dst-eq0
 returns-else-dst-eq0 c =
     let t = trailing_of c.in-SliceDst-dst_info.dst in
     c.matching_delta_elems.ensures
     ∙ simp (ne_eqb t.elem 0 c.if-dst-eq0.false) refl
-    ∙ ap₂ (λ (i j : SizeInfo). shift_between 64 (comparison_of 64 (mode_of c.args.mode)) (info_of i) (layout_of c.args.dst_layout) (info_of j)) (sym c.in-SliceDst.is) (sym c.in-SliceDst-dst_info.is)
+    ∙ ap₂ (λ (i j : SizeInfo ℕ). shift_between 64 (comparison_of 64 (mode_of c.args.mode)) (info_of i) (layout_of c.args.dst_layout) (info_of j)) (sym c.in-SliceDst.is) (sym c.in-SliceDst-dst_info.is)

@@ -28,22 +28,22 @@ pub returns-then-src_offset-dst_offset : goal.returns-then-src_offset-dst_offset
 returns-then-src_offset-dst_offset c =
     let s = trailing_of c.args.src in
     let t = trailing_of c.args.dst in
-    let x = c.in-Number.src_offset in
-    let y = c.in-Number-size_offset.dst_offset in
-    simp (lt-leb y x c.if-src_offset-dst_offset.true) refl ∙ ap₂ (between t.elem) (number_told c.size_offset.result c.size_offset.ensures.answer (size_offset_answered 64 s c.requires.0) c.in-Number.is) (number_told c.size_offset-2.result c.size_offset-2.ensures.answer (size_offset_answered 64 t c.requires.1) c.in-Number-size_offset.is)
+    let x = c.in-Ok.src_offset in
+    let y = c.in-Ok-size_offset.dst_offset in
+    simp (lt-leb y x c.if-src_offset-dst_offset.true) refl ∙ ap₂ (between t.elem) (number_told c.size_offset.result c.size_offset.ensures.answer (size_offset_answered 64 s c.requires.0) c.in-Ok.is) (number_told c.size_offset-2.result c.size_offset-2.ensures.answer (size_offset_answered 64 t c.requires.1) c.in-Ok-size_offset.is)
 
 pub returns-then-delta-dst_elem_size-eq0 : goal.returns-then-delta-dst_elem_size-eq0
 returns-then-delta-dst_elem_size-eq0 c =
     let s = trailing_of c.args.src in
     let t = trailing_of c.args.dst in
-    let x = c.in-Number.src_offset in
-    let y = c.in-Number-size_offset.dst_offset in
-    simp (le-leb y x c.if-src_offset-dst_offset.false, eq-eqb ((x - y) % t.elem) 0 c.if-delta-dst_elem_size-eq0.true) refl ∙ ap₂ (between t.elem) (number_told c.size_offset.result c.size_offset.ensures.answer (size_offset_answered 64 s c.requires.0) c.in-Number.is) (number_told c.size_offset-2.result c.size_offset-2.ensures.answer (size_offset_answered 64 t c.requires.1) c.in-Number-size_offset.is)
+    let x = c.in-Ok.src_offset in
+    let y = c.in-Ok-size_offset.dst_offset in
+    simp (le-leb y x c.if-src_offset-dst_offset.false, eq-eqb ((x - y) % t.elem) 0 c.if-delta-dst_elem_size-eq0.true) refl ∙ ap₂ (between t.elem) (number_told c.size_offset.result c.size_offset.ensures.answer (size_offset_answered 64 s c.requires.0) c.in-Ok.is) (number_told c.size_offset-2.result c.size_offset-2.ensures.answer (size_offset_answered 64 t c.requires.1) c.in-Ok-size_offset.is)
 
 pub returns-else-delta-dst_elem_size-eq0 : goal.returns-else-delta-dst_elem_size-eq0
 returns-else-delta-dst_elem_size-eq0 c =
     let s = trailing_of c.args.src in
     let t = trailing_of c.args.dst in
-    let x = c.in-Number.src_offset in
-    let y = c.in-Number-size_offset.dst_offset in
-    simp (le-leb y x c.if-src_offset-dst_offset.false, ne_eqb ((x - y) % t.elem) 0 c.if-delta-dst_elem_size-eq0.false) refl ∙ ap₂ (between t.elem) (number_told c.size_offset.result c.size_offset.ensures.answer (size_offset_answered 64 s c.requires.0) c.in-Number.is) (number_told c.size_offset-2.result c.size_offset-2.ensures.answer (size_offset_answered 64 t c.requires.1) c.in-Number-size_offset.is)
+    let x = c.in-Ok.src_offset in
+    let y = c.in-Ok-size_offset.dst_offset in
+    simp (le-leb y x c.if-src_offset-dst_offset.false, ne_eqb ((x - y) % t.elem) 0 c.if-delta-dst_elem_size-eq0.false) refl ∙ ap₂ (between t.elem) (number_told c.size_offset.result c.size_offset.ensures.answer (size_offset_answered 64 s c.requires.0) c.in-Ok.is) (number_told c.size_offset-2.result c.size_offset-2.ensures.answer (size_offset_answered 64 t c.requires.1) c.in-Ok-size_offset.is)

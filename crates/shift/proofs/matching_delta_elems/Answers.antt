@@ -7,17 +7,17 @@ use Rattle.shift.specs.View.{mode_of, shift_in}
 use Rattle.shift_defs.specs.Mode.{comparison_of}
 use Rattle.shift.proofs.matching_delta_elems.Goals as goal
 
-pub returns-in-By : goal.returns-in-By
+pub returns-in-Some : goal.returns-in-Some
 unfolding shift_of
-returns-in-By c =
+returns-in-Some c =
     let s = trailing_of c.args.src in
     let t = trailing_of c.args.dst in
-    ap (λ (x : Shift). or_else x (matched_shift 64 (comparison_of 64 (mode_of c.args.mode)) s t (by_size 64 s (layout_of c.args.dst_layout)))) (sym (ap shift_in c.in-By.is) ∙ c.matching_offset.ensures)
+    ap (λ (x : Shift). or_else x (matched_shift 64 (comparison_of 64 (mode_of c.args.mode)) s t (by_size 64 s (layout_of c.args.dst_layout)))) (sym (ap shift_in c.in-Some.is) ∙ c.matching_offset.ensures)
 
-pub returns-in-Missing : goal.returns-in-Missing
+pub returns-in-None : goal.returns-in-None
 unfolding shift_of
-returns-in-Missing c =
+returns-in-None c =
     let s = trailing_of c.args.src in
     let t = trailing_of c.args.dst in
     c.matching_size.ensures
-    ∙ ap (λ (x : Shift). or_else x (matched_shift 64 (comparison_of 64 (mode_of c.args.mode)) s t (by_size 64 s (layout_of c.args.dst_layout)))) (sym (ap shift_in c.in-Missing.is) ∙ c.matching_offset.ensures)
+    ∙ ap (λ (x : Shift). or_else x (matched_shift 64 (comparison_of 64 (mode_of c.args.mode)) s t (by_size 64 s (layout_of c.args.dst_layout)))) (sym (ap shift_in c.in-None.is) ∙ c.matching_offset.ensures)

@@ -1,4 +1,5 @@
 -- `shift::offset_delta_elems` meets its contract. Assumes nothing.
+use Rattle.util.proofs.Told.{handed_on}
 use mathlib.Core.Path.{sym, ap, ◌∙◌}
 use lib.Dec.{lit<}
 use native.Mathlib.Omega.{arith}
@@ -19,46 +20,46 @@ unfolding check_for
 checked_delta_elems-requires c =
     let s = layout_of c.args.src_layout in
     let t = layout_of c.args.dst_layout in (
-      (accepted_none (layout_causes 64 s) tt (layout_decided 64 s (omega arith)) (told_by check_says c.check.ensures.answer c.in-Accepted.is)).1.0,
-      (accepted_none (layout_causes 64 t) tt (layout_decided 64 t (omega arith)) (told_by check_says c.check-in-Accepted.ensures.answer c.in-Accepted-check.is)).1.0,
+      (accepted_none (layout_causes 64 s) tt (layout_decided 64 s (omega arith)) (told_by check_says c.check.ensures.answer c.in_ok-check.was)).1.0,
+      (accepted_none (layout_causes 64 t) tt (layout_decided 64 t (omega arith)) (told_by check_says c.check-2.ensures.answer c.in_ok-check-2.was)).1.0,
     )
 
-pub returns-in-Accepted-check-clause-answer : goal.returns-in-Accepted-check-clause-answer
+pub returns-clause-answer : goal.returns-clause-answer
 unfolding shift_for check_for
-returns-in-Accepted-check-clause-answer c =
+returns-clause-answer c =
     let s = layout_of c.args.src_layout in
     let t = layout_of c.args.dst_layout in
     let d = shift_between 64 (comparison_of 64 (mode_of c.args.mode)) s.info t t.info in ap answered c.checked_delta_elems.ensures
-    ∙ sym (accepted_first (layout_causes 64 s) (layout_causes 64 t) tt d (told_by check_says c.check.ensures.answer c.in-Accepted.is) ∙ accepted_as (layout_causes 64 t) tt d (told_by check_says c.check-in-Accepted.ensures.answer c.in-Accepted-check.is))
+    ∙ sym (accepted_first (layout_causes 64 s) (layout_causes 64 t) tt d (told_by check_says c.check.ensures.answer c.in_ok-check.was) ∙ accepted_as (layout_causes 64 t) tt d (told_by check_says c.check-2.ensures.answer c.in_ok-check-2.was))
 
-pub returns-in-Accepted-check-clause-meaning : goal.returns-in-Accepted-check-clause-meaning
-returns-in-Accepted-check-clause-meaning c =
+pub returns-clause-meaning : goal.returns-clause-meaning
+returns-clause-meaning c =
     let s = layout_of c.args.src_layout in
     let t = layout_of c.args.dst_layout in
-    let d = shift_between 64 (comparison_of 64 (mode_of c.args.mode)) s.info t t.info in means (shift_meets 64 (comparison_of 64 (mode_of c.args.mode)) s t (omega arith) (omega arith) (lit< tt)) (returns-in-Accepted-check-clause-answer c)
+    let d = shift_between 64 (comparison_of 64 (mode_of c.args.mode)) s.info t t.info in means (shift_meets 64 (comparison_of 64 (mode_of c.args.mode)) s t (omega arith) (omega arith) (lit< tt)) (returns-clause-answer c)
 
-pub returns-in-Refused-check-clause-answer : goal.returns-in-Refused-check-clause-answer
+pub returns-in_err-check-2-clause-answer : goal.returns-in_err-check-2-clause-answer
 unfolding shift_for check_for
-returns-in-Refused-check-clause-answer c =
+returns-in_err-check-2-clause-answer c =
     let s = layout_of c.args.src_layout in
     let t = layout_of c.args.dst_layout in
-    let d = shift_between 64 (comparison_of 64 (mode_of c.args.mode)) s.info t t.info in sym (accepted_first (layout_causes 64 s) (layout_causes 64 t) tt d (told_by check_says c.check.ensures.answer c.in-Accepted.is) ∙ refused_as (layout_causes 64 t) tt d (told_by check_says c.check-in-Accepted.ensures.answer c.in-Refused-check.is))
+    let d = shift_between 64 (comparison_of 64 (mode_of c.args.mode)) s.info t t.info in handed_on _ c.from_residual-in_err-check-2.result _ c.from_residual-in_err-check-2.ensures.1 (sym (accepted_first (layout_causes 64 s) (layout_causes 64 t) tt d (told_by check_says c.check.ensures.answer c.in_ok-check.was) ∙ refused_as (layout_causes 64 t) tt d (told_by check_says c.check-2.ensures.answer c.in_err-check-2.was)))
 
-pub returns-in-Refused-check-clause-meaning : goal.returns-in-Refused-check-clause-meaning
-returns-in-Refused-check-clause-meaning c =
+pub returns-in_err-check-2-clause-meaning : goal.returns-in_err-check-2-clause-meaning
+returns-in_err-check-2-clause-meaning c =
     let s = layout_of c.args.src_layout in
     let t = layout_of c.args.dst_layout in
-    let d = shift_between 64 (comparison_of 64 (mode_of c.args.mode)) s.info t t.info in means (shift_meets 64 (comparison_of 64 (mode_of c.args.mode)) s t (omega arith) (omega arith) (lit< tt)) (returns-in-Refused-check-clause-answer c)
+    let d = shift_between 64 (comparison_of 64 (mode_of c.args.mode)) s.info t t.info in means (shift_meets 64 (comparison_of 64 (mode_of c.args.mode)) s t (omega arith) (omega arith) (lit< tt)) (returns-in_err-check-2-clause-answer c)
 
-pub returns-in-Refused-clause-answer : goal.returns-in-Refused-clause-answer
+pub returns-in_err-check-clause-answer : goal.returns-in_err-check-clause-answer
 unfolding shift_for check_for
-returns-in-Refused-clause-answer c =
+returns-in_err-check-clause-answer c =
     let s = layout_of c.args.src_layout in
     let t = layout_of c.args.dst_layout in
-    let d = shift_between 64 (comparison_of 64 (mode_of c.args.mode)) s.info t t.info in sym (refused_first (layout_causes 64 s) (layout_causes 64 t) tt d (told_by check_says c.check.ensures.answer c.in-Refused.is))
+    let d = shift_between 64 (comparison_of 64 (mode_of c.args.mode)) s.info t t.info in handed_on _ c.from_residual.result _ c.from_residual.ensures.1 (sym (refused_first (layout_causes 64 s) (layout_causes 64 t) tt d (told_by check_says c.check.ensures.answer c.in_err-check.was)))
 
-pub returns-in-Refused-clause-meaning : goal.returns-in-Refused-clause-meaning
-returns-in-Refused-clause-meaning c =
+pub returns-in_err-check-clause-meaning : goal.returns-in_err-check-clause-meaning
+returns-in_err-check-clause-meaning c =
     let s = layout_of c.args.src_layout in
     let t = layout_of c.args.dst_layout in
-    let d = shift_between 64 (comparison_of 64 (mode_of c.args.mode)) s.info t t.info in means (shift_meets 64 (comparison_of 64 (mode_of c.args.mode)) s t (omega arith) (omega arith) (lit< tt)) (returns-in-Refused-clause-answer c)
+    let d = shift_between 64 (comparison_of 64 (mode_of c.args.mode)) s.info t t.info in means (shift_meets 64 (comparison_of 64 (mode_of c.args.mode)) s t (omega arith) (omega arith) (lit< tt)) (returns-in_err-check-clause-answer c)

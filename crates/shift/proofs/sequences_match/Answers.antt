@@ -28,16 +28,16 @@ returns-in_default-advance c =
     let s = trailing_of c.args.src in
     let t = trailing_of c.args.dst in
     let d = c.args.dst_base in
-    let y = (product_told 64 (d * t.elem) c.checked_mul.result c.checked_mul.ensures c.in-Fits.is).0 in
-    let past = advance_missing 64 t c.in-Fits.base_bytes s.elem c.advance.result c.requires.1 c.advance.ensures.answer c.in_default-advance.is in
+    let y = (product_told 64 (d * t.elem) c.checked_mul.result c.checked_mul.ensures c.in-Some.is).0 in
+    let past = advance_missing 64 t c.in-Some.base_bytes s.elem c.advance.result c.requires.1 c.advance.ensures.answer c.in_default-advance.is in
     sym (told_false (tells_matches 64 (same_sequence 64) s t d) (λ m. omega (arith, m.advance)))
 
 pub found_same-requires : goal.found_same-requires
 found_same-requires c =
     let s = trailing_of c.args.src in
     let t = trailing_of c.args.dst in
-    let y = c.in-Fits.base_bytes in
-    let a = advance_told 64 t y s.elem c.advance.result c.advance.ensures.answer c.in-Layout.is in
+    let y = c.in-Some.base_bytes in
+    let a = advance_told 64 t y s.elem c.advance.result c.advance.ensures.answer c.in-Ok.is in
     (c.requires.0, subst (λ (u : Trailing). 0 < u.word) (sym a.0) (not_zero (advanced_word 64 t y s.elem c.requires.1 (omega arith))))
 
 pub returns : goal.returns
@@ -46,8 +46,8 @@ returns c =
     let t = trailing_of c.args.dst in
     let d = c.args.dst_base in
     let same = same_sequence 64 in
-    let y = (product_told 64 (d * t.elem) c.checked_mul.result c.checked_mul.ensures c.in-Fits.is).0 in
-    let a = advance_told 64 t c.in-Fits.base_bytes s.elem c.advance.result c.advance.ensures.answer c.in-Layout.is in
-    let i : trailing_of c.in-Layout.shifted_dst ≡ shifted 64 s t d = a.0 ∙ ap (λ (z : ℕ). advanced 64 t z s.elem) y in
-    c.found_same.ensures ∙ same_from_lem 64 s (trailing_of c.in-Layout.shifted_dst) ∙ ap (same_from 64 same s) i
+    let y = (product_told 64 (d * t.elem) c.checked_mul.result c.checked_mul.ensures c.in-Some.is).0 in
+    let a = advance_told 64 t c.in-Some.base_bytes s.elem c.advance.result c.advance.ensures.answer c.in-Ok.is in
+    let i : trailing_of c.in-Ok.shifted_dst ≡ shifted 64 s t d = a.0 ∙ ap (λ (z : ℕ). advanced 64 t z s.elem) y in
+    c.found_same.ensures ∙ same_from_lem 64 s (trailing_of c.in-Ok.shifted_dst) ∙ ap (same_from 64 same s) i
     ∙ agree (tells_as (λ x. record { start = x.0; advance = omega (arith, a.1); equal = x.1 }) (λ m. (m.start, m.equal)) (tells_from 64 same s (shifted 64 s t d))) (tells_matches 64 same s t d)

@@ -2,5 +2,5 @@
 
 use Rattle.shifts32.proofs.low_shift.Goals as goal
 
-pub returns-in-By : goal.returns-in-By
-returns-in-By c = simp (c.in-By.is, c.low_word.ensures)
+pub returns-in-Some : goal.returns-in-Some
+returns-in-Some c = simp (c.in-Some.is, c.low_word.ensures)

@@ -1,4 +1,5 @@
 -- `shifts32::offset_delta_elems` meets its contract. Assumes nothing.
+use Rattle.layout.specs.View.{layout_of}
 use mathlib.Core.Path.{sym, ap₂, ◌∙◌}
 use mathlib.Core.Bool.{Bool}
 use lib.Dec.{lit<}
@@ -11,7 +12,6 @@ use Rattle.shift.specs.View.{mode_of}
 use Rattle.widths_defs.specs.Low.{mapped}
 use Rattle.widths_converts_defs.specs.Within.{shift_within, low_shift}
 use Rattle.widths_converts_defs.proofs.Shifts.{shift_low}
-use Rattle.layouts32.specs.View.{layout_of32}
 use Rattle.util_defs.proofs.Refusals.{means}
 use Rattle.shifts32.proofs.offset_delta_elems.Goals as goal
 
@@ -19,8 +19,8 @@ pub returns-clause-answer : goal.returns-clause-answer
 returns-clause-answer c =
     let q = c.wide_layout-src.ensures in
     let r = c.wide_layout-dst.ensures in
-    let s = layout_of32 c.args.src_layout in
-    let t = layout_of32 c.args.dst_layout in
+    let s = layout_of c.args.src_layout in
+    let t = layout_of c.args.dst_layout in
     let m = mode_of c.args.mode in c.shift_within.ensures
     ∙ ap₂ (λ (b : Bool) (o : Outcome Shift). mapped (low_shift 32) (mapped (shift_within b) o)) c.starts_in-start.ensures
     (c.offset_delta_elems.ensures.answer ∙ ap₂ (shift_for 64 (comparison_of 64 m)) q.0 r.0)
@@ -30,6 +30,6 @@ pub returns-clause-meaning : goal.returns-clause-meaning
 returns-clause-meaning c =
     let q = c.wide_layout-src.ensures in
     let r = c.wide_layout-dst.ensures in
-    let s = layout_of32 c.args.src_layout in
-    let t = layout_of32 c.args.dst_layout in
+    let s = layout_of c.args.src_layout in
+    let t = layout_of c.args.dst_layout in
     let m = mode_of c.args.mode in means (shift_meets 32 (comparison_of 32 m) s t q.1.align r.1.align (lit< tt)) (returns-clause-answer c)

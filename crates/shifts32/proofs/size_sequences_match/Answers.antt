@@ -1,4 +1,5 @@
 -- `shifts32::size_sequences_match` meets its contract. Assumes nothing.
+use Rattle.trailing.specs.View.{trailing_of}
 use mathlib.Core.Path.{sym, ap₂, ◌∙◌}
 use mathlib.Core.Bool.{Bool}
 use native.Mathlib.Omega.{arith}
@@ -10,7 +11,6 @@ use Rattle.shift_defs.proofs.Matching.{mode-sound, match_meets}
 use Rattle.shift.specs.View.{mode_of}
 use Rattle.widths_defs.specs.Within.{same_within}
 use Rattle.widths_converts_defs.proofs.Shifts.{match_narrows}
-use Rattle.trailing32.specs.View.{trailing_of32}
 use Rattle.util_defs.proofs.Refusals.{means}
 use Rattle.shifts32.proofs.size_sequences_match.Goals as goal
 
@@ -18,8 +18,8 @@ pub returns-clause-answer : goal.returns-clause-answer
 returns-clause-answer c =
     let q = c.wide_tail-wide.ensures in
     let r = c.wide_tail-dst_wide.ensures in
-    let s = trailing_of32 c.args.src in
-    let t = trailing_of32 c.args.dst in
+    let s = trailing_of c.args.src in
+    let t = trailing_of c.args.dst in
     let m = mode_of c.args.mode in
     let d = c.args.dst_base in c.same_within.ensures
     ∙ ap₂ (λ (b : Bool) (o : Outcome Bool). same_within b o) c.has_start-start.ensures
@@ -30,7 +30,7 @@ pub returns-clause-meaning : goal.returns-clause-meaning
 returns-clause-meaning c =
     let q = c.wide_tail-wide.ensures in
     let r = c.wide_tail-dst_wide.ensures in
-    let s = trailing_of32 c.args.src in
-    let t = trailing_of32 c.args.dst in
+    let s = trailing_of c.args.src in
+    let t = trailing_of c.args.dst in
     let m = mode_of c.args.mode in
     let d = c.args.dst_base in means (match_meets 32 (comparison_of 32 m) s t d (mode-sound 32 m) q.1.word r.1.word) (returns-clause-answer c)

@@ -1,4 +1,5 @@
 -- `short::encode_short_words` meets its contract. Assumes nothing.
+use Rattle.util.proofs.Told.{handed_on}
 use mathlib.Core.Path.{sym, ap, subst, ◌∙◌}
 use native.Mathlib.Omega.{arith}
 use lib.ListN.{length}
@@ -15,28 +16,28 @@ use Rattle.short_defs.proofs.Told.{encode_short_own, encode_short_above, encode_
 use Rattle.short.proofs.encode_short_words.Goals as goal
 
 pub short_of-requires : goal.short_of-requires
-short_of-requires c = let l = layout_of c.in-Layout.l in let e = told_by layout_says c.layout_from_words.ensures.answer c.in-Layout.is in ap (λ (z : Words). power_of_two 64 z.align) c.words_from_layout.ensures ∙ ap (power_of_two 64) (words_align l) ∙ checked_power l (words_accepted 64 (words_in c.args.w) e)
+short_of-requires c = let l = layout_of c.in_ok-l.l in let e = told_by layout_says c.layout_from_words.ensures.answer c.in_ok-l.was in ap (λ (z : Words). power_of_two 64 z.align) c.words_from_layout.ensures ∙ ap (power_of_two 64) (words_align l) ∙ checked_power l (words_accepted 64 (words_in c.args.w) e)
 
 pub put_short-requires : goal.put_short-requires
-put_short-requires c = let l = layout_of c.in-Layout.l in let e = told_by layout_says c.layout_from_words.ensures.answer c.in-Layout.is in (omega (arith, c.if-out-eq-SHORT_BYTES.true), subst Holds (sym c.short_of.ensures) (short_held l (words_in c.words_from_layout.result) c.words_from_layout.ensures (words_accepted 64 (words_in c.args.w) e) (sym c.fits_short.ensures ∙ c.if-fits_short.true) (omega arith) (omega arith) (omega arith)))
+put_short-requires c = let l = layout_of c.in_ok-l.l in let e = told_by layout_says c.layout_from_words.ensures.answer c.in_ok-l.was in (omega (arith, c.if-out-eq-SHORT_BYTES.true), subst Holds (sym c.short_of.ensures) (short_held l (words_in c.words_from_layout.result) c.words_from_layout.ensures (words_accepted 64 (words_in c.args.w) e) (sym c.fits_short.ensures ∙ c.if-fits_short.true) (omega arith) (omega arith) (omega arith)))
 
 pub returns-then-fits_short-clause-answer : goal.returns-then-fits_short-clause-answer
-returns-then-fits_short-clause-answer c = let r = words_in c.args.w in let s = c.args.out.now in let e = told_by layout_says c.layout_from_words.ensures.answer c.in-Layout.is in let o = encode_short_on r (length s) c.if-out-eq-SHORT_BYTES.true e (sym c.fits_short.ensures ∙ c.if-fits_short.true) in sym o
+returns-then-fits_short-clause-answer c = let r = words_in c.args.w in let s = c.args.out.now in let e = told_by layout_says c.layout_from_words.ensures.answer c.in_ok-l.was in let o = encode_short_on r (length s) c.if-out-eq-SHORT_BYTES.true e (sym c.fits_short.ensures ∙ c.if-fits_short.true) in sym o
 
 pub returns-then-fits_short-clause-bytes : goal.returns-then-fits_short-clause-bytes
-returns-then-fits_short-clause-bytes c = let r = words_in c.args.w in let s = c.args.out.now in let e = told_by layout_says c.layout_from_words.ensures.answer c.in-Layout.is in let o = encode_short_on r (length s) c.if-out-eq-SHORT_BYTES.true e (sym c.fits_short.ensures ∙ c.if-fits_short.true) in c.put_short.ensures ∙ ap (λ (z : Short). sets s 0 (short_bytes z)) (c.short_of.ensures ∙ ap short_of (c.words_from_layout.ensures ∙ words_kept 64 r e)) ∙ short_written r s c.if-out-eq-SHORT_BYTES.true o
+returns-then-fits_short-clause-bytes c = let r = words_in c.args.w in let s = c.args.out.now in let e = told_by layout_says c.layout_from_words.ensures.answer c.in_ok-l.was in let o = encode_short_on r (length s) c.if-out-eq-SHORT_BYTES.true e (sym c.fits_short.ensures ∙ c.if-fits_short.true) in c.put_short.ensures ∙ ap (λ (z : Short). sets s 0 (short_bytes z)) (c.short_of.ensures ∙ ap short_of (c.words_from_layout.ensures ∙ words_kept 64 r e)) ∙ short_written r s c.if-out-eq-SHORT_BYTES.true o
 
 pub returns-else-fits_short-clause-answer : goal.returns-else-fits_short-clause-answer
-returns-else-fits_short-clause-answer c = let r = words_in c.args.w in let s = c.args.out.now in let o = encode_short_above r (length s) c.if-out-eq-SHORT_BYTES.true (told_by layout_says c.layout_from_words.ensures.answer c.in-Layout.is) (sym c.fits_short.ensures ∙ c.if-fits_short.false) in sym o
+returns-else-fits_short-clause-answer c = let r = words_in c.args.w in let s = c.args.out.now in let o = encode_short_above r (length s) c.if-out-eq-SHORT_BYTES.true (told_by layout_says c.layout_from_words.ensures.answer c.in_ok-l.was) (sym c.fits_short.ensures ∙ c.if-fits_short.false) in sym o
 
 pub returns-else-fits_short-clause-bytes : goal.returns-else-fits_short-clause-bytes
-returns-else-fits_short-clause-bytes c = let r = words_in c.args.w in let s = c.args.out.now in let o = encode_short_above r (length s) c.if-out-eq-SHORT_BYTES.true (told_by layout_says c.layout_from_words.ensures.answer c.in-Layout.is) (sym c.fits_short.ensures ∙ c.if-fits_short.false) in short_kept r s o
+returns-else-fits_short-clause-bytes c = let r = words_in c.args.w in let s = c.args.out.now in let o = encode_short_above r (length s) c.if-out-eq-SHORT_BYTES.true (told_by layout_says c.layout_from_words.ensures.answer c.in_ok-l.was) (sym c.fits_short.ensures ∙ c.if-fits_short.false) in short_kept r s o
 
-pub returns-in-Refused-clause-answer : goal.returns-in-Refused-clause-answer
-returns-in-Refused-clause-answer c = let r = words_in c.args.w in let s = c.args.out.now in let o = encode_short_own r (length s) c.if-out-eq-SHORT_BYTES.true (told_by layout_says c.layout_from_words.ensures.answer c.in-Refused.is) in sym o
+pub returns-in_err-l-clause-answer : goal.returns-in_err-l-clause-answer
+returns-in_err-l-clause-answer c = let r = words_in c.args.w in let s = c.args.out.now in let o = encode_short_own r (length s) c.if-out-eq-SHORT_BYTES.true (told_by layout_says c.layout_from_words.ensures.answer c.in_err-l.was) in handed_on _ c.from_residual.result _ c.from_residual.ensures.1 (sym o)
 
-pub returns-in-Refused-clause-bytes : goal.returns-in-Refused-clause-bytes
-returns-in-Refused-clause-bytes c = let r = words_in c.args.w in let s = c.args.out.now in let o = encode_short_own r (length s) c.if-out-eq-SHORT_BYTES.true (told_by layout_says c.layout_from_words.ensures.answer c.in-Refused.is) in short_kept r s o
+pub returns-in_err-l-clause-bytes : goal.returns-in_err-l-clause-bytes
+returns-in_err-l-clause-bytes c = let r = words_in c.args.w in let s = c.args.out.now in let o = encode_short_own r (length s) c.if-out-eq-SHORT_BYTES.true (told_by layout_says c.layout_from_words.ensures.answer c.in_err-l.was) in (short_kept r s o)
 
 pub returns-else-out-eq-SHORT_BYTES-clause-answer : goal.returns-else-out-eq-SHORT_BYTES-clause-answer
 returns-else-out-eq-SHORT_BYTES-clause-answer c = let r = words_in c.args.w in let s = c.args.out.now in let o = encode_short_length r (length s) c.if-out-eq-SHORT_BYTES.false in sym o

@@ -17,10 +17,10 @@ returns-in_default c = let t = trailing_of c.args.l.layout in
 pub returns-then-bytes-l : goal.returns-then-bytes-l
 returns-then-bytes-l c = let t = trailing_of c.args.l.layout in
     let w = bits_to c.args.l.max in
-    let o = product_told 64 (c.args.count * t.elem) c.checked_mul.result c.checked_mul.ensures c.in-Fits.is in
+    let o = product_told 64 (c.args.count * t.elem) c.checked_mul.result c.checked_mul.ensures c.in-Some.is in
     sym (add_no_size w t c.args.i c.args.count (sums_of c.args.x) (first_size w t c.requires.0.1.0 c.requires.0.0.1 c.requires.0.1.1) (count_past w t c.requires.0.1.0 c.requires.0.0.1 c.requires.0.1.1 c.args.count (omega (arith, o.0))))
 
 pub returns : goal.returns
 returns c = let t = trailing_of c.args.l.layout in
-    let o = product_told 64 (c.args.count * t.elem) c.checked_mul.result c.checked_mul.ensures c.in-Fits.is in
+    let o = product_told 64 (c.args.count * t.elem) c.checked_mul.result c.checked_mul.ensures c.in-Some.is in
     c.add_bytes.ensures c.args.count o.0

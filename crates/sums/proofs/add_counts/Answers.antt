@@ -16,16 +16,16 @@ loop-i-init c = (refl, omega arith)
 pub add_count-requires : goal.add_count-requires
 add_count-requires c = (c.requires, c.loop-i.invariant.1)
 
-pub returns-in-Refused : goal.returns-in-Refused
-returns-in-Refused c = let t = trailing_of c.args.l.layout in
+pub returns-in-Err : goal.returns-in-Err
+returns-in-Err c = let t = trailing_of c.args.l.layout in
     let s = c.args.counts.now in
-    sym (totals_off (bits_to c.args.l.max) t s c.loop-i.i (sums_of c.loop-i.x) c.loop-i-test.true (told_by add_says c.add_count.ensures c.in-Refused.is)) ∙ c.loop-i.invariant.0
+    sym (totals_off (bits_to c.args.l.max) t s c.loop-i.i (sums_of c.loop-i.x) c.loop-i-test.true (told_by add_says c.add_count.ensures c.in-Err.is)) ∙ c.loop-i.invariant.0
 
 pub loop-i-preserved : goal.loop-i-preserved
 loop-i-preserved c = let t = trailing_of c.args.l.layout in
     let s = c.args.counts.now in
-    let y = sums_of c.in-Sums.next in
-    let e = told_by add_says c.add_count.ensures c.in-Sums.is in
+    let y = sums_of c.in-Ok.next in
+    let e = told_by add_says c.add_count.ensures c.in-Ok.is in
     (sym (totals_on (bits_to c.args.l.max) t s c.loop-i.i (sums_of c.loop-i.x) y c.loop-i-test.true e) ∙ c.loop-i.invariant.0, within_kept (bits_to c.args.l.max) t c.loop-i.i (get_or s c.loop-i.i 0) (sums_of c.loop-i.x) c.loop-i.invariant.1 e)
 
 pub returns : goal.returns

@@ -14,18 +14,18 @@ pub test-requires : goal.test-requires
 test-requires c = (ap M (sym bits_64), subst (λ (w : ℕ). (trailing_of c.args.layout).word < 2 ^ w) (sym bits_64) (omega arith))
 
 pub add_counts-requires : goal.add_counts-requires
-add_counts-requires c = (subst (TestMeans (trailing_of c.args.layout) (M 64) (length c.args.counts.now)) c.in-Tested.is c.test.ensures).0
+add_counts-requires c = (subst (TestMeans (trailing_of c.args.layout) (M 64) (length c.args.counts.now)) c.in-Ok.is c.test.ensures).0
 
-pub returns-in-Tested : goal.returns-in-Tested
-returns-in-Tested c =
+pub returns-in-Ok : goal.returns-in-Ok
+returns-in-Ok c =
     let t = trailing_of c.args.layout in
     let s = c.args.counts.now in
-    let m = subst (TestMeans t (M 64) (length s)) c.in-Tested.is c.test.ensures in
+    let m = subst (TestMeans t (M 64) (length s)) c.in-Ok.is c.test.ensures in
     c.add_counts.ensures ∙ tested_sums 64 (M 64) t s m bits_64
 
-pub returns-in-Refused : goal.returns-in-Refused
-returns-in-Refused c =
+pub returns-in-Err : goal.returns-in-Err
+returns-in-Err c =
     let t = trailing_of c.args.layout in
     let s = c.args.counts.now in
-    let m = subst (TestMeans t (M 64) (length s)) c.in-Refused.is c.test.ensures in
+    let m = subst (TestMeans t (M 64) (length s)) c.in-Err.is c.test.ensures in
     m s refl ∙ ap (λ (w : ℕ). sums_for w t s) bits_64

@@ -14,18 +14,18 @@ pub test-requires : goal.test-requires
 test-requires c = (ap M (sym bits_32), subst (λ (w : ℕ). (trailing_of c.wide_tail.result).word < 2 ^ w) (sym bits_32) (subst (λ (t : Trailing). t.word < 2 ^ 32) (sym c.wide_tail.ensures.0) c.wide_tail.ensures.1.word))
 
 pub add_counts32-requires : goal.add_counts32-requires
-add_counts32-requires c = (subst (TestMeans (trailing_of c.wide_tail.result) (M 32) (length c.args.counts.now)) c.in-Tested.is c.test.ensures).0
+add_counts32-requires c = (subst (TestMeans (trailing_of c.wide_tail.result) (M 32) (length c.args.counts.now)) c.in-Ok.is c.test.ensures).0
 
-pub returns-in-Tested : goal.returns-in-Tested
-returns-in-Tested c =
+pub returns-in-Ok : goal.returns-in-Ok
+returns-in-Ok c =
     let t = trailing_of c.wide_tail.result in
     let s = c.args.counts.now in
-    let m = subst (TestMeans t (M 32) (length s)) c.in-Tested.is c.test.ensures in
+    let m = subst (TestMeans t (M 32) (length s)) c.in-Ok.is c.test.ensures in
     c.add_counts32.ensures ∙ tested_sums 32 (M 32) t s m bits_32 ∙ ap (λ (u : Trailing). sums_for 32 u s) c.wide_tail.ensures.0
 
-pub returns-in-Refused : goal.returns-in-Refused
-returns-in-Refused c =
+pub returns-in-Err : goal.returns-in-Err
+returns-in-Err c =
     let t = trailing_of c.wide_tail.result in
     let s = c.args.counts.now in
-    let m = subst (TestMeans t (M 32) (length s)) c.in-Refused.is c.test.ensures in
+    let m = subst (TestMeans t (M 32) (length s)) c.in-Err.is c.test.ensures in
     m s refl ∙ ap₂ (λ (w : ℕ) (u : Trailing). sums_for w u s) bits_32 c.wide_tail.ensures.0

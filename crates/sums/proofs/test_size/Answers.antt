@@ -11,17 +11,17 @@ use Rattle.sums.specs.View.{bits_to}
 use Rattle.sums.proofs.Widths.{room_at}
 use Rattle.sums.proofs.test_size.Goals as goal
 
-pub returns-in-Number : goal.returns-in-Number
-returns-in-Number c =
+pub returns-in-Ok : goal.returns-in-Ok
+returns-in-Ok c =
     let t = trailing_of c.args.layout in
     let h = c.requires in
     let w = bits_to c.args.max in
-    ((h.0, (h.1.0, room_told w t (M w) c.max_trailing_bytes.result h.0.1 (c.max_trailing_bytes.ensures.answer ∙ room_at c.args.max t h.0.0 h.0.1) c.in-Number.is)), (refl, (refl, h.1.1)))
+    ((h.0, (h.1.0, room_told w t (M w) c.max_trailing_bytes.result h.0.1 (c.max_trailing_bytes.ensures.answer ∙ room_at c.args.max t h.0.0 h.0.1) c.in-Ok.is)), (refl, (refl, h.1.1)))
 
-pub returns-in-Refused : goal.returns-in-Refused
-returns-in-Refused c = λ ns e.
+pub returns-in-Err : goal.returns-in-Err
+returns-in-Err c = λ ns e.
     let t = trailing_of c.args.layout in
     let h = c.requires in
     let w = bits_to c.args.max in
-    let none = room_refused w t (M w) c.max_trailing_bytes.result (not_zero h.1.0) h.0.1 (c.max_trailing_bytes.ensures.answer ∙ room_at c.args.max t h.0.0 h.0.1) c.in-Refused.is in
+    let none = room_refused w t (M w) c.max_trailing_bytes.result (not_zero h.1.0) h.0.1 (c.max_trailing_bytes.ensures.answer ∙ room_at c.args.max t h.0.0 h.0.1) c.in-Err.is in
     sym (sums_none w t ns (not_zero h.1.0) (omega (arith, e, h.1.1)) (omega (arith, none (0 * t.elem))))

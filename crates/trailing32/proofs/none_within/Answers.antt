@@ -12,15 +12,15 @@ use Rattle.trailing32.proofs.none_within.Goals as goal
 
 pub nonzero_div-result : goal.nonzero_div-result
 nonzero_div-result c =
-    c.requires.1 (room_holds 64 (trailing_of c.args.tail) (M 32) (omega (arith, c.requires.0)) (told_by number_says c.max_trailing_bytes.ensures.answer c.in-Number.is)).0
+    c.requires.1 (room_holds 64 (trailing_of c.args.tail) (M 32) (omega (arith, c.requires.0)) (told_by number_says c.max_trailing_bytes.ensures.answer c.in-Ok.is)).0
 
 pub overflow_cast-result : goal.overflow_cast-result
 overflow_cast-result c =
-    let m = (room_holds 64 (trailing_of c.args.tail) (M 32) (omega (arith, c.requires.0)) (told_by number_says c.max_trailing_bytes.ensures.answer c.in-Number.is)).1 in
-    omega (arith, m, div-le_self c.in-Number.bytes c.args.tail.elem_size)
+    let m = (room_holds 64 (trailing_of c.args.tail) (M 32) (omega (arith, c.requires.0)) (told_by number_says c.max_trailing_bytes.ensures.answer c.in-Ok.is)).1 in
+    omega (arith, m, div-le_self c.in-Ok.bytes c.args.tail.elem_size)
 
-pub returns-in-Number : goal.returns-in-Number
-returns-in-Number c = ap (none_within (trailing_of c.args.tail).elem) (sym (told_by number_says c.max_trailing_bytes.ensures.answer c.in-Number.is))
+pub returns-in-Ok : goal.returns-in-Ok
+returns-in-Ok c = ap (none_within (trailing_of c.args.tail).elem) (sym (told_by number_says c.max_trailing_bytes.ensures.answer c.in-Ok.is))
 
-pub returns-in-Refused : goal.returns-in-Refused
-returns-in-Refused c = ap (none_within (trailing_of c.args.tail).elem) (sym (told_by number_says c.max_trailing_bytes.ensures.answer c.in-Refused.is))
+pub returns-in-Err : goal.returns-in-Err
+returns-in-Err c = ap (none_within (trailing_of c.args.tail).elem) (sym (told_by number_says c.max_trailing_bytes.ensures.answer c.in-Err.is))

@@ -1,0 +1,2 @@
+-- What the answers of compositions tell their callers.
+pub mod Told

@@ -1,0 +1,2 @@
+-- Descriptions that were read.
+pub mod Read
