@@ -28,21 +28,26 @@ fn list<R: Files + Print + Eprint>(rt: &R, narrow: bool, name: &str) -> io::Resu
 
 // Every list at a width.
 fn lists<R: Files + Print + Eprint>(rt: &R, narrow: bool) -> io::Result<()> {
-    list(rt, narrow, "example")?;
-    list(rt, narrow, "empty")?;
-    list(rt, narrow, "after")?;
-    list(rt, narrow, "uneven")?;
-    list(rt, narrow, "longest")?;
-    list(rt, narrow, "too_long")?;
-    list(rt, narrow, "sum")?;
-    list(rt, narrow, "padding")?;
-    list(rt, narrow, "modifier")?;
-    list(rt, narrow, "modifier_run")?;
-    list(rt, narrow, "kind_8")?;
-    list(rt, narrow, "sum_at_32")?;
-    list(rt, narrow, "passes_width")?;
-    list(rt, narrow, "align_2_40")?;
-    list(rt, narrow, "align_3_2_40")
+    for name in [
+        "example",
+        "empty",
+        "after",
+        "uneven",
+        "longest",
+        "too_long",
+        "sum",
+        "padding",
+        "modifier",
+        "modifier_run",
+        "kind_8",
+        "sum_at_32",
+        "passes_width",
+        "align_2_40",
+        "align_3_2_40",
+    ] {
+        list(rt, narrow, name)?;
+    }
+    Ok(())
 }
 
 fn main(rt: HostRuntime) -> io::Result<()> {

@@ -5,11 +5,13 @@
 ghost use Rattle.std.specs.Prelude.{IfOk, ◌≡◌, false, ◌+◌, ◌≤◌, length, drop, replicate};
 ghost use Rattle.io.specs.Counts.{IsPrefixLen};
 ghost use Rattle.recorded_defs.specs.Lines.{digit_of, end_of, number_from, unread, line_at, Ahead, same_from, agrees_with, one_more};
+ghost use Rattle.std.specs.Fn.{FnReturnsAt};
 ghost use Rattle.recorded.specs.View.{number_says, line_out, counted};
+ghost use Rattle.recorded.specs.Tallies.{Tallies, TalliesSome};
 
 use std::io::ErrorKind;
 use std::rt::Files;
-use std::{fs, io, str};
+use std::{fmt, fs, io, str};
 
 // A line has no more numbers than this.
 pub const WIDTH: usize = 64;
@@ -96,6 +98,12 @@ impl Tally {
             lines,
             differ: one_more(self.differ),
         }
+    }
+}
+
+impl fmt::Display for Tally {
+    fn fmt<W: fmt::Write>(&self, f: &mut fmt::Formatter<W>) -> fmt::Result {
+        write!(f, "{} lines, {} differ", self.lines, self.differ)
     }
 }
 
@@ -209,6 +217,46 @@ fn no_line(end: usize) -> Line
         next: end,
         is_good: false,
     }
+}
+
+// How many lines the text has, and how many of them differ from what the calls tell.
+pub fn replay<F: Fn(&[u64; WIDTH]) -> Told>(text: &[u8], call: F) -> Tally
+    requires { F.IsAlwaysCallable call }
+    ensures { Tallies (FnReturnsAt F.Fn call) text.now 0 (record { lines = 0; differ = 0 }) result }
+{
+    let mut tally = Tally {
+        lines: 0,
+        differ: 0,
+    };
+    let mut at = 0;
+    while at < text.len() {
+        let line = read_line(text, at);
+        let numbers = line.numbers;
+        let told = call(&numbers);
+        tally = tally.with_line(agrees(&numbers, line.count, told));
+        at = line.next;
+    }
+    tally
+}
+
+// The same of the file of that name. One that cannot be read is told of on standard error, and has no lines.
+pub fn replay_file<R: Files + Eprint, F: Fn(&[u64; WIDTH]) -> Told>(
+    rt: &R,
+    name: &str,
+    call: F,
+) -> io::Result<Tally>
+    requires { F.IsAlwaysCallable call }
+    ensures { IfOk result (TalliesSome (FnReturnsAt F.Fn call)) }
+{
+    let mut text = buffer();
+    let n = match load(rt, name.as_bytes(), &mut text) {
+        Ok(n) => n,
+        Err(error) => {
+            eprintln!(rt; "{name}: {error}")?;
+            0
+        }
+    };
+    Ok(replay(&text[..n], call))
 }
 
 // Whether the line has the function's number, its inputs, and then the numbers that were told and no others.

@@ -157,10 +157,8 @@ fn tell_padding(inputs: usize, a: PaddingOut32) -> Told {
 // The numbers behind the layout and the number of counts.
 fn counts_of(line: &[u64; WIDTH]) -> [u32; COUNTS] {
     let mut counts = [0; COUNTS];
-    let mut k = 0;
-    while k < COUNTS {
-        counts[k] = low_word(line[6 + k]);
-        k += 1;
+    for (count, number) in counts.iter_mut().zip(&line[6..]) {
+        *count = low_word(*number);
     }
     counts
 }

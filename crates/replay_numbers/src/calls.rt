@@ -146,24 +146,14 @@ fn tell_padding(inputs: usize, a: PaddingOut) -> Told {
     }
 }
 
-// The numbers behind the layout and the number of counts.
-fn counts_of(line: &[u64; WIDTH]) -> [u64; COUNTS] {
-    let mut counts = [0; COUNTS];
-    let mut k = 0;
-    while k < COUNTS {
-        counts[k] = line[6 + k];
-        k += 1;
-    }
-    counts
-}
-
+// The counts are the numbers behind the layout and their number.
 fn padding_of_counts(line: &[u64; WIDTH]) -> Told {
     let length = line[5] as usize;
     if length > COUNTS {
         return tell_none();
     }
-    let counts = counts_of(line);
-    let answer = exports_share::lukaripe_padding_of_counts(first(line), &counts[..length]);
+    let counts = &line[6..6 + length];
+    let answer = exports_share::lukaripe_padding_of_counts(first(line), counts);
     tell_padding(5 + length, answer)
 }
 
