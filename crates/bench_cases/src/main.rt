@@ -210,10 +210,8 @@ fn tally_of(buffer: &[u8]) -> Tally {
         differ: 0,
         wrong: 0,
     };
-    let mut i = 0;
-    while i < CASES {
+    for i in 0..CASES {
         t = with_case(t, words::read_word(buffer, i * 8));
-        i += 1;
     }
     t
 }

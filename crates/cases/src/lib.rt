@@ -66,10 +66,8 @@ fn write_all(longest: u64, out: &mut [u8])
     ensures { out.new ≡ sets out.old 0 (cases_bytes (cases_to longest)) }
 {
     let mut at = 0;
-    let mut count = 0;
-    while count <= longest {
+    for count in 0..=longest {
         at = grow(out, at, count, FIRST_SLOT, NO_CODES + count);
-        count += 1;
     }
 }
 

@@ -123,21 +123,14 @@ fn add_members(
 {
     let count = members.len() / RECORD_BYTES;
     let mut l = start;
-    let mut place = from;
-    while place < count {
+    for place in from..count {
         let at = place * RECORD_BYTES;
-        match member_step(l, heed, repr_packed, &members[at..at + RECORD_BYTES]) {
-            Ok(next) => {
-                l = next;
-            }
-            Err(refusal) => {
-                return Err(RefusedAt {
-                    refusal,
-                    place: place as u64,
-                });
-            }
-        }
-        place += 1;
+        l = member_step(l, heed, repr_packed, &members[at..at + RECORD_BYTES]).map_err(
+            |refusal| RefusedAt {
+                refusal,
+                place: place as u64,
+            },
+        )?;
     }
     Ok(l)
 }
@@ -156,34 +149,28 @@ fn add_to_sized(
 {
     let count = members.len() / RECORD_BYTES;
     let mut own = start;
-    let mut i = 0;
-    while i < count {
+    for i in 0..count {
         let at = i * RECORD_BYTES;
-        match sized_step(own, heed, repr_packed, &members[at..at + RECORD_BYTES]) {
-            Ok(next) => {
-                let size_info = next.size_info;
-                match size_info {
-                    SizeInfo::Sized { size } => {
-                        own = SizedLayout {
-                            align: next.align,
-                            size,
-                            statically_shallow_unpadded: next.statically_shallow_unpadded,
-                            align_modifier: next.align_modifier,
-                        };
-                    }
-                    SizeInfo::SliceDst(_) => {
-                        return add_members(next, heed, repr_packed, members, i + 1);
-                    }
-                }
+        let next = sized_step(own, heed, repr_packed, &members[at..at + RECORD_BYTES]).map_err(
+            |refusal| RefusedAt {
+                refusal,
+                place: i as u64,
+            },
+        )?;
+        let size_info = next.size_info;
+        match size_info {
+            SizeInfo::Sized { size } => {
+                own = SizedLayout {
+                    align: next.align,
+                    size,
+                    statically_shallow_unpadded: next.statically_shallow_unpadded,
+                    align_modifier: next.align_modifier,
+                };
             }
-            Err(refusal) => {
-                return Err(RefusedAt {
-                    refusal,
-                    place: i as u64,
-                });
+            SizeInfo::SliceDst(_) => {
+                return add_members(next, heed, repr_packed, members, i + 1);
             }
         }
-        i += 1;
     }
     Ok(DstLayout {
         align: own.align,
@@ -203,20 +190,17 @@ fn compose_list(
     ensures { compose_says result ≡ compose_for 64 heed repr_align repr_packed members.now }
 {
     if members.len() % RECORD_BYTES == 0 {
-        match begin(heed, repr_align, repr_packed) {
-            Ok(empty) => add_to_sized(
-                SizedLayout {
-                    align: empty.align,
-                    size: 0,
-                    statically_shallow_unpadded: true,
-                    align_modifier: empty.align_modifier,
-                },
-                heed,
-                repr_packed,
-                members,
-            ),
-            Err(refusal) => Err(RefusedAt { refusal, place: 0 }),
-        }
+        let empty = begin(heed, repr_align, repr_packed).map_err(|refusal| RefusedAt {
+            refusal,
+            place: 0,
+        })?;
+        let start = SizedLayout {
+            align: empty.align,
+            size: 0,
+            statically_shallow_unpadded: true,
+            align_modifier: empty.align_modifier,
+        };
+        add_to_sized(start, heed, repr_packed, members)
     } else {
         Err(RefusedAt {
             refusal: Refusal::RecordLength,
@@ -229,13 +213,10 @@ fn compose_list(
 fn pad_composed(l: DstLayout<u64>, count: u64) -> Result<DstLayout<u64>, RefusedAt<u64>>
     ensures { compose_says result ≡ and_then (pad_for 64 (layout_of l)) count composed }
 {
-    match padding::pad_to_align(l) {
-        Ok(padded) => Ok(padded),
-        Err(refusal) => Err(RefusedAt {
-            refusal,
-            place: count,
-        }),
-    }
+    padding::pad_to_align(l).map_err(|refusal| RefusedAt {
+        refusal,
+        place: count,
+    })
 }
 
 // The same with it.

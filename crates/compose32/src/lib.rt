@@ -1,5 +1,6 @@
 // The composition of a list of member records at 32 bits, the ported one and the strict one by one loop. The loop at 64 bits
-// keeps what a member with a size needs in registers and tests no width, so that it stands apart.
+// keeps what a member with a size needs in registers and tests no width, so that it stands apart. Nor are its functions those
+// of a generic one: each step is another function than at 64 bits.
 #![tactic(auto)]
 
 ghost use Rattle.compose.specs.View.{compose_says};
@@ -56,21 +57,14 @@ fn add_members(
 {
     let count = members.len() / RECORD_BYTES;
     let mut l = start;
-    let mut place = 0;
-    while place < count {
+    for place in 0..count {
         let at = place * RECORD_BYTES;
-        match member_step(l, heed, repr_packed, &members[at..at + RECORD_BYTES]) {
-            Ok(next) => {
-                l = next;
-            }
-            Err(refusal) => {
-                return Err(RefusedAt {
-                    refusal,
-                    place: place as u64,
-                });
-            }
-        }
-        place += 1;
+        l = member_step(l, heed, repr_packed, &members[at..at + RECORD_BYTES]).map_err(
+            |refusal| RefusedAt {
+                refusal,
+                place: place as u64,
+            },
+        )?;
     }
     Ok(l)
 }
@@ -85,10 +79,11 @@ fn compose_list(
     ensures { compose_says result ≡ compose_for 32 heed repr_align repr_packed members.now }
 {
     if members.len() % RECORD_BYTES == 0 {
-        match begin(heed, repr_align, repr_packed) {
-            Ok(empty) => add_members(empty, heed, repr_packed, members),
-            Err(refusal) => Err(RefusedAt { refusal, place: 0 }),
-        }
+        let empty = begin(heed, repr_align, repr_packed).map_err(|refusal| RefusedAt {
+            refusal,
+            place: 0,
+        })?;
+        add_members(empty, heed, repr_packed, members)
     } else {
         Err(RefusedAt {
             refusal: Refusal::RecordLength,
@@ -101,13 +96,10 @@ fn compose_list(
 fn pad_composed(l: DstLayout<u32>, count: u64) -> Result<DstLayout<u32>, RefusedAt<u64>>
     ensures { compose_says result ≡ and_then (pad_for 32 (layout_of l)) count composed }
 {
-    match steps32::pad_to_align(l) {
-        Ok(padded) => Ok(padded),
-        Err(refusal) => Err(RefusedAt {
-            refusal,
-            place: count,
-        }),
-    }
+    steps32::pad_to_align(l).map_err(|refusal| RefusedAt {
+        refusal,
+        place: count,
+    })
 }
 
 // The same with it.

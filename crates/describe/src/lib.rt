@@ -35,13 +35,11 @@ fn at_tag(
 ) -> Result<ReadPart<u64>, RefusedAt<usize>>
     ensures { part_says result ≡ at_place tag (layout_says answer) (λ l. reached (l, next)) }
 {
-    match answer {
-        Ok(layout) => Ok(ReadPart { layout, next }),
-        Err(refusal) => Err(RefusedAt {
-            refusal,
-            place: tag,
-        }),
-    }
+    let layout = answer.map_err(|refusal| RefusedAt {
+        refusal,
+        place: tag,
+    })?;
+    Ok(ReadPart { layout, next })
 }
 
 // The head of a part.
@@ -115,16 +113,14 @@ pub fn part(
             packed,
             count,
             first,
-        } => match make::new_zst(align) {
-            Ok(empty) => {
-                struct_part(
-                    narrow,
-                    add_members(narrow, s, first, depth - 1, count, empty, packed, at),
-                    at,
-                )
-            }
-            Err(refusal) => Err(RefusedAt { refusal, place: at }),
-        },
+        } => {
+            let empty = make::new_zst(align).map_err(|refusal| RefusedAt { refusal, place: at })?;
+            struct_part(
+                narrow,
+                add_members(narrow, s, first, depth - 1, count, empty, packed, at),
+                at,
+            )
+        }
         PartHead::Slice => slice_part(part(narrow, s, at + 1, depth - 1), at),
     }
 }
@@ -143,27 +139,18 @@ fn add_members(
     tag: usize,
 ) -> Result<ReadPart<u64>, RefusedAt<usize>>
     requires { Held narrow (layout_of empty) × (packed < 2 ^ bits_of narrow) }
-    ensures { part_says result ≡ add_read (bits_of narrow) (part_for (bits_of narrow) (target_of narrow) depth s.now) packed tag count
-        (layout_of empty) first }
+    ensures { part_says result ≡ add_read (bits_of narrow) (part_for (bits_of narrow) (target_of narrow) depth s.now) packed tag
+        count (layout_of empty) first }
 {
     let mut own = empty;
     let mut at = first;
-    let mut left = count;
-    while left > 0 {
+    for _ in 0..count {
         let read = part(narrow, s, at, depth)?;
-        match width::extend(narrow, own, read.layout, packed) {
-            Ok(grown) => {
-                own = grown;
-                at = read.next;
-                left -= 1;
-            }
-            Err(refusal) => {
-                return Err(RefusedAt {
-                    refusal,
-                    place: tag,
-                });
-            }
-        }
+        own = width::extend(narrow, own, read.layout, packed).map_err(|refusal| RefusedAt {
+            refusal,
+            place: tag,
+        })?;
+        at = read.next;
     }
     Ok(ReadPart {
         layout: own,

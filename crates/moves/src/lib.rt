@@ -30,20 +30,11 @@ fn test_record(s: &[u8]) -> Result<(), Refusal>
 fn test_records(records: &[u8]) -> Result<(), RefusedAt<u64>>
     ensures { test_says result ≡ tested to_short 0 (length records.now / 48) records.now }
 {
-    let count = records.len() / RECORD_BYTES;
-    let mut i = 0;
-    while i < count {
-        let at = i * RECORD_BYTES;
-        match test_record(&records[at..at + RECORD_BYTES]) {
-            Ok(()) => {}
-            Err(refusal) => {
-                return Err(RefusedAt {
-                    refusal,
-                    place: i as u64,
-                });
-            }
-        }
-        i += 1;
+    for (i, record) in records.chunks_exact(RECORD_BYTES).enumerate() {
+        test_record(record).map_err(|refusal| RefusedAt {
+            refusal,
+            place: i as u64,
+        })?;
     }
     Ok(())
 }
@@ -69,15 +60,13 @@ fn write_shorts(records: &[u8], out: &mut [u8])
         out.old }
 {
     let count = records.len() / RECORD_BYTES;
-    let mut i = 0;
-    while i < count {
+    for i in 0..count {
         let at = i * RECORD_BYTES;
         let to = i * SHORT_BYTES;
         write_short(
             &records[at..at + RECORD_BYTES],
             &mut out[to..to + SHORT_BYTES],
         );
-        i += 1;
     }
 }
 

@@ -15,6 +15,7 @@ use short::SHORT_BYTES;
 use util::{Refusal, RefusedAt};
 
 // Whether a short record is one.
+#[inline(always)]
 fn test_short(s: &[u8]) -> Result<(), Refusal>
     requires { length s.now ≡ 32 }
     ensures { check_says result ≡ judged (from_short.causes s.now) }
@@ -26,20 +27,11 @@ fn test_short(s: &[u8]) -> Result<(), Refusal>
 fn test_shorts(records: &[u8]) -> Result<(), RefusedAt<u64>>
     ensures { test_says result ≡ tested from_short 0 (length records.now / 32) records.now }
 {
-    let count = records.len() / SHORT_BYTES;
-    let mut i = 0;
-    while i < count {
-        let at = i * SHORT_BYTES;
-        match test_short(&records[at..at + SHORT_BYTES]) {
-            Ok(()) => {}
-            Err(refusal) => {
-                return Err(RefusedAt {
-                    refusal,
-                    place: i as u64,
-                });
-            }
-        }
-        i += 1;
+    for (i, record) in records.chunks_exact(SHORT_BYTES).enumerate() {
+        test_short(record).map_err(|refusal| RefusedAt {
+            refusal,
+            place: i as u64,
+        })?;
     }
     Ok(())
 }
@@ -66,15 +58,13 @@ fn write_records(records: &[u8], out: &mut [u8])
         out.old }
 {
     let count = records.len() / SHORT_BYTES;
-    let mut i = 0;
-    while i < count {
+    for i in 0..count {
         let at = i * SHORT_BYTES;
         let to = i * RECORD_BYTES;
         write_record(
             &records[at..at + SHORT_BYTES],
             &mut out[to..to + RECORD_BYTES],
         );
-        i += 1;
     }
 }
 

@@ -10,7 +10,8 @@ ghost use Rattle.layout.specs.View.{info_of, layout_of};
 ghost use Rattle.make.specs.Make.{empty_layout};
 ghost use Rattle.record_defs.specs.Record.{decode_for};
 ghost use Rattle.compose_defs.specs.Compose.{ported, compose_struct};
-ghost use Rattle.compose_defs.specs.Places.{listed, places_of, gaps_of, places_for, written, end_of, Lands, Composes, ListPlacesMean};
+ghost use Rattle.compose_defs.specs.Places.{listed, places_of, gaps_of, places_for, written};
+ghost use Rattle.compose_defs.specs.Places.{end_of, Lands, Composes, ListPlacesMean};
 ghost use Rattle.compose.specs.View.{compose_says};
 
 use layout::{DstLayout, SizeInfo};
@@ -98,14 +99,12 @@ fn write_places(
 {
     let count = members.len() / RECORD_BYTES;
     let mut end = 0;
-    let mut i = 0;
-    while i < count {
+    for i in 0..count {
         let at = i * RECORD_BYTES;
         let spot = land_record(end, repr_packed, &members[at..at + RECORD_BYTES]);
         places[i] = spot.place;
         gaps[i] = spot.gap;
         end = spot.end;
-        i += 1;
     }
 }
 

@@ -1,5 +1,7 @@
 // The composition of a list of member records at 32 bits that also writes where each member landed. The members are composed
-// first, so that nothing is written where they are refused; then their places are worked out once more, in the same order.
+// first, so that nothing is written where they are refused; then their places are worked out once more, in the same order. The
+// numbers are lent as slices of u32, and each step is another function than at 64 bits, where it is the fast one: so the
+// functions are none of a generic one.
 #![tactic(auto)]
 
 ghost use Rattle.compose.specs.View.{compose_says};
@@ -12,7 +14,8 @@ ghost use Rattle.layout_defs.specs.Extend.{member_align, round_up_causes, round_
 ghost use Rattle.make.specs.Make.{empty_layout};
 ghost use Rattle.record_defs.specs.Record.{decode_for};
 ghost use Rattle.compose_defs.specs.Compose.{ported, compose_struct};
-ghost use Rattle.compose_defs.specs.Places.{listed, places_of, gaps_of, places_for, written, end_of, Lands, Composes, ListPlacesMean};
+ghost use Rattle.compose_defs.specs.Places.{listed, places_of, gaps_of, places_for, written};
+ghost use Rattle.compose_defs.specs.Places.{end_of, Lands, Composes, ListPlacesMean};
 
 use layout::{DstLayout, SizeInfo};
 use record::RECORD_BYTES;
@@ -112,14 +115,12 @@ fn write_places(
 {
     let count = members.len() / RECORD_BYTES;
     let mut end = 0;
-    let mut i = 0;
-    while i < count {
+    for i in 0..count {
         let at = i * RECORD_BYTES;
         let spot = land_record(end, repr_packed, &members[at..at + RECORD_BYTES]);
         places[i] = spot.place;
         gaps[i] = spot.gap;
         end = spot.end;
-        i += 1;
     }
 }
 

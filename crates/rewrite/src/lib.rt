@@ -67,6 +67,7 @@ fn count_turned(s: &[u8], long: bool) -> Result<usize, RefusedAt<u64>>
 {
     let mut at = 0;
     let mut turned = 0;
+    // Heads have lengths of their own, so that the place moves by what was read: no `for` says that.
     while at < s.len() {
         let tag = s[at];
         if turns(tag, long) {
@@ -88,10 +89,8 @@ fn copy(s: &[u8], at: usize, count: usize, out: &mut [u8], to: usize)
     requires { (at + count ≤ length s.now) × (to + count ≤ length out.old) }
     ensures { out.new ≡ sets out.old to (take count (drop at s.now)) }
 {
-    let mut i = 0;
-    while i < count {
+    for i in 0..count {
         out[to + i] = s[at + i];
-        i += 1;
     }
 }
 
@@ -143,6 +142,7 @@ fn write_heads(s: &[u8], out: &mut [u8], long: bool)
 {
     let mut at = 0;
     let mut to = 0;
+    // As above: the place moves by the length of a head.
     while at < s.len() {
         to = put_head(s, at, out, to, long);
         at += head_bytes(s[at]);

@@ -1,7 +1,7 @@
 -- Lists of records moved one way: what stops them, what they become, and how the code's loops go. Assumes nothing.
 use mathlib.Core.Path.{◌≡◌, refl, sym, ap, ◌∙◌}
 use mathlib.Core.List.{List, ◌++◌, append-nil, append_assoc}
-use Prim.Native.Nat.{ℕ, zero, suc, ◌+◌, ◌-◌, ◌*◌, ◌≤◌, ◌<◌}
+use Prim.Native.Nat.{ℕ, zero, suc, ◌+◌, ◌-◌, ◌*◌, ◌/◌, ◌≤◌, ◌<◌}
 use native.Mathlib.Nat.{suc-mul, mul-le-mul_right}
 use native.Mathlib.Omega.{arith}
 use lib.ListN.{length, take, drop, length-append, length-drop}
@@ -94,31 +94,30 @@ module _ (v : Way) where
           number_in (reached x) = 0
           number_in (stopped k i) = k
 
-  -- one turn of the loop that tests: from the record at i on
-  test_turn : (n i : ℕ) (s : List ℕ) → i < n → tested v i (n - i) (drop (i * v.from) s)
-      ≡ at_place i (judged (v.causes (record_of v.from s i))) (λ _. tested v (i + 1) (n - (i + 1)) (drop ((i + 1) * v.from) s))
+  -- one turn of the loop that tests: x is the record that comes, t the records behind it
+  test_first : (i : ℕ) {s : List ℕ} (x t : List ℕ) → s ≡ x ++ t → length x ≡ v.from → length s / v.from ≡ suc (length t / v.from)
+      → tested v i (length s / v.from) s ≡ at_place i (judged (v.causes x)) (λ _. tested v (suc i) (length t / v.from) t)
   unfolding tested
-  test_turn n i s h =
-      let e : n - i ≡ suc (n - (i + 1)) = omega arith in
-      let g : i + 1 ≡ suc i = omega arith in
-      let f : i * v.from + v.from ≡ suc i * v.from = omega (arith, suc-mul i v.from) in
-      rw (e, g, drop-drop v.from (i * v.from) s, f)
+  test_first i {s} x t e l n =
+      ap (λ (k : ℕ). tested v i k s) n
+      ∙ ap (λ (z : List ℕ). at_place i (judged (v.causes z)) (λ _. tested v (suc i) (length t / v.from) (drop v.from s))) (ap (take v.from) e ∙ take_at x t v.from l)
+      ∙ ap (λ (z : List ℕ). at_place i (judged (v.causes x)) (λ _. tested v (suc i) (length t / v.from) z)) (ap (drop v.from) e ∙ drop_at x t v.from l)
 
-  pub test_on : (n i : ℕ) (s : List ℕ) → i < n → judged (v.causes (take (i * v.from + v.from - i * v.from) (drop (i * v.from) s))) ≡ answered tt
-      → tested v i (n - i) (drop (i * v.from) s) ≡ tested v (i + 1) (n - (i + 1)) (drop ((i + 1) * v.from) s)
-  test_on n i s h e =
-      test_turn n i s h
-      ∙ ap (λ (o : Outcome (Unit {0})). at_place i o (λ _. tested v (i + 1) (n - (i + 1)) (drop ((i + 1) * v.from) s))) (ap (λ (z : List ℕ). judged (v.causes z)) (sym (looked v.from i s)) ∙ e)
+  pub test_on : (i : ℕ) {j : ℕ} {s : List ℕ} (x t : List ℕ) → s ≡ x ++ t → length x ≡ v.from → length s / v.from ≡ suc (length t / v.from) → j ≡ i + 1
+      → judged (v.causes x) ≡ answered tt → tested v i (length s / v.from) s ≡ tested v j (length t / v.from) t
+  test_on i {j} x t e l n g h =
+      let k : suc i ≡ j = omega (arith, g) in
+      test_first i x t e l n
+      ∙ ap (λ (o : Outcome (Unit {0})). at_place i o (λ _. tested v (suc i) (length t / v.from) t)) h
+      ∙ ap (λ (k : ℕ). tested v k (length t / v.from) t) k
 
-  pub test_off : (n i : ℕ) (s : List ℕ) {k : ℕ} → i < n → judged (v.causes (take (i * v.from + v.from - i * v.from) (drop (i * v.from) s))) ≡ refused k
-      → tested v i (n - i) (drop (i * v.from) s) ≡ stopped k i
-  test_off n i s h e =
-      test_turn n i s h
-      ∙ ap (λ (o : Outcome (Unit {0})). at_place i o (λ _. tested v (i + 1) (n - (i + 1)) (drop ((i + 1) * v.from) s))) (ap (λ (z : List ℕ). judged (v.causes z)) (sym (looked v.from i s)) ∙ e)
+  pub test_off : (i : ℕ) {s : List ℕ} (x t : List ℕ) {k : ℕ} → s ≡ x ++ t → length x ≡ v.from → length s / v.from ≡ suc (length t / v.from)
+      → judged (v.causes x) ≡ refused k → tested v i (length s / v.from) s ≡ stopped k i
+  test_off i x t e l n h = test_first i x t e l n ∙ ap (λ (o : Outcome (Unit {0})). at_place i o (λ _. tested v (suc i) (length t / v.from) t)) h
 
-  pub test_end : (n i : ℕ) (s : List ℕ) → n ≤ i → tested v i (n - i) s ≡ reached tt
+  pub test_end : (i n : ℕ) (s : List ℕ) → n ≡ 0 → tested v i n s ≡ reached tt
   unfolding tested
-  test_end n i s h = let e : n - i ≡ 0 = omega arith in rw e
+  test_end i n s h = rw h
 
   -- what is moved, where each moved record has as many bytes as it should
   module _ (whole : (s : List ℕ) → length (v.moved s) ≡ v.to) where

@@ -1,6 +1,7 @@
 // The sums of the sizes and the paddings of a trailing layout at a list of counts (document 02, request 12), at 64 bits and at
 // 32: one pass over the counts, which divides nowhere. Both widths go by the same functions: the greatest number stands beside
-// the layout that was tested. Only the loop over the counts stands twice, since a slice of counts is of one type.
+// the layout that was tested. Only the loop over the counts stands twice: a slice of counts is of one
+// type, and a clause over a type parameter could not speak of the counts as numbers.
 #![tactic(auto)]
 
 ghost use Rattle.std.specs.Prelude.{◌≡◌, [], ◌∷◌, ℕ, ◌+◌, ◌*◌, ◌^◌, ◌≤◌, ◌<◌};
@@ -110,7 +111,7 @@ fn add_count(l: Tested, x: Sums, i: u64, count: u64) -> Result<Sums, Refusal>
     add_bytes(l, x, i, bytes)
 }
 
-// The sums over all counts, or the first refusal.
+// The sums over all counts, or the first refusal. By a match: with `map_err` and `?` a count took 32 instructions in place of 24.
 fn add_counts(l: Tested, counts: &[u64]) -> Result<Sums, RefusedAt<u64>>
     requires { IsTested l }
     ensures { sums_says result ≡ totals_from (bits_of l) (trailing_of l.layout) 0 counts.now no_totals }
@@ -121,9 +122,8 @@ fn add_counts(l: Tested, counts: &[u64]) -> Result<Sums, RefusedAt<u64>>
         greatest: 0,
         index: 0,
     };
-    let mut i = 0;
-    while i < counts.len() {
-        match add_count(l, x, i as u64, counts[i]) {
+    for (i, count) in counts.iter().enumerate() {
+        match add_count(l, x, i as u64, *count) {
             Ok(next) => {
                 x = next;
             }
@@ -134,12 +134,11 @@ fn add_counts(l: Tested, counts: &[u64]) -> Result<Sums, RefusedAt<u64>>
                 });
             }
         }
-        i += 1;
     }
     Ok(x)
 }
 
-// The same over counts of 32 bits.
+// The same over counts of 32 bits, by a match too.
 fn add_counts32(l: Tested, counts: &[u32]) -> Result<Sums, RefusedAt<u64>>
     requires { IsTested l }
     ensures { sums_says result ≡ totals_from (bits_of l) (trailing_of l.layout) 0 counts.now no_totals }
@@ -150,9 +149,8 @@ fn add_counts32(l: Tested, counts: &[u32]) -> Result<Sums, RefusedAt<u64>>
         greatest: 0,
         index: 0,
     };
-    let mut i = 0;
-    while i < counts.len() {
-        match add_count(l, x, i as u64, counts[i] as u64) {
+    for (i, count) in counts.iter().enumerate() {
+        match add_count(l, x, i as u64, *count as u64) {
             Ok(next) => {
                 x = next;
             }
@@ -163,7 +161,6 @@ fn add_counts32(l: Tested, counts: &[u32]) -> Result<Sums, RefusedAt<u64>>
                 });
             }
         }
-        i += 1;
     }
     Ok(x)
 }
@@ -179,16 +176,16 @@ fn test_size(
         × (IsWord (trailing_of layout).word parts.align parts.phase × (0 < count)) }
     ensures { TestMeans (trailing_of layout) max count result }
 {
-    match layout.max_trailing_bytes(max) {
-        Ok(most) => Ok(Tested {
-            layout,
-            align: parts.align,
-            phase: parts.phase,
-            max,
-            most,
-        }),
-        Err(_) => Err(Refusal::NoSizeAtZero),
-    }
+    let most = layout
+        .max_trailing_bytes(max)
+        .map_err(|_| Refusal::NoSizeAtZero)?;
+    Ok(Tested {
+        layout,
+        align: parts.align,
+        phase: parts.phase,
+        max,
+        most,
+    })
 }
 
 // What refuses before any count: the layout, so many counts, and no size at 0.
@@ -211,10 +208,11 @@ pub fn sums_of_counts(
 ) -> Result<Sums, RefusedAt<u64>>
     ensures { sums_says result ≡ sums_for 64 (trailing_of layout) counts.now }
 {
-    match test(layout, u64::MAX, counts.len() as u64) {
-        Ok(l) => add_counts(l, counts),
-        Err(refusal) => Err(RefusedAt { refusal, place: 0 }),
-    }
+    let l = test(layout, u64::MAX, counts.len() as u64).map_err(|refusal| RefusedAt {
+        refusal,
+        place: 0,
+    })?;
+    add_counts(l, counts)
 }
 
 // The same at 32 bits.
@@ -224,12 +222,10 @@ pub fn sums_of_counts32(
 ) -> Result<Sums, RefusedAt<u64>>
     ensures { sums_says result ≡ sums_for 32 (trailing_of layout) counts.now }
 {
-    match test(
-        trailing32::wide_tail(layout),
-        numbers32::MAX,
-        counts.len() as u64,
-    ) {
-        Ok(l) => add_counts32(l, counts),
-        Err(refusal) => Err(RefusedAt { refusal, place: 0 }),
-    }
+    let wide = trailing32::wide_tail(layout);
+    let l = test(wide, numbers32::MAX, counts.len() as u64).map_err(|refusal| RefusedAt {
+        refusal,
+        place: 0,
+    })?;
+    add_counts32(l, counts)
 }

@@ -7,3 +7,4 @@ pub mod Tables
 pub mod Helpers
 pub mod Products
 pub mod Only
+pub mod Mapped

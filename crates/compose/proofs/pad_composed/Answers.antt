@@ -1,14 +1,15 @@
 -- `compose::pad_composed` meets its contract. Assumes nothing.
-use mathlib.Core.Path.{sym, ap}
+use Rattle.std.proofs.Common.{rules, ap, ◌∙◌}
 use Rattle.util_defs.specs.Refusal.{Outcome}
-use Rattle.util_defs.proofs.Tables.{told_by}
+use Rattle.util_defs.proofs.Mapped.{mapped}
 use Rattle.layout_defs.specs.Layout.{Layout}
-use Rattle.layout.specs.View.{layout_says}
 use Rattle.compose_defs.specs.Compose.{composed, and_then}
+use Rattle.compose.proofs.Told.{placed_on}
 use Rattle.compose.proofs.pad_composed.Goals as goal
 
-pub returns-in-Ok : goal.returns-in-Ok
-returns-in-Ok c = sym (ap (λ (o : Outcome Layout). and_then o c.args.count composed) (told_by layout_says c.pad_to_align.ensures.answer c.in-Ok.is))
-
-pub returns-in-Err : goal.returns-in-Err
-returns-in-Err c = sym (ap (λ (o : Outcome Layout). and_then o c.args.count composed) (told_by layout_says c.pad_to_align.ensures.answer c.in-Err.is))
+pub returns : goal.returns
+returns c =
+    let r = c.pad_to_align.result in
+    let n = c.args.count in
+    placed_on r _ n (mapped r _ _ (λ e. record { refusal = e; place = n }) (λ e k q. search rules) c.map_err.ensures.cases)
+    ∙ ap (λ (o : Outcome Layout). and_then o n composed) c.pad_to_align.ensures.answer

@@ -1,11 +1,14 @@
 -- `describe::part` and `describe::add_members`, which call one another, meet their contracts: the bytes left fall. Assumes
 -- nothing.
+use Rattle.std.proofs.Common.{rules, ◌≡◌}
+use Rattle.util_defs.proofs.Mapped.{mapped_ok, mapped_err}
+use Rattle.util.specs.View.{number_of}
 use Rattle.util.proofs.Told.{handed_on_at}
 use Rattle.std.specs.Prelude.{Ok}
 use mathlib.Core.Path.{refl, sym, ap, ◌∙◌}
 use native.Mathlib.Omega.{arith}
 use Rattle.util_defs.specs.Refusal.{Outcome}
-use Rattle.util_defs.specs.Placed.{Placed, reached, at_place, go_on}
+use Rattle.util_defs.specs.Placed.{Placed, reached, stopped, at_place, go_on}
 use Rattle.util_defs.proofs.Tables.{told_by}
 use Rattle.layout_defs.specs.Layout.{Layout}
 use Rattle.layout.specs.View.{layout_of, layout_says}
@@ -24,54 +27,51 @@ use Rattle.describe.proofs.Ways.{part_told, code_scalar, by_head, made_alike, bo
 use Prim.Native.Nat.{◌+◌, ◌-◌}
 use Rattle.describe.proofs.+add_members_part.Goals as goal
 
-pub add_members-loop-left-init : goal.add_members-loop-left-init
-add_members-loop-left-init t c = (omega arith, (c.requires.0, refl))
+pub add_members-loop-init : goal.add_members-loop-init
+add_members-loop-init t c = let e : c.args.count - 0 ≡ c.args.count = omega arith in (omega arith, (c.requires.0, rw e))
 
 pub add_members-part-requires : goal.add_members-part-requires
-add_members-part-requires t c = (omega (arith, c.loop-left.invariant.0), tt)
+add_members-part-requires t c = (omega (arith, c.loop.invariant.0), tt)
 
-pub add_members-overflow_sub-left : goal.add_members-overflow_sub-left
-add_members-overflow_sub-left t c = omega (arith, c.loop-left-test.true)
-
-pub add_members-loop-left-smaller : goal.add_members-loop-left-smaller
-add_members-loop-left-smaller t c = omega (arith, c.loop-left-test.true)
-
-pub add_members-loop-left-preserved : goal.add_members-loop-left-preserved
-add_members-loop-left-preserved t c =
+pub add_members-loop-preserved : goal.add_members-loop-preserved
+add_members-loop-preserved t c =
     let k = c.args.narrow in
-    let l = layout_of c.loop-left.own in
+    let f : c.args.count - c.loop.counter - 1 ≡ c.args.count - (c.loop.counter + 1) = omega arith in
+    let l = layout_of c.loop.own in
     let m = layout_of c.in_ok-read.read.layout in
     let read = sym c.part.ensures.answer ∙ ap part_says c.in_ok-read.was in
-    let hl = c.loop-left.invariant.1.0 in
-    let hm = part_held k c.args.s.now c.args.depth c.loop-left.at read in
+    let hl = c.loop.invariant.1.0 in
+    let hm = part_held k c.args.s.now c.args.depth c.loop.at read in
     let hp = c.requires.1 in
-    let e = told_by layout_says c.extend.ensures c.in-Ok.is in (
-      omega (arith, c.loop-left.invariant.0, moved (bits_of k) (target_of k) c.args.s.now c.args.depth c.loop-left.at c.in_ok-read.read.next m read),
+    let e = told_by layout_says c.extend.ensures (mapped_ok c.extend.result _ _ c.map_err.ensures.cases c.in_ok-own.was) in (
+      omega (arith, c.loop.invariant.0, moved (bits_of k) (target_of k) c.args.s.now c.args.depth c.loop.at c.in_ok-read.read.next m read),
       (
         extend_held k l m c.args.packed hl hm hp e,
-        sym (add_on (bits_of k) (part_for (bits_of k) (target_of k) c.args.depth c.args.s.now) c.args.packed c.args.tag l c.loop-left.at c.loop-left.left (λ z. omega (arith, c.loop-left-test.true)) read (step_is (bits_of k) c.args.packed l m (extend_at k l m c.args.packed hl hm hp ∙ e))) ∙ c.loop-left.invariant.1.1,
+        rw (sym f) (sym (add_on (bits_of k) (part_for (bits_of k) (target_of k) c.args.depth c.args.s.now) c.args.packed c.args.tag l c.loop.at (c.args.count - c.loop.counter) (λ z. omega (arith, c.loop-test.true)) read (step_is (bits_of k) c.args.packed l m (extend_at k l m c.args.packed hl hm hp ∙ e))) ∙ c.loop.invariant.1.1),
       ),
     )
 
-pub add_members-returns-in-Err : goal.add_members-returns-in-Err
-add_members-returns-in-Err t c =
+pub add_members-returns-in_err-own : goal.add_members-returns-in_err-own
+add_members-returns-in_err-own t c =
     let k = c.args.narrow in
-    let l = layout_of c.loop-left.own in
+    let l = layout_of c.loop.own in
     let m = layout_of c.in_ok-read.read.layout in
     let read = sym c.part.ensures.answer ∙ ap part_says c.in_ok-read.was in
-    let hl = c.loop-left.invariant.1.0 in
-    let hm = part_held k c.args.s.now c.args.depth c.loop-left.at read in
+    let hl = c.loop.invariant.1.0 in
+    let hm = part_held k c.args.s.now c.args.depth c.loop.at read in
     let hp = c.requires.1 in
-    let e = told_by layout_says c.extend.ensures c.in-Err.is in
-    sym (add_off (bits_of k) (part_for (bits_of k) (target_of k) c.args.depth c.args.s.now) c.args.packed c.args.tag l c.loop-left.at c.loop-left.left (λ z. omega (arith, c.loop-left-test.true)) read (step_is (bits_of k) c.args.packed l m (extend_at k l m c.args.packed hl hm hp ∙ e))) ∙ c.loop-left.invariant.1.1
+    let r = mapped_err c.extend.result _ _ (λ e. record { refusal = e; place = c.args.tag }) (λ e q. search rules) c.map_err.ensures.cases c.in_err-own.was in
+    let e = told_by layout_says c.extend.ensures r.1 in
+    handed_on_at _ c.from_residual-in_err-own.result _ c.from_residual-in_err-own.ensures.1
+    (ap (λ k. stopped (number_of k.refusal) k.place) r.2 ∙ sym (add_off (bits_of k) (part_for (bits_of k) (target_of k) c.args.depth c.args.s.now) c.args.packed c.args.tag l c.loop.at (c.args.count - c.loop.counter) (λ z. omega (arith, c.loop-test.true)) read (step_is (bits_of k) c.args.packed l m (extend_at k l m c.args.packed hl hm hp ∙ e))) ∙ c.loop.invariant.1.1)
 
 pub add_members-returns-in_err-read : goal.add_members-returns-in_err-read
 add_members-returns-in_err-read t c =
-    handed_on_at _ c.from_residual.result _ c.from_residual.ensures.1 (sym (add_stop (bits_of c.args.narrow) (part_for (bits_of c.args.narrow) (target_of c.args.narrow) c.args.depth c.args.s.now) c.args.packed c.args.tag (layout_of c.loop-left.own) c.loop-left.at c.loop-left.left (λ z. omega (arith, c.loop-left-test.true)) (sym c.part.ensures.answer ∙ ap part_says c.in_err-read.was)) ∙ c.loop-left.invariant.1.1)
+    handed_on_at _ c.from_residual.result _ c.from_residual.ensures.1 (sym (add_stop (bits_of c.args.narrow) (part_for (bits_of c.args.narrow) (target_of c.args.narrow) c.args.depth c.args.s.now) c.args.packed c.args.tag (layout_of c.loop.own) c.loop.at (c.args.count - c.loop.counter) (λ z. omega (arith, c.loop-test.true)) (sym c.part.ensures.answer ∙ ap part_says c.in_err-read.was)) ∙ c.loop.invariant.1.1)
 
 pub add_members-returns : goal.add_members-returns
 add_members-returns t c =
-    sym (add_none (bits_of c.args.narrow) (part_for (bits_of c.args.narrow) (target_of c.args.narrow) c.args.depth c.args.s.now) c.args.packed c.args.tag (layout_of c.loop-left.own) c.loop-left.at c.loop-left.left (omega (arith, c.loop-left-test.false))) ∙ c.loop-left.invariant.1.1
+    sym (add_none (bits_of c.args.narrow) (part_for (bits_of c.args.narrow) (target_of c.args.narrow) c.args.depth c.args.s.now) c.args.packed c.args.tag (layout_of c.loop.own) c.loop.at (c.args.count - c.loop.counter) (omega (arith, c.loop-test.false))) ∙ c.loop.invariant.1.1
 
 pub part-overflow_add-at : goal.part-overflow_add-at
 part-overflow_add-at t c =
@@ -93,8 +93,8 @@ pub part-part-requires : goal.part-part-requires
 part-part-requires t c =
     (omega (arith, head_room (bits_of c.args.narrow) c.args.s.now c.args.at c.args.depth (sym c.head_of.ensures.answer ∙ ap head_says (c.in_ok-head.was ∙ ap Ok c.in-Array.is))), tt)
 
-pub part-overflow_sub-depth-in-Ok : goal.part-overflow_sub-depth-in-Ok
-part-overflow_sub-depth-in-Ok t c =
+pub part-overflow_sub-depth-in-Struct : goal.part-overflow_sub-depth-in-Struct
+part-overflow_sub-depth-in-Struct t c =
     (head_room (bits_of c.args.narrow) c.args.s.now c.args.at c.args.depth (sym c.head_of.ensures.answer ∙ ap head_says (c.in_ok-head.was ∙ ap Ok c.in-Struct.is))).0
 
 pub part-add_members-requires : goal.part-add_members-requires
@@ -102,7 +102,7 @@ part-add_members-requires t c =
     let e = sym c.head_of.ensures.answer ∙ ap head_says (c.in_ok-head.was ∙ ap Ok c.in-Struct.is) in
     let h = head_held c.args.narrow c.args.s.now c.args.depth c.args.at e in (
       omega (arith, head_room (bits_of c.args.narrow) c.args.s.now c.args.at c.args.depth e),
-      (zst_held c.args.narrow c.in-Struct.align h.0 (told_by layout_says c.new_zst.ensures.answer c.in-Ok.is), h.1),
+      (zst_held c.args.narrow c.in-Struct.align h.0 (told_by layout_says c.new_zst.ensures.answer (mapped_ok c.new_zst.result _ _ c.map_err.ensures.cases c.in_ok-empty-in-Struct.was)), h.1),
     )
 
 pub part-overflow_add-at-in-Slice : goal.part-overflow_add-at-in-Slice
@@ -135,26 +135,27 @@ part-returns-in-Array t c =
     ∙ ap (λ (p : Placed Part). go_on p (made c.args.at (λ l. array_for (bits_of k) l n))) c.part.ensures.answer
     ∙ sym (by_head (bits_of k) (target_of k) c.args.depth c.args.s.now c.args.at e)) in record { answer = told_here.0; meaning = told_here.1 }
 
-pub part-returns-in-Ok : goal.part-returns-in-Ok
-part-returns-in-Ok t c =
+pub part-returns-in_ok-empty-in-Struct : goal.part-returns-in_ok-empty-in-Struct
+part-returns-in_ok-empty-in-Struct t c =
     let k = c.args.narrow in
     let e = sym c.head_of.ensures.answer ∙ ap head_says (c.in_ok-head.was ∙ ap Ok c.in-Struct.is) in
     let h = head_held k c.args.s.now c.args.depth c.args.at e in
-    let z = told_by layout_says c.new_zst.ensures.answer c.in-Ok.is in
-    let l = layout_of c.in-Ok.empty in let told_here = part_told (bits_of k) (target_of k) (scalars_at k) c.args.depth c.args.s.now c.args.at
+    let z = told_by layout_says c.new_zst.ensures.answer (mapped_ok c.new_zst.result _ _ c.map_err.ensures.cases c.in_ok-empty-in-Struct.was) in
+    let l = layout_of c.in_ok-empty-in-Struct.empty in let told_here = part_told (bits_of k) (target_of k) (scalars_at k) c.args.depth c.args.s.now c.args.at
     (c.struct_part.ensures
     ∙ made_alike (part_says c.add_members.result) c.args.at (width_pad k) (pad_for (bits_of k)) (λ r j f. sym (pad_at k r (added_held k c.args.s.now (c.args.depth - 1) c.in-Struct.packed c.args.at c.in-Struct.count l c.in-Struct.first (zst_held k c.in-Struct.align h.0 z) h.1 (sym c.add_members.ensures ∙ f))))
     ∙ ap (λ (p : Placed Part). go_on p (made c.args.at (pad_for (bits_of k)))) c.add_members.ensures
     ∙ sym (by_head (bits_of k) (target_of k) c.args.depth c.args.s.now c.args.at e
     ∙ body_on (bits_of k) (part_for (bits_of k) (target_of k) (c.args.depth - 1) c.args.s.now) c.args.at c.in-Struct.first c.in-Struct.align c.in-Struct.packed c.in-Struct.count (zst_at k c.in-Struct.align h.0 ∙ z))) in record { answer = told_here.0; meaning = told_here.1 }
 
-pub part-returns-in-Err : goal.part-returns-in-Err
-part-returns-in-Err t c =
+pub part-returns-in_err-empty-in-Struct : goal.part-returns-in_err-empty-in-Struct
+part-returns-in_err-empty-in-Struct t c =
     let k = c.args.narrow in
     let e = sym c.head_of.ensures.answer ∙ ap head_says (c.in_ok-head.was ∙ ap Ok c.in-Struct.is) in
-    let z = told_by layout_says c.new_zst.ensures.answer c.in-Err.is in let told_here = part_told (bits_of k) (target_of k) (scalars_at k) c.args.depth c.args.s.now c.args.at
-    (sym (by_head (bits_of k) (target_of k) c.args.depth c.args.s.now c.args.at e
-    ∙ body_off (bits_of k) (part_for (bits_of k) (target_of k) (c.args.depth - 1) c.args.s.now) c.args.at c.in-Struct.first c.in-Struct.align c.in-Struct.packed c.in-Struct.count (zst_at k c.in-Struct.align (head_held k c.args.s.now c.args.depth c.args.at e).0 ∙ z))) in record { answer = told_here.0; meaning = told_here.1 }
+    let m = mapped_err c.new_zst.result _ _ (λ e. record { refusal = e; place = c.args.at }) (λ e q. search rules) c.map_err.ensures.cases c.in_err-empty-in-Struct.was in
+    let z = told_by layout_says c.new_zst.ensures.answer m.1 in let told_here = part_told (bits_of k) (target_of k) (scalars_at k) c.args.depth c.args.s.now c.args.at
+    (handed_on_at _ c.from_residual-in_err-empty-in-Struct.result _ c.from_residual-in_err-empty-in-Struct.ensures.1 (ap (λ k. stopped (number_of k.refusal) k.place) m.2 ∙ sym (by_head (bits_of k) (target_of k) c.args.depth c.args.s.now c.args.at e
+    ∙ body_off (bits_of k) (part_for (bits_of k) (target_of k) (c.args.depth - 1) c.args.s.now) c.args.at c.in-Struct.first c.in-Struct.align c.in-Struct.packed c.in-Struct.count (zst_at k c.in-Struct.align (head_held k c.args.s.now c.args.depth c.args.at e).0 ∙ z)))) in record { answer = told_here.0; meaning = told_here.1 }
 
 pub part-returns-in-Slice : goal.part-returns-in-Slice
 part-returns-in-Slice t c =

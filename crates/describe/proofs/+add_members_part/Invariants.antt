@@ -11,12 +11,9 @@ decreases-add_members l = 2 * (length l.s.now - l.first) + 1
 abbrev pub decreases-part : goal.decreases-part
 decreases-part l = 2 * (length l.s.now - l.at)
 
-abbrev pub invariant-add_members-loop-left : goal.invariant-add_members-loop-left
-invariant-add_members-loop-left l =
+abbrev pub invariant-add_members-loop : goal.invariant-add_members-loop
+invariant-add_members-loop l =
     let read = part_for (bits_of l.narrow) (target_of l.narrow) l.depth l.s in
     (l.first ≤ l.at) × (Held l.narrow (layout_of l.own)
-    × (add_read (bits_of l.narrow) read l.packed l.tag l.left (layout_of l.own) l.at
+    × (add_read (bits_of l.narrow) read l.packed l.tag (l.count - l.counter) (layout_of l.own) l.at
     ≡ add_read (bits_of l.narrow) read l.packed l.tag l.count (layout_of l.initial.own) l.first))
-
-abbrev pub decreases-add_members-loop-left : goal.decreases-add_members-loop-left
-decreases-add_members-loop-left l = l.left

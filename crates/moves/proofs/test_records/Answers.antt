@@ -1,22 +1,41 @@
 -- `moves::test_records` meets its contract. Assumes nothing.
-use mathlib.Core.Path.{◌≡◌, sym, ap, ◌∙◌}
-use Prim.Native.Nat.{ℕ, ◌-◌, ◌*◌, ◌/◌}
-use native.Mathlib.Omega.{arith}
-use lib.ListN.{length, drop}
+use Rattle.std.proofs.Common.{rules, ◌≡◌, suc, ◌/◌, length, refl, sym, ap, ◌∙◌, arith, length-append}
 use Rattle.util_defs.proofs.Tables.{told_by}
+use Rattle.util_defs.proofs.Mapped.{mapped_ok, mapped_err}
+use Rattle.util.specs.View.{accepted, number_of}
+use Rattle.util.proofs.Told.{handed_on_at}
+use Rattle.util_defs.specs.Placed.{stopped}
 use Rattle.layout.specs.View.{check_says}
-use Rattle.short_defs.specs.Moves.{to_short, tested}
+use Rattle.short_defs.specs.Moves.{to_short}
 use Rattle.short_defs.proofs.Lists.{test_on, test_off, test_end}
 use Rattle.moves.proofs.test_records.Goals as goal
 
 pub loop-i-init : goal.loop-i-init
-loop-i-init c = let e : length c.args.records.now / 48 - 0 ≡ length c.args.records.now / 48 = omega arith in ap (λ (k : ℕ). tested to_short 0 k c.args.records.now) e
-
-pub returns-in-Err : goal.returns-in-Err
-returns-in-Err c = let s = c.args.records.now in sym (test_off to_short (length s / 48) c.loop-i.i s c.loop-i-test.true (told_by check_says c.test_record.ensures c.in-Err.is)) ∙ c.loop-i.invariant
+loop-i-init c = let e = c.enumerate-i-items.ensures in let k = c.chunks_exact.ensures in rw (c.into_iter-i-iterator.ensures.into_iter_gives, e.source, e.count, k.size, k.rest) (refl, refl)
 
 pub loop-i-preserved : goal.loop-i-preserved
-loop-i-preserved c = let s = c.args.records.now in sym (test_on to_short (length s / 48) c.loop-i.i s c.loop-i-test.true (told_by check_says c.test_record.ensures c.in-Ok.is)) ∙ c.loop-i.invariant
+loop-i-preserved c =
+    let h = c.in-Some.ensures.steps in
+    let x = c.in-Some.record.now in
+    let t = c.next.new.self.iter.rest.now in
+    let v = c.loop-i.invariant in
+    let s = c.loop-i.i-iterator.iter.rest.now in
+    let l : length x ≡ 48 = h.0.1.1 ∙ v.0 in
+    let n : length s / 48 ≡ suc (length t / 48) = omega (arith, l, ap length h.0.1.0, length-append x t) in
+    (h.0.0 ∙ v.0, sym (test_on to_short c.loop-i.i-iterator.count x t h.0.1.0 l n h.2 (told_by check_says c.test_record.ensures (mapped_ok c.test_record.result _ _ c.map_err.ensures.cases c.in_ok-map_err.was))) ∙ v.1)
+
+pub returns-in_err-map_err : goal.returns-in_err-map_err
+returns-in_err-map_err c =
+    let h = c.in-Some.ensures.steps in
+    let m = mapped_err c.test_record.result _ _ (λ e. record { refusal = e; place = c.in-Some.i }) (λ e q. search rules) c.map_err.ensures.cases c.in_err-map_err.was in
+    let x = c.in-Some.record.now in
+    let t = c.next.new.self.iter.rest.now in
+    let v = c.loop-i.invariant in
+    let s = c.loop-i.i-iterator.iter.rest.now in
+    let l : length x ≡ 48 = h.0.1.1 ∙ v.0 in
+    let n : length s / 48 ≡ suc (length t / 48) = omega (arith, l, ap length h.0.1.0, length-append x t) in
+    handed_on_at accepted c.from_residual.result _ c.from_residual.ensures.1
+    (ap (λ k. stopped (number_of k.refusal) k.place) m.2 ∙ ap (stopped (number_of m.0)) h.1 ∙ sym (test_off to_short c.loop-i.i-iterator.count x t h.0.1.0 l n (told_by check_says c.test_record.ensures m.1)) ∙ v.1)
 
 pub returns : goal.returns
-returns c = let s = c.args.records.now in sym (test_end to_short (length s / 48) c.loop-i.i (drop (c.loop-i.i * 48) s) (omega arith)) ∙ c.loop-i.invariant
+returns c = let h = c.in-None.ensures.steps in let v = c.loop-i.invariant in sym (test_end to_short c.loop-i.i-iterator.count _ c.loop-i.i-iterator.iter.rest.now (omega (arith, h.0.1.0, v.0))) ∙ v.1

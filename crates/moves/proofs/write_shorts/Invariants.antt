@@ -1,5 +1,4 @@
 -- The loops of the function.
-use Prim.Native.Nat.{◌-◌}
 use Rattle.short_defs.specs.Moves.{to_short}
 use Rattle.short_defs.proofs.Lists.{Writing}
 use Rattle.short_defs.proofs.Ways.{short_proper}
@@ -7,6 +6,3 @@ use Rattle.moves.proofs.write_shorts.Given as goal
 
 abbrev pub invariant-loop-i : goal.invariant-loop-i
 invariant-loop-i l = Writing to_short short_proper.whole l.count l.i l.records l.initial.out l.out
-
-abbrev pub decreases-loop-i : goal.decreases-loop-i
-decreases-loop-i l = l.count - l.i

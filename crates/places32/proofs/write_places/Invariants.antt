@@ -1,5 +1,5 @@
 -- The loops of the function.
-use Rattle.std.proofs.Common.{◌≡◌, ◌-◌, length}
+use Rattle.std.proofs.Common.{◌≡◌, length}
 use Rattle.make.specs.Make.{empty_layout}
 use Rattle.compose_defs.specs.Compose.{members_of}
 use Rattle.compose_defs.specs.Places.{places_of, gaps_of}
@@ -10,6 +10,3 @@ abbrev pub invariant-loop-i : goal.invariant-loop-i
 invariant-loop-i l =
     (length l.places ≡ length l.initial.places) × ((length l.gaps ≡ length l.initial.gaps)
     × Going 32 l.repr_packed l.count l.i l.members (places_of l.repr_packed (empty_layout l.repr_align) (members_of 32 l.count l.members)) (gaps_of l.repr_packed (empty_layout l.repr_align) (members_of 32 l.count l.members)) l.end l.places l.gaps)
-
-abbrev pub decreases-loop-i : goal.decreases-loop-i
-decreases-loop-i l = l.count - l.i

@@ -22,12 +22,6 @@ overflow_add-out-in-loop-i c = omega (arith, c.loop-i-test.true, c.requires.1)
 pub bounds-out-to : goal.bounds-out-to
 bounds-out-to c = omega (arith, c.loop-i-test.true, c.requires.1, ap length c.loop-i.invariant.1, length-sets c.args.out.now c.args.to (take c.loop-i.i (drop c.args.at c.args.s.now)))
 
-pub overflow_add-i : goal.overflow_add-i
-overflow_add-i c = omega (arith, c.loop-i-test.true, c.requires.0)
-
-pub loop-i-smaller : goal.loop-i-smaller
-loop-i-smaller c = omega (arith, c.loop-i-test.true)
-
 pub loop-i-preserved : goal.loop-i-preserved
 loop-i-preserved c = (omega (arith, c.loop-i-test.true), copied c.args.s.now c.args.out.now c.loop-i.out c.args.at c.args.to c.loop-i.i (omega (arith, c.loop-i-test.true, c.requires.0)) (omega (arith, c.loop-i-test.true, c.requires.1)) c.loop-i.invariant.1)
 

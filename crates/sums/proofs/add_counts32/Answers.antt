@@ -13,9 +13,6 @@ use Rattle.sums.proofs.add_counts32.Goals as goal
 pub loop-i-init : goal.loop-i-init
 loop-i-init c = (refl, omega arith)
 
-pub overflow_cast-counts : goal.overflow_cast-counts
-overflow_cast-counts c = omega (arith, c.shared_slice_known-in-loop-i-1.given c.loop-i.i)
-
 pub add_count-requires : goal.add_count-requires
 add_count-requires c = (c.requires, c.loop-i.invariant.1)
 

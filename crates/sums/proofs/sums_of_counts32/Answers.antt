@@ -2,6 +2,11 @@
 use mathlib.Core.Path.{refl, sym, ap, ap₂, subst, ◌∙◌}
 use Prim.Native.Nat.{ℕ, ◌^◌, ◌<◌}
 use lib.ListN.{length}
+use Rattle.std.proofs.Common.{rules}
+use Rattle.util_defs.proofs.Mapped.{mapped_ok, mapped_err}
+use Rattle.util.specs.View.{number_of}
+use Rattle.util.proofs.Told.{handed_on_at}
+use Rattle.util_defs.specs.Placed.{stopped}
 use Rattle.util_defs.specs.Width.{M}
 use Rattle.trailing.specs.View.{trailing_of}
 use Rattle.share_defs.specs.Share.{sums_for}
@@ -11,21 +16,23 @@ use Rattle.trailing_defs.specs.Size.{Trailing}
 use Rattle.sums.proofs.sums_of_counts32.Goals as goal
 
 pub test-requires : goal.test-requires
-test-requires c = (ap M (sym bits_32), subst (λ (w : ℕ). (trailing_of c.wide_tail.result).word < 2 ^ w) (sym bits_32) (subst (λ (t : Trailing). t.word < 2 ^ 32) (sym c.wide_tail.ensures.0) c.wide_tail.ensures.1.word))
+test-requires c = (ap M (sym bits_32), subst (λ (w : ℕ). (trailing_of c.wide_tail-wide.result).word < 2 ^ w) (sym bits_32) (subst (λ (t : Trailing). t.word < 2 ^ 32) (sym c.wide_tail-wide.ensures.0) c.wide_tail-wide.ensures.1.word))
 
 pub add_counts32-requires : goal.add_counts32-requires
-add_counts32-requires c = (subst (TestMeans (trailing_of c.wide_tail.result) (M 32) (length c.args.counts.now)) c.in-Ok.is c.test.ensures).0
+add_counts32-requires c = (subst (TestMeans (trailing_of c.wide_tail-wide.result) (M 32) (length c.args.counts.now)) (mapped_ok c.test.result _ _ c.map_err.ensures.cases c.in_ok-l.was) c.test.ensures).0
 
-pub returns-in-Ok : goal.returns-in-Ok
-returns-in-Ok c =
-    let t = trailing_of c.wide_tail.result in
+pub returns : goal.returns
+returns c =
+    let t = trailing_of c.wide_tail-wide.result in
     let s = c.args.counts.now in
-    let m = subst (TestMeans t (M 32) (length s)) c.in-Ok.is c.test.ensures in
-    c.add_counts32.ensures ∙ tested_sums 32 (M 32) t s m bits_32 ∙ ap (λ (u : Trailing). sums_for 32 u s) c.wide_tail.ensures.0
+    let m = subst (TestMeans t (M 32) (length s)) (mapped_ok c.test.result _ _ c.map_err.ensures.cases c.in_ok-l.was) c.test.ensures in
+    c.add_counts32.ensures ∙ tested_sums 32 (M 32) t s m bits_32 ∙ ap (λ (u : Trailing). sums_for 32 u s) c.wide_tail-wide.ensures.0
 
-pub returns-in-Err : goal.returns-in-Err
-returns-in-Err c =
-    let t = trailing_of c.wide_tail.result in
+pub returns-in_err-l : goal.returns-in_err-l
+returns-in_err-l c =
+    let m = mapped_err c.test.result _ _ (λ e. record { refusal = e; place = 0 }) (λ e q. search rules) c.map_err.ensures.cases c.in_err-l.was in
+    let t = trailing_of c.wide_tail-wide.result in
     let s = c.args.counts.now in
-    let m = subst (TestMeans t (M 32) (length s)) c.in-Err.is c.test.ensures in
-    m s refl ∙ ap₂ (λ (w : ℕ) (u : Trailing). sums_for w u s) bits_32 c.wide_tail.ensures.0
+    let h = subst (TestMeans t (M 32) (length s)) m.1 c.test.ensures in
+    handed_on_at _ c.from_residual.result _ c.from_residual.ensures.1
+    (ap (λ k. stopped (number_of k.refusal) k.place) m.2 ∙ h s refl ∙ ap₂ (λ (w : ℕ) (u : Trailing). sums_for w u s) bits_32 c.wide_tail-wide.ensures.0)
