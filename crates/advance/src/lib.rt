@@ -4,26 +4,24 @@
 
 ghost use Rattle.std.specs.Prelude.{◌≡◌};
 ghost use Rattle.util_defs.specs.Refusal.{Meets};
-ghost use Rattle.rounding.specs.Word.{IsWord};
 ghost use Rattle.trailing_defs.specs.Calls.{advance_causes, advance_for, Advanced};
 ghost use Rattle.trailing.specs.View.{trailing_of, advance_says};
 
 use rounding::{Components, RoundingAlignAndPhase};
-use trailing::TrailingSliceLayout;
+use trailing::{Decoded, TrailingSliceLayout};
 use util::Refusal;
 
-fn advance_at(
-    tail: TrailingSliceLayout<u64>,
-    parts: Components<u64>,
+// The advance past the test of the rounding word.
+fn advance_decoded(
+    decoded: Decoded,
     bytes: u64,
     elem: u64,
 ) -> Result<TrailingSliceLayout<u64>, Refusal>
-    requires { IsWord tail.size_rounding_align_and_phase.0 parts.align parts.phase }
-    ensures { advance_says result ≡ advance_for 64 (trailing_of tail) bytes elem }
+    ensures { advance_says result ≡ advance_for 64 (trailing_of decoded.layout) bytes elem }
 {
-    let Components { align, phase } = parts;
+    let Components { align, phase } = decoded.parts;
     let align_mask = align - 1;
-    let phase_capacity = u64::MAX - (tail.size_base & !align_mask);
+    let phase_capacity = u64::MAX - (decoded.layout.size_base & !align_mask);
     // The base rounded down and the phase fit, so this does not go below 0.
     let max_advance = phase_capacity - phase;
     if bytes > max_advance {
@@ -33,9 +31,9 @@ fn advance_at(
     let normalized_phase = advanced_phase & align_mask;
     let whole_bytes = advanced_phase & !align_mask;
     Ok(TrailingSliceLayout {
-        offset: tail.offset,
+        offset: decoded.layout.offset,
         elem_size: elem,
-        size_base: tail.size_base + whole_bytes,
+        size_base: decoded.layout.size_base + whole_bytes,
         size_rounding_align_and_phase: RoundingAlignAndPhase(align + normalized_phase),
     })
 }
@@ -47,9 +45,17 @@ pub fn advance(
     elem_size: u64,
 ) -> Result<TrailingSliceLayout<u64>, Refusal>
     ensures answer { advance_says result ≡ advance_for 64 (trailing_of tail) bytes elem_size }
-    ensures meaning { Meets (advance_causes 64 (trailing_of tail) bytes) (Advanced 64 (trailing_of tail) bytes elem_size) (advance_says result) }
+    ensures meaning { Meets (advance_causes 64 (trailing_of tail) bytes) (Advanced 64 (trailing_of tail) bytes elem_size)
+        (advance_says result) }
 {
     let word = tail.size_rounding_align_and_phase;
     let parts = word.components()?;
-    advance_at(tail, parts, bytes, elem_size)
+    advance_decoded(
+        Decoded {
+            layout: tail,
+            parts,
+        },
+        bytes,
+        elem_size,
+    )
 }

@@ -8,7 +8,6 @@ ghost use Rattle.util_defs.specs.Power.{PowerOfTwo};
 ghost use Rattle.util_defs.specs.Round.{up};
 ghost use Rattle.util_defs.specs.Refusal.{Tells, Meets};
 ghost use Rattle.util.specs.View.{decision_says};
-ghost use Rattle.rounding.specs.Word.{IsWord};
 ghost use Rattle.trailing_defs.specs.Size.{size_at};
 ghost use Rattle.trailing_defs.specs.Sequence.{same_stride};
 ghost use Rattle.trailing_defs.specs.Calls.{same_causes};
@@ -18,7 +17,7 @@ ghost use Rattle.full_defs.specs.Form.{IsNormal, form, form_of, form_causes, for
 ghost use Rattle.full.specs.View.{form_says};
 
 use rounding::{Components, RoundingAlignAndPhase};
-use trailing::TrailingSliceLayout;
+use trailing::{Decoded, TrailingSliceLayout};
 use util::Refusal;
 
 // What of a trailing layout its sizes show. It has neither an offset nor an alignment.
@@ -55,10 +54,16 @@ fn seen_phase(elem: u64, align: u64, phase: u64) -> u64
 
 // The part of the comparison that looks past the sizes at 0: the element size is a multiple of the larger alignment, or both
 // alignments, and both phases as the sizes see them, are equal.
-fn same_steps(elem: u64, align: u64, phase: u64, align2: u64, phase2: u64) -> bool
-    requires { PowerOfTwo align × PowerOfTwo align2 × (phase < align) × (phase2 < align2) }
-    ensures { result ≡ same_stride elem align (seen_phase 64 elem align phase) align2 (seen_phase 64 elem align2 phase2) }
+fn same_steps(elem: u64, parts: Components<u64>, other: Components<u64>) -> bool
+    requires { PowerOfTwo parts.align × PowerOfTwo other.align × (parts.phase < parts.align) × (other.phase < other.align) }
+    ensures { result ≡ same_stride elem parts.align (seen_phase 64 elem parts.align parts.phase) other.align
+        (seen_phase 64 elem other.align other.phase) }
 {
+    let Components { align, phase } = parts;
+    let Components {
+        align: align2,
+        phase: phase2,
+    } = other;
     if align > align2 {
         return elem & (align - 1) == 0;
     }
@@ -70,14 +75,6 @@ fn same_steps(elem: u64, align: u64, phase: u64, align2: u64, phase2: u64) -> bo
     } else {
         false
     }
-}
-
-// What an empty run adds: a block of the alignment, but for phase 0 nothing.
-fn rounded_phase(align: u64, phase: u64) -> u64
-    requires { phase < align }
-    ensures { result ≡ up phase align }
-{
-    if phase == 0 { 0 } else { align }
 }
 
 // Whether base + rounded and base2 + rounded2 are equal. No sum is made, since it may pass the greatest number.
@@ -99,30 +96,23 @@ fn same_sum(base: u64, rounded: u64, base2: u64, rounded2: u64) -> bool
     }
 }
 
-// A function whose name ends in _at takes the parts of the rounding words besides the layouts.
-fn sizes_agree_at(
-    first: TrailingSliceLayout<u64>,
-    parts: Components<u64>,
-    other: TrailingSliceLayout<u64>,
-    other_parts: Components<u64>,
-) -> bool
-    requires { IsWord first.size_rounding_align_and_phase.0 parts.align parts.phase × IsWord other.size_rounding_align_and_phase.0
-        other_parts.align other_parts.phase }
-    ensures { result ≡ sizes_agree 64 (trailing_of first) (trailing_of other) }
+// The comparison past the test of the rounding words.
+fn decoded_agree(first: Decoded, other: Decoded) -> bool
+    ensures { result ≡ sizes_agree 64 (trailing_of first.layout) (trailing_of other.layout) }
 {
-    let elem = first.elem_size;
-    if elem != other.elem_size {
+    let elem = first.layout.elem_size;
+    if elem != other.layout.elem_size {
         return false;
     }
-    let Components { align, phase } = parts;
-    let Components {
-        align: align2,
-        phase: phase2,
-    } = other_parts;
-    let rounded = rounded_phase(align, phase);
-    let rounded2 = rounded_phase(align2, phase2);
-    if same_sum(first.size_base, rounded, other.size_base, rounded2) {
-        same_steps(elem, align, phase, align2, phase2)
+    let rounded = first.rounded_phase();
+    let rounded2 = other.rounded_phase();
+    if same_sum(
+        first.layout.size_base,
+        rounded,
+        other.layout.size_base,
+        rounded2,
+    ) {
+        same_steps(elem, first.parts, other.parts)
     } else {
         false
     }
@@ -134,14 +124,23 @@ pub fn sizes_agree(
     other: TrailingSliceLayout<u64>,
 ) -> Result<bool, Refusal>
     ensures answer { decision_says result ≡ agree_for 64 (trailing_of first) (trailing_of other) }
-    ensures meaning { Meets (same_causes (trailing_of first) (trailing_of other)) (FoundEqual 64 (trailing_of first) (trailing_of other))
-        (decision_says result) }
+    ensures meaning { Meets (same_causes (trailing_of first) (trailing_of other))
+        (FoundEqual 64 (trailing_of first) (trailing_of other)) (decision_says result) }
 {
     let word = first.size_rounding_align_and_phase;
     let other_word = other.size_rounding_align_and_phase;
     let parts = word.components()?;
     let other_parts = other_word.components()?;
-    Ok(sizes_agree_at(first, parts, other, other_parts))
+    Ok(decoded_agree(
+        Decoded {
+            layout: first,
+            parts,
+        },
+        Decoded {
+            layout: other,
+            parts: other_parts,
+        },
+    ))
 }
 
 // The form whose phase is 0: its base is the size at 0, which must exist.
@@ -170,14 +169,12 @@ fn least_word(elem: u64, align: u64, phase: u64) -> u64
     align + (round_up(phase, unit) - (unit - 1))
 }
 
-fn normal_form_at(
-    layout: TrailingSliceLayout<u64>,
-    parts: Components<u64>,
-) -> Result<NormalForm<u64>, Refusal>
-    requires { IsWord layout.size_rounding_align_and_phase.0 parts.align parts.phase }
-    ensures { form_says result ≡ form_for 64 (trailing_of layout) }
+// The normal form past the test of the rounding word.
+fn decoded_form(decoded: Decoded) -> Result<NormalForm<u64>, Refusal>
+    ensures { form_says result ≡ form_for 64 (trailing_of decoded.layout) }
 {
-    let Components { align, phase } = parts;
+    let layout = decoded.layout;
+    let Components { align, phase } = decoded.parts;
     let elem = layout.elem_size;
     if elem & (align - 1) == 0 {
         return form_at_zero(layout, 1);
@@ -200,5 +197,5 @@ pub fn normal_form(layout: TrailingSliceLayout<u64>) -> Result<NormalForm<u64>, 
 {
     let word = layout.size_rounding_align_and_phase;
     let parts = word.components()?;
-    normal_form_at(layout, parts)
+    decoded_form(Decoded { layout, parts })
 }

@@ -5,7 +5,6 @@ ghost use Rattle.std.specs.Prelude.{◌≡◌, [], ◌∷◌, ◌<◌};
 ghost use Rattle.util_defs.specs.Power.{PowerOfTwo};
 ghost use Rattle.util_defs.specs.Round.{up};
 ghost use Rattle.util_defs.specs.Refusal.{unless, None, Meets};
-ghost use Rattle.rounding.specs.Word.{IsWord};
 ghost use Rattle.trailing.specs.View.{trailing_of};
 ghost use Rattle.layout_defs.specs.Layout.{trailing, layout_causes};
 ghost use Rattle.layout_defs.specs.Extend.{rounding_passes};
@@ -14,20 +13,21 @@ ghost use Rattle.padding_defs.specs.Pad.{fixed_part, coarser, finer, padded_tail
 ghost use Rattle.padding_defs.specs.Pad.{padding_needs, pad_causes, pad_for, Padded};
 
 use layout::{DstLayout, SizeInfo};
-use rounding::{Components, RoundingAlignAndPhase};
-use trailing::TrailingSliceLayout;
+use rounding::RoundingAlignAndPhase;
+use trailing::{Decoded, TrailingSliceLayout};
 use util::Refusal;
+
 // Padding to an alignment above that of the rounding word. The fixed part of every size, the base rounded up to the word's
 // alignment and the phase, splits into a multiple of the new alignment and the new phase.
-fn pad_coarser(
-    tail: TrailingSliceLayout<u64>,
-    parts: Components<u64>,
-    align: u64,
-) -> Result<SizeInfo<u64>, Refusal>
-    requires { PowerOfTwo align × IsWord tail.size_rounding_align_and_phase.0 parts.align parts.phase }
-    ensures { info_says result ≡ unless (rounding_passes 64 (fixed_part 64 (trailing_of tail)) ∷ [])
-        (trailing (coarser 64 align (trailing_of tail))) }
+fn pad_coarser(decoded: Decoded, align: u64) -> Result<SizeInfo<u64>, Refusal>
+    requires { PowerOfTwo align }
+    ensures { info_says result ≡ unless (rounding_passes 64 (fixed_part 64 (trailing_of decoded.layout)) ∷ [])
+        (trailing (coarser 64 align (trailing_of decoded.layout))) }
 {
+    let Decoded {
+        layout: tail,
+        parts,
+    } = decoded;
     let rounded_base = layout::round_up(tail.size_base, parts.align)?;
     if u64::MAX - rounded_base < parts.phase {
         return Err(Refusal::RoundingPassesMax);
@@ -46,7 +46,8 @@ fn pad_coarser(
 // Padding to an alignment that divides that of the rounding word: what the word rounds is a multiple of it already.
 fn pad_finer(tail: TrailingSliceLayout<u64>, align: u64) -> Result<SizeInfo<u64>, Refusal>
     requires { PowerOfTwo align }
-    ensures { info_says result ≡ unless (rounding_passes 64 (up tail.size_base align) ∷ []) (trailing (finer align (trailing_of tail))) }
+    ensures { info_says result ≡ unless (rounding_passes 64 (up tail.size_base align) ∷ [])
+        (trailing (finer align (trailing_of tail))) }
 {
     let word = tail.size_rounding_align_and_phase;
     let size_base = layout::round_up(tail.size_base, align)?;
@@ -66,7 +67,13 @@ fn pad_trailing(tail: TrailingSliceLayout<u64>, align: u64) -> Result<SizeInfo<u
     let word = tail.size_rounding_align_and_phase;
     let parts = word.components()?;
     if parts.align < align {
-        pad_coarser(tail, parts, align)
+        pad_coarser(
+            Decoded {
+                layout: tail,
+                parts,
+            },
+            align,
+        )
     } else {
         pad_finer(tail, align)
     }
@@ -90,6 +97,7 @@ fn pad_mark(size_info: SizeInfo<u64>, align: u64, unpadded: bool) -> bool
     }
 }
 
+#[inline(always)]
 fn pad_checked(layout: DstLayout<u64>) -> Result<DstLayout<u64>, Refusal>
     requires { None (layout_causes 64 (layout_of layout)) }
     ensures { layout_says result ≡ unless (rounding_passes 64 (padding_needs 64 layout.align (info_of layout.size_info)) ∷ [])
@@ -122,6 +130,7 @@ fn pad_checked(layout: DstLayout<u64>) -> Result<DstLayout<u64>, Refusal>
 }
 
 // The layout with the padding after its last member: each size rounded up to the alignment.
+#[inline(always)]
 pub fn pad_to_align(layout: DstLayout<u64>) -> Result<DstLayout<u64>, Refusal>
     ensures answer { layout_says result ≡ pad_for 64 (layout_of layout) }
     ensures meaning { Meets (pad_causes 64 (layout_of layout)) (Padded 64 (layout_of layout)) (layout_says result) }

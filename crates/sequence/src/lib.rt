@@ -7,22 +7,26 @@ ghost use Rattle.std.specs.Prelude.{◌≡◌, ◌<◌};
 ghost use Rattle.util_defs.specs.Power.{PowerOfTwo};
 ghost use Rattle.util_defs.specs.Refusal.{Meets};
 ghost use Rattle.util.specs.View.{decision_says};
-ghost use Rattle.rounding.specs.Word.{IsWord};
 ghost use Rattle.trailing_defs.specs.Sequence.{same_start, same_stride, same_sequence};
 ghost use Rattle.trailing_defs.specs.Calls.{same_causes, same_for, FoundSame};
 ghost use Rattle.trailing.specs.View.{trailing_of};
 
 use rounding::Components;
-use trailing::TrailingSliceLayout;
+use trailing::{Decoded, TrailingSliceLayout};
 use util::Refusal;
 
 // The part of the comparison that looks past the sizes at 0: the element size is a multiple of the larger alignment, or both
 // alignments and both phases are equal. Either is enough for equal sizes at every count, and neither is needed. The larger of
 // two alignments is a multiple of the smaller, so that a multiple of it is one of both.
-fn same_stride(elem: u64, align: u64, phase: u64, align2: u64, phase2: u64) -> bool
-    requires { PowerOfTwo align × PowerOfTwo align2 }
-    ensures { result ≡ same_stride elem align phase align2 phase2 }
+fn same_stride(elem: u64, parts: Components<u64>, other: Components<u64>) -> bool
+    requires { PowerOfTwo parts.align × PowerOfTwo other.align }
+    ensures { result ≡ same_stride elem parts.align parts.phase other.align other.phase }
 {
+    let Components { align, phase } = parts;
+    let Components {
+        align: align2,
+        phase: phase2,
+    } = other;
     if align > align2 {
         return elem & (align - 1) == 0;
     }
@@ -50,28 +54,15 @@ fn same_start(first: TrailingSliceLayout<u64>, other: TrailingSliceLayout<u64>) 
     first_size == other_size
 }
 
-fn has_same_size_sequence_at(
-    first: TrailingSliceLayout<u64>,
-    parts: Components<u64>,
-    other: TrailingSliceLayout<u64>,
-    other_parts: Components<u64>,
-) -> bool
-    requires { IsWord first.size_rounding_align_and_phase.0 parts.align parts.phase × IsWord other.size_rounding_align_and_phase.0
-        other_parts.align other_parts.phase }
-    ensures { result ≡ same_sequence 64 (trailing_of first) (trailing_of other) }
+fn same_sequence(first: Decoded, other: Decoded) -> bool
+    ensures { result ≡ same_sequence 64 (trailing_of first.layout) (trailing_of other.layout) }
 {
-    let elem = first.elem_size;
-    if elem != other.elem_size {
+    let elem = first.layout.elem_size;
+    if elem != other.layout.elem_size {
         return false;
     }
-    if same_start(first, other) {
-        same_stride(
-            elem,
-            parts.align,
-            parts.phase,
-            other_parts.align,
-            other_parts.phase,
-        )
+    if same_start(first.layout, other.layout) {
+        same_stride(elem, first.parts, other.parts)
     } else {
         false
     }
@@ -83,12 +74,21 @@ pub fn has_same_size_sequence(
     other: TrailingSliceLayout<u64>,
 ) -> Result<bool, Refusal>
     ensures answer { decision_says result ≡ same_for 64 (trailing_of first) (trailing_of other) }
-    ensures meaning { Meets (same_causes (trailing_of first) (trailing_of other)) (FoundSame 64 (trailing_of first) (trailing_of other))
-        (decision_says result) }
+    ensures meaning { Meets (same_causes (trailing_of first) (trailing_of other))
+        (FoundSame 64 (trailing_of first) (trailing_of other)) (decision_says result) }
 {
     let word = first.size_rounding_align_and_phase;
     let other_word = other.size_rounding_align_and_phase;
     let parts = word.components()?;
     let other_parts = other_word.components()?;
-    Ok(has_same_size_sequence_at(first, parts, other, other_parts))
+    Ok(same_sequence(
+        Decoded {
+            layout: first,
+            parts,
+        },
+        Decoded {
+            layout: other,
+            parts: other_parts,
+        },
+    ))
 }

@@ -1,7 +1,7 @@
 -- What the answers of trailing layouts tell their callers. Assumes nothing.
 use Rattle.util.specs.declared.refusal.Refusal.{Refusal}
 use Rattle.std.specs.Prelude.{Err, Ok, Result}
-use Rattle.std.proofs.Common.{◌≡◌, ℕ, ◌+◌, ◌^◌, ◌<◌, ◌≤◌, Bool, [], ◌∷◌, sym, refl, ◌∙◌, subst, inl, inr, arith}
+use Rattle.std.proofs.Common.{◌≡◌, ℕ, ◌+◌, ◌^◌, ◌<◌, ◌≤◌, Bool, sym, ◌∙◌, subst, inl, inr, arith}
 use Rattle.util_defs.specs.Width.{M}
 use Rattle.util_defs.specs.Refusal.{Tells, holds, fails}
 use Rattle.util_defs.proofs.Refusals.{known, clear, tells_eq, tells_le, tells_lt}

@@ -7,7 +7,6 @@ use Rattle.trailing_defs.specs.Size.{Trailing}
 use Rattle.trailing_defs.specs.Sized.{SizeOutcome, sized, none_above, refused_by}
 use Rattle.trailing.specs.declared.TrailingSliceLayout.{TrailingSliceLayout}
 use Rattle.trailing.specs.declared.SizeRefusal.{SizeRefusal}
-use Rattle.trailing.specs.declared.SizeRefusal.TheVariants as SizeRefusal
 
 abbrev pub trailing_of : TrailingSliceLayout ℕ → Trailing
 trailing_of l = record {

@@ -8,6 +8,7 @@ ghost use Rattle.util_defs.specs.Round.{up};
 ghost use Rattle.util_defs.specs.Refusal.{Meets};
 ghost use Rattle.util.specs.View.{number_says};
 ghost use Rattle.rounding.specs.Word.{IsWord, word_causes};
+ghost use Rattle.rounding.specs.Unique.{word_prop};
 ghost use Rattle.trailing_defs.specs.Calls.{size_offset_for, GreatestIn, SizeOffset, max_trailing_causes, max_trailing_for};
 ghost use Rattle.trailing_defs.specs.Calls.{padding_for_elems, PaddingAt};
 ghost use Rattle.trailing_defs.specs.Sized.{sized, none_above, size_given, SizeMeans};
@@ -30,6 +31,14 @@ pub struct TrailingSliceLayout<N> {
     pub size_rounding_align_and_phase: RoundingAlignAndPhase<N>,
 }
 
+// A trailing layout beside the parts of its rounding word.
+#[derive(Clone, Copy)]
+pub struct Decoded {
+    pub layout: TrailingSliceLayout<u64>,
+    pub parts: Components<u64>,
+    pub ghost is_word: { IsWord layout.size_rounding_align_and_phase.0 parts.align parts.phase } by { word_prop },
+}
+
 // Why there is no size: none at this count, and the greatest count that has one; or another refusal.
 #[derive(Clone, Copy)]
 pub enum SizeRefusal<N> {
@@ -45,14 +54,6 @@ impl<N> From<Refusal> for SizeRefusal<N> {
     }
 }
 
-// What an empty run adds: a block of the alignment, but for phase 0 nothing.
-fn rounded_phase(align: u64, phase: u64) -> u64
-    requires { phase < align }
-    ensures { result ≡ up phase align }
-{
-    if phase == 0 { 0 } else { align }
-}
-
 // The bytes of the elements, modulo the alignment. The product wraps, which keeps its remainder: the alignment divides 2^64.
 fn trailing_remainder(elems: u64, elem: u64, align: u64) -> u64
     requires { PowerOfTwo align }
@@ -63,19 +64,86 @@ fn trailing_remainder(elems: u64, elem: u64, align: u64) -> u64
     util::wrapping_mul(elems, elem_remainder) & size_mask
 }
 
-// A function whose name ends in _at takes the parts of the layout's rounding word besides the layout.
-impl TrailingSliceLayout<u64> {
-    fn size_offset_at(self, parts: Components<u64>) -> Result<u64, Refusal>
-        requires { IsWord self.size_rounding_align_and_phase.0 parts.align parts.phase }
-        ensures { number_says result ≡ size_offset_for 64 (trailing_of self) }
+// Each of these is the layout's method of that name, past the test of its word.
+impl Decoded {
+    // What an empty run adds: a block of the alignment, but for phase 0 nothing.
+    pub fn rounded_phase(self) -> u64
+        ensures { result ≡ up self.parts.phase self.parts.align }
     {
-        let aligned_base = util::round_down_to_next_multiple_of_alignment(
-            self.size_base,
-            parts.align,
-        )?;
-        Ok(aligned_base + parts.phase)
+        let Components { align, phase } = self.parts;
+        if phase == 0 { 0 } else { align }
     }
 
+    fn size_offset(self) -> Result<u64, Refusal>
+        ensures { number_says result ≡ size_offset_for 64 (trailing_of self.layout) }
+    {
+        let aligned_base = util::round_down_to_next_multiple_of_alignment(
+            self.layout.size_base,
+            self.parts.align,
+        )?;
+        Ok(aligned_base + self.parts.phase)
+    }
+
+    fn max_trailing_bytes(self, available: u64) -> Result<u64, Refusal>
+        ensures { number_says result ≡ max_trailing_for 64 (trailing_of self.layout) available }
+    {
+        let size_base = self.layout.size_base;
+        let rounded_phase = self.rounded_phase();
+        if u64::MAX - rounded_phase < size_base {
+            return Err(Refusal::NoRoom);
+        }
+        let minimum_size = size_base + rounded_phase;
+        if available < minimum_size {
+            return Err(Refusal::NoRoom);
+        }
+        let extra_bytes = available - minimum_size;
+        let Components { align, phase } = self.parts;
+        let aligned_bytes = util::round_down_to_next_multiple_of_alignment(extra_bytes, align)?;
+        // An empty run leaves rounded_phase - phase bytes that elements can use.
+        Ok(aligned_bytes + (rounded_phase - phase))
+    }
+
+    fn padding_for_elems(self, elems: u64) -> Result<u64, Refusal>
+        ensures { number_says result ≡ padding_for_elems 64 (trailing_of self.layout) elems }
+    {
+        let layout = self.layout;
+        let Components { align, phase } = self.parts;
+        let rounding_input = phase + trailing_remainder(elems, layout.elem_size, align);
+        let rounding_padding = util::padding_needed_for(rounding_input, align)?;
+        // The bytes of the elements cancel out: what is left is base + phase - offset + padding.
+        let fixed = std::num::wrapping_add_u64(layout.size_base, phase);
+        let past = std::num::wrapping_sub_u64(fixed, layout.offset);
+        Ok(std::num::wrapping_add_u64(past, rounding_padding))
+    }
+
+    // The size where the trailing bytes are at most what fits: the end of the elements and the padding after it.
+    fn size_at(self, elems: u64, bytes: u64) -> Result<u64, SizeRefusal<u64>>
+        requires { (bytes ≡ elems * self.layout.elem_size) × HasSize 64 (trailing_of self.layout) elems }
+        ensures { size_says result ≡ sized (size_at 64 (trailing_of self.layout) elems) }
+    {
+        let padding = self.padding_for_elems(elems)?;
+        let trailing_end = std::num::wrapping_add_u64(self.layout.offset, bytes);
+        Ok(std::num::wrapping_add_u64(trailing_end, padding))
+    }
+
+    fn size_for_elems(self, elems: u64) -> Result<u64, SizeRefusal<u64>>
+        ensures { size_says result ≡ size_given 64 (trailing_of self.layout) elems }
+    {
+        let layout = self.layout;
+        let Ok(max_trailing_bytes) = self.max_trailing_bytes(u64::MAX) else {
+            return Err(SizeRefusal::Refused(Refusal::NoSizeAtZero));
+        };
+        let Some(trailing_size) = util::checked_mul(elems, layout.elem_size) else {
+            return Err(layout.no_size(max_trailing_bytes));
+        };
+        if trailing_size > max_trailing_bytes {
+            return Err(layout.no_size(max_trailing_bytes));
+        }
+        self.size_at(elems, trailing_size)
+    }
+}
+
+impl TrailingSliceLayout<u64> {
     // The base rounded down to a multiple of the alignment, plus the phase.
     pub fn size_offset(self) -> Result<u64, Refusal>
         ensures answer { number_says result ≡ size_offset_for 64 (trailing_of self) }
@@ -83,26 +151,11 @@ impl TrailingSliceLayout<u64> {
     {
         let word = self.size_rounding_align_and_phase;
         let parts = word.components()?;
-        self.size_offset_at(parts)
-    }
-
-    fn max_trailing_bytes_at(self, parts: Components<u64>, available: u64) -> Result<u64, Refusal>
-        requires { IsWord self.size_rounding_align_and_phase.0 parts.align parts.phase }
-        ensures { number_says result ≡ max_trailing_for 64 (trailing_of self) available }
-    {
-        let Components { align, phase } = parts;
-        let rounded_phase = rounded_phase(align, phase);
-        if u64::MAX - rounded_phase < self.size_base {
-            return Err(Refusal::NoRoom);
+        Decoded {
+            layout: self,
+            parts,
         }
-        let minimum_size = self.size_base + rounded_phase;
-        if available < minimum_size {
-            return Err(Refusal::NoRoom);
-        }
-        let extra_bytes = available - minimum_size;
-        let aligned_bytes = util::round_down_to_next_multiple_of_alignment(extra_bytes, align)?;
-        // An empty run leaves rounded_phase - phase bytes that elements can use.
-        Ok(aligned_bytes + (rounded_phase - phase))
+        .size_offset()
     }
 
     // The greatest number of trailing bytes whose size is at most available_bytes.
@@ -113,46 +166,26 @@ impl TrailingSliceLayout<u64> {
     {
         let word = self.size_rounding_align_and_phase;
         let parts = word.components()?;
-        self.max_trailing_bytes_at(parts, available_bytes)
-    }
-
-    fn padding_for_elems_at(self, parts: Components<u64>, elems: u64) -> Result<u64, Refusal>
-        requires { IsWord self.size_rounding_align_and_phase.0 parts.align parts.phase }
-        ensures { number_says result ≡ padding_for_elems 64 (trailing_of self) elems }
-    {
-        let Components { align, phase } = parts;
-        let rounding_input = phase + trailing_remainder(elems, self.elem_size, align);
-        let rounding_padding = util::padding_needed_for(rounding_input, align)?;
-        // The bytes of the elements cancel out: what is left is base + phase - offset + padding.
-        let fixed = std::num::wrapping_add_u64(self.size_base, phase);
-        let past = std::num::wrapping_sub_u64(fixed, self.offset);
-        Ok(std::num::wrapping_add_u64(past, rounding_padding))
+        Decoded {
+            layout: self,
+            parts,
+        }
+        .max_trailing_bytes(available_bytes)
     }
 
     // The size at elems less the end of the elements, modulo 2^64.
     pub fn padding_for_elems(self, elems: u64) -> Result<u64, Refusal>
         ensures answer { number_says result ≡ padding_for_elems 64 (trailing_of self) elems }
-        ensures meaning { Meets (word_causes (trailing_of self).word) (PaddingAt 64 (trailing_of self) elems) (number_says result) }
+        ensures meaning { Meets (word_causes (trailing_of self).word) (PaddingAt 64 (trailing_of self) elems)
+            (number_says result) }
     {
         let word = self.size_rounding_align_and_phase;
         let parts = word.components()?;
-        self.padding_for_elems_at(parts, elems)
-    }
-
-    // The size where the trailing bytes are at most what fits: the end of the elements and the padding after it.
-    fn size_at(
-        self,
-        parts: Components<u64>,
-        elems: u64,
-        bytes: u64,
-    ) -> Result<u64, SizeRefusal<u64>>
-        requires { IsWord self.size_rounding_align_and_phase.0 parts.align parts.phase × (bytes ≡ elems * self.elem_size) × HasSize 64
-            (trailing_of self) elems }
-        ensures { size_says result ≡ sized (size_at 64 (trailing_of self) elems) }
-    {
-        let padding = self.padding_for_elems_at(parts, elems)?;
-        let trailing_end = std::num::wrapping_add_u64(self.offset, bytes);
-        Ok(std::num::wrapping_add_u64(trailing_end, padding))
+        Decoded {
+            layout: self,
+            parts,
+        }
+        .padding_for_elems(elems)
     }
 
     // The greatest count that has a size: as many elements as the greatest number of trailing bytes holds. The divide stands here
@@ -166,22 +199,6 @@ impl TrailingSliceLayout<u64> {
         }
     }
 
-    fn size_for_elems_at(self, parts: Components<u64>, elems: u64) -> Result<u64, SizeRefusal<u64>>
-        requires { IsWord self.size_rounding_align_and_phase.0 parts.align parts.phase }
-        ensures { size_says result ≡ size_given 64 (trailing_of self) elems }
-    {
-        let Ok(max_trailing_bytes) = self.max_trailing_bytes_at(parts, u64::MAX) else {
-            return Err(SizeRefusal::Refused(Refusal::NoSizeAtZero));
-        };
-        let Some(trailing_size) = util::checked_mul(elems, self.elem_size) else {
-            return Err(self.no_size(max_trailing_bytes));
-        };
-        if trailing_size > max_trailing_bytes {
-            return Err(self.no_size(max_trailing_bytes));
-        }
-        self.size_at(parts, elems, trailing_size)
-    }
-
     // The size at elems.
     pub fn size_for_elems(self, elems: u64) -> Result<u64, SizeRefusal<u64>>
         ensures answer { size_says result ≡ size_given 64 (trailing_of self) elems }
@@ -189,6 +206,10 @@ impl TrailingSliceLayout<u64> {
     {
         let word = self.size_rounding_align_and_phase;
         let parts = word.components()?;
-        self.size_for_elems_at(parts, elems)
+        Decoded {
+            layout: self,
+            parts,
+        }
+        .size_for_elems(elems)
     }
 }

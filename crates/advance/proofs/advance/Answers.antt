@@ -9,11 +9,8 @@ use Rattle.trailing_defs.proofs.Calls.{advance_meets}
 use Rattle.util_defs.proofs.Refusals.{means}
 use Rattle.advance.proofs.advance.Goals as goal
 
-pub advance_at-requires : goal.advance_at-requires
-advance_at-requires c = parts_told c.components.result c.components.ensures.meaning c.in_ok-parts.was
-
 pub returns-clause-answer : goal.returns-clause-answer
-returns-clause-answer c = c.advance_at.ensures
+returns-clause-answer c = c.advance_decoded.ensures
 
 pub returns-clause-meaning : goal.returns-clause-meaning
 returns-clause-meaning c = means (advance_meets 64 (trailing_of c.args.tail) c.args.bytes c.args.elem_size (omega arith)) (returns-clause-answer c)

@@ -9,11 +9,8 @@ use Rattle.full_defs.proofs.Forms.{form_meets}
 use Rattle.util_defs.proofs.Refusals.{means}
 use Rattle.full.proofs.normal_form.Goals as goal
 
-pub normal_form_at-requires : goal.normal_form_at-requires
-normal_form_at-requires c = parts_told c.components.result c.components.ensures.meaning c.in_ok-parts.was
-
 pub returns-clause-answer : goal.returns-clause-answer
-returns-clause-answer c = c.normal_form_at.ensures
+returns-clause-answer c = c.decoded_form.ensures
 
 pub returns-clause-meaning : goal.returns-clause-meaning
 returns-clause-meaning c = means (form_meets 64 (trailing_of c.args.layout) (omega arith)) (returns-clause-answer c)

@@ -10,12 +10,12 @@ use Rattle.full.proofs.same_steps.Goals as goal
 pub returns-then-align-align2 : goal.returns-then-align-align2
 returns-then-align-align2 c =
     let a = c.args in
-    stride_first a.elem a.align2 (seen_phase 64 a.elem a.align a.phase) (seen_phase 64 a.elem a.align2 a.phase2) c.requires.0 c.if-align-align2.true
+    stride_first a.elem a.other.align (seen_phase 64 a.elem a.parts.align a.parts.phase) (seen_phase 64 a.elem a.other.align a.other.phase) c.requires.0 c.if-align-align2.true
 
 pub returns-then-elem-align2-eq0 : goal.returns-then-elem-align2-eq0
 returns-then-elem-align2-eq0 c =
     let a = c.args in
-    stride_yes a.elem a.align (seen_phase 64 a.elem a.align a.phase) (seen_phase 64 a.elem a.align2 a.phase2) c.requires.1 c.if-align-align2.false c.if-elem-align2-eq0.true
+    stride_yes a.elem a.parts.align (seen_phase 64 a.elem a.parts.align a.parts.phase) (seen_phase 64 a.elem a.other.align a.other.phase) c.requires.1 c.if-align-align2.false c.if-elem-align2-eq0.true
 
 pub seen_phase-requires : goal.seen_phase-requires
 seen_phase-requires c =
@@ -29,9 +29,9 @@ pub returns-then-align-align2-2 : goal.returns-then-align-align2-2
 returns-then-align-align2-2 c =
     let a = c.args in
     ap₂ eqb c.seen_phase.ensures c.seen_phase-then-align-align2-2.ensures
-    ∙ stride_equal a.elem a.align (seen_phase 64 a.elem a.align a.phase) (seen_phase 64 a.elem a.align2 a.phase2) c.requires.1 c.if-align-align2.false c.if-elem-align2-eq0.false c.if-align-align2-2.true
+    ∙ stride_equal a.elem a.parts.align (seen_phase 64 a.elem a.parts.align a.parts.phase) (seen_phase 64 a.elem a.other.align a.other.phase) c.requires.1 c.if-align-align2.false c.if-elem-align2-eq0.false c.if-align-align2-2.true
 
 pub returns-else-align-align2-2 : goal.returns-else-align-align2-2
 returns-else-align-align2-2 c =
     let a = c.args in
-    stride_no a.elem a.align (seen_phase 64 a.elem a.align a.phase) (seen_phase 64 a.elem a.align2 a.phase2) c.requires.1 c.if-align-align2.false c.if-elem-align2-eq0.false c.if-align-align2-2.false
+    stride_no a.elem a.parts.align (seen_phase 64 a.elem a.parts.align a.parts.phase) (seen_phase 64 a.elem a.other.align a.other.phase) c.requires.1 c.if-align-align2.false c.if-elem-align2-eq0.false c.if-align-align2-2.false

@@ -11,16 +11,10 @@ use Rattle.full_defs.proofs.Full.{agree_meets, agree_answered}
 use Rattle.util_defs.proofs.Refusals.{means}
 use Rattle.full.proofs.sizes_agree.Goals as goal
 
-pub sizes_agree_at-requires : goal.sizes_agree_at-requires
-sizes_agree_at-requires c = (
-  parts_told c.components.result c.components.ensures.meaning c.in_ok-parts.was,
-  parts_told c.components-2.result c.components-2.ensures.meaning c.in_ok-other_parts.was,
-)
-
 pub returns-clause-answer : goal.returns-clause-answer
 returns-clause-answer c =
     let x = parts_told c.components.result c.components.ensures.meaning c.in_ok-parts.was in
-    let y = parts_told c.components-2.result c.components-2.ensures.meaning c.in_ok-other_parts.was in ap answered c.sizes_agree_at.ensures ∙ sym (agree_answered 64 (trailing_of c.args.first) (trailing_of c.args.other) (not_zero x) (not_zero y))
+    let y = parts_told c.components-2.result c.components-2.ensures.meaning c.in_ok-other_parts.was in ap answered c.decoded_agree.ensures ∙ sym (agree_answered 64 (trailing_of c.args.first) (trailing_of c.args.other) (not_zero x) (not_zero y))
 
 pub returns-clause-meaning : goal.returns-clause-meaning
 returns-clause-meaning c =

@@ -17,30 +17,30 @@ use Rattle.padding.proofs.pad_coarser.Goals as goal
 
 pub returns-then-rounded_base-parts : goal.returns-then-rounded_base-parts
 returns-then-rounded_base-parts c =
-    let t = trailing_of c.args.tail in
-    let x = c.requires.1 in
-    let f : up t.base c.args.parts.align + c.args.parts.phase ≡ fixed_part 64 t = ap₂ (λ (y z : ℕ). up t.base y + z) (align_is 64 x (omega arith)) (phase_is 64 x (omega arith)) in
-    let n = up_told 64 (up t.base c.args.parts.align) c.round_up.result (c.round_up.ensures.answer ∙ round_power 64 t.base c.requires.1.power (omega arith)) c.in_ok-rounded_base.was in
+    let t = trailing_of c.args.decoded.layout in
+    let x = c.args.decoded.is_word in
+    let f : up t.base c.args.decoded.parts.align + c.args.decoded.parts.phase ≡ fixed_part 64 t = ap₂ (λ (y z : ℕ). up t.base y + z) (align_is 64 x (omega arith)) (phase_is 64 x (omega arith)) in
+    let n = up_told 64 (up t.base c.args.decoded.parts.align) c.round_up.result (c.round_up.ensures.answer ∙ round_power 64 t.base c.args.decoded.is_word.power (omega arith)) c.in_ok-rounded_base.was in
     past 64 (fixed_part 64 t) (trailing (coarser 64 c.args.align t)) (omega (arith, f, n.0))
 
 pub overflow_sub-align_mask : goal.overflow_sub-align_mask
-overflow_sub-align_mask c = positive c.requires.0
+overflow_sub-align_mask c = positive c.requires
 
 pub overflow_add-result : goal.overflow_add-result
 overflow_add-result c =
-    let v = c.in_ok-rounded_base.rounded_base + c.args.parts.phase in
-    let q = c.requires.0 in
+    let v = c.in_ok-rounded_base.rounded_base + c.args.decoded.parts.phase in
+    let q = c.requires in
     omega (arith, mask_mod v q, mod-lt v (positive q), double 64 q c.ranges.align.fits)
 
 pub returns : goal.returns
 returns c =
-    let t = trailing_of c.args.tail in
-    let x = c.requires.1 in
-    let f : up t.base c.args.parts.align + c.args.parts.phase ≡ fixed_part 64 t = ap₂ (λ (y z : ℕ). up t.base y + z) (align_is 64 x (omega arith)) (phase_is 64 x (omega arith)) in
-    let q = c.requires.0 in
-    let n = up_told 64 (up t.base c.args.parts.align) c.round_up.result (c.round_up.ensures.answer ∙ round_power 64 t.base c.requires.1.power (omega arith)) c.in_ok-rounded_base.was in
-    let v = c.in_ok-rounded_base.rounded_base + c.args.parts.phase in
-    let g : v ≡ fixed_part 64 t = ap (λ (y : ℕ). y + c.args.parts.phase) n.0 ∙ f in
+    let t = trailing_of c.args.decoded.layout in
+    let x = c.args.decoded.is_word in
+    let f : up t.base c.args.decoded.parts.align + c.args.decoded.parts.phase ≡ fixed_part 64 t = ap₂ (λ (y z : ℕ). up t.base y + z) (align_is 64 x (omega arith)) (phase_is 64 x (omega arith)) in
+    let q = c.requires in
+    let n = up_told 64 (up t.base c.args.decoded.parts.align) c.round_up.result (c.round_up.ensures.answer ∙ round_power 64 t.base c.args.decoded.is_word.power (omega arith)) c.in_ok-rounded_base.was in
+    let v = c.in_ok-rounded_base.rounded_base + c.args.decoded.parts.phase in
+    let g : v ≡ fixed_part 64 t = ap (λ (y : ℕ). y + c.args.decoded.parts.phase) n.0 ∙ f in
     let b = mask_down 64 v q c.ranges.align.fits (omega arith) ∙ ap (λ (y : ℕ). down y c.args.align) g in
     let m = mask_mod v q ∙ ap (λ (y : ℕ). y % c.args.align) g in
     ap₂ (λ (y z : ℕ). answered (trailing (record { offset = t.offset; elem = t.elem; base = y; word = c.args.align + z }))) b m
@@ -48,8 +48,8 @@ returns c =
 
 pub returns-in_err-rounded_base : goal.returns-in_err-rounded_base
 returns-in_err-rounded_base c =
-    let t = trailing_of c.args.tail in
-    let x = c.requires.1 in
-    let f : up t.base c.args.parts.align + c.args.parts.phase ≡ fixed_part 64 t = ap₂ (λ (y z : ℕ). up t.base y + z) (align_is 64 x (omega arith)) (phase_is 64 x (omega arith)) in
-    let n = up_refused 64 (up t.base c.args.parts.align) c.round_up.result (c.round_up.ensures.answer ∙ round_power 64 t.base c.requires.1.power (omega arith)) c.in_err-rounded_base.was in
+    let t = trailing_of c.args.decoded.layout in
+    let x = c.args.decoded.is_word in
+    let f : up t.base c.args.decoded.parts.align + c.args.decoded.parts.phase ≡ fixed_part 64 t = ap₂ (λ (y z : ℕ). up t.base y + z) (align_is 64 x (omega arith)) (phase_is 64 x (omega arith)) in
+    let n = up_refused 64 (up t.base c.args.decoded.parts.align) c.round_up.result (c.round_up.ensures.answer ∙ round_power 64 t.base c.args.decoded.is_word.power (omega arith)) c.in_err-rounded_base.was in
     handed_on _ c.from_residual.result _ c.from_residual.ensures.1 (ap refused n.0 ∙ past 64 (fixed_part 64 t) (trailing (coarser 64 c.args.align t)) (omega (arith, f, n.1)))

@@ -9,7 +9,7 @@ use Rattle.padding_defs.specs.Pad.{padded_tail}
 use Rattle.padding.proofs.pad_trailing.Goals as goal
 
 pub pad_coarser-requires : goal.pad_coarser-requires
-pad_coarser-requires c = (c.requires.0, parts_told c.components.result c.components.ensures.meaning c.in_ok-parts.was)
+pad_coarser-requires c = c.requires.0
 
 pub returns-then-parts-align : goal.returns-then-parts-align
 unfolding padded_tail

@@ -11,16 +11,10 @@ use Rattle.trailing_defs.proofs.Calls.{same_meets, same_answered}
 use Rattle.util_defs.proofs.Refusals.{means}
 use Rattle.sequence.proofs.has_same_size_sequence.Goals as goal
 
-pub has_same_size_sequence_at-requires : goal.has_same_size_sequence_at-requires
-has_same_size_sequence_at-requires c = (
-  parts_told c.components.result c.components.ensures.meaning c.in_ok-parts.was,
-  parts_told c.components-2.result c.components-2.ensures.meaning c.in_ok-other_parts.was,
-)
-
 pub returns-clause-answer : goal.returns-clause-answer
 returns-clause-answer c =
     let x = parts_told c.components.result c.components.ensures.meaning c.in_ok-parts.was in
-    let y = parts_told c.components-2.result c.components-2.ensures.meaning c.in_ok-other_parts.was in ap answered c.has_same_size_sequence_at.ensures ∙ sym (same_answered 64 (trailing_of c.args.first) (trailing_of c.args.other) (not_zero x) (not_zero y))
+    let y = parts_told c.components-2.result c.components-2.ensures.meaning c.in_ok-other_parts.was in ap answered c.same_sequence.ensures ∙ sym (same_answered 64 (trailing_of c.args.first) (trailing_of c.args.other) (not_zero x) (not_zero y))
 
 pub returns-clause-meaning : goal.returns-clause-meaning
 returns-clause-meaning c =

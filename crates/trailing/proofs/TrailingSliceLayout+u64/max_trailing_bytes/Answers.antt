@@ -2,18 +2,15 @@
 use Rattle.util.proofs.Told.{handed_on}
 use Rattle.std.proofs.Common.{arith}
 use Rattle.rounding.proofs.Words.{word_stop}
-use Rattle.rounding.proofs.Told.{parts_told, parts_refused}
+use Rattle.rounding.proofs.Told.{parts_refused}
 use Rattle.trailing_defs.specs.Calls.{max_trailing_for}
 use Rattle.trailing.specs.View.{trailing_of}
 use Rattle.trailing_defs.proofs.Calls.{max_trailing_meets}
 use Rattle.util_defs.proofs.Refusals.{means}
 use Rattle.trailing.proofs.TrailingSliceLayout+u64.max_trailing_bytes.Goals as goal
 
-pub max_trailing_bytes_at-requires : goal.max_trailing_bytes_at-requires
-max_trailing_bytes_at-requires c = parts_told c.components.result c.components.ensures.meaning c.in_ok-parts.was
-
 pub returns-clause-answer : goal.returns-clause-answer
-returns-clause-answer c = c.max_trailing_bytes_at.ensures
+returns-clause-answer c = c.max_trailing_bytes.ensures
 
 pub returns-clause-meaning : goal.returns-clause-meaning
 returns-clause-meaning c = means (max_trailing_meets 64 (trailing_of c.args.self) c.args.available_bytes (omega arith)) (returns-clause-answer c)

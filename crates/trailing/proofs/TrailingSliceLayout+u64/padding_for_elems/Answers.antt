@@ -2,18 +2,15 @@
 use Rattle.util.proofs.Told.{handed_on}
 use Rattle.std.proofs.Common.{arith}
 use Rattle.rounding.proofs.Words.{word_stop}
-use Rattle.rounding.proofs.Told.{parts_told, parts_refused}
+use Rattle.rounding.proofs.Told.{parts_refused}
 use Rattle.trailing_defs.specs.Calls.{padding_for_elems}
 use Rattle.trailing.specs.View.{trailing_of}
 use Rattle.trailing_defs.proofs.Calls.{padding_meets}
 use Rattle.util_defs.proofs.Refusals.{means}
 use Rattle.trailing.proofs.TrailingSliceLayout+u64.padding_for_elems.Goals as goal
 
-pub padding_for_elems_at-requires : goal.padding_for_elems_at-requires
-padding_for_elems_at-requires c = parts_told c.components.result c.components.ensures.meaning c.in_ok-parts.was
-
 pub returns-clause-answer : goal.returns-clause-answer
-returns-clause-answer c = c.padding_for_elems_at.ensures
+returns-clause-answer c = c.padding_for_elems.ensures
 
 pub returns-clause-meaning : goal.returns-clause-meaning
 returns-clause-meaning c = means (padding_meets 64 (trailing_of c.args.self) c.args.elems (omega arith)) (returns-clause-answer c)

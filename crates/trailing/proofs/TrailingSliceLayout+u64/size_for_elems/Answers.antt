@@ -1,23 +1,19 @@
 -- `trailing::TrailingSliceLayout::size_for_elems` meets its contract. Assumes nothing.
 use Rattle.std.proofs.Common.{◌≡◌, ℕ, ◌^◌, ◌<◌, sym, ap, ◌∙◌, subst, arith}
 use Rattle.trailing_defs.specs.Size.{Trailing}
-use Rattle.rounding.proofs.Told.{parts_told, parts_refused}
+use Rattle.rounding.proofs.Told.{parts_refused}
 use Rattle.trailing_defs.specs.Sized.{SizeOutcome, refused_by, size_given, SizeMeans}
 use Rattle.trailing.proofs.Told.{size_handed_on}
 use Rattle.trailing.specs.View.{trailing_of}
 use Rattle.trailing_defs.proofs.Sized.{size_means, given_zero}
-use Rattle.util_defs.proofs.Refusals.{means}
 use Rattle.trailing.proofs.TrailingSliceLayout+u64.size_for_elems.Goals as goal
-
-pub size_for_elems_at-requires : goal.size_for_elems_at-requires
-size_for_elems_at-requires c = parts_told c.components.result c.components.ensures.meaning c.in_ok-parts.was
 
 -- an outcome that is the one given means what that means
 told : {o : SizeOutcome} (t : Trailing) (n : ℕ) → t.word < 2 ^ 64 → o ≡ size_given 64 t n → (o ≡ size_given 64 t n) × SizeMeans 64 t n o
 told t n h e = (e, subst (SizeMeans 64 t n) (sym e) (size_means 64 t n h))
 
 pub returns : goal.returns
-returns c = let told_here = told (trailing_of c.args.self) c.args.elems (omega arith) c.size_for_elems_at.ensures in record { answer = told_here.0; meaning = told_here.1 }
+returns c = let told_here = told (trailing_of c.args.self) c.args.elems (omega arith) c.size_for_elems.ensures in record { answer = told_here.0; meaning = told_here.1 }
 
 pub returns-in_err-parts : goal.returns-in_err-parts
 returns-in_err-parts c =

@@ -2,18 +2,15 @@
 use Rattle.util.proofs.Told.{handed_on}
 use Rattle.std.proofs.Common.{arith}
 use Rattle.rounding.proofs.Words.{word_stop}
-use Rattle.rounding.proofs.Told.{parts_told, parts_refused}
+use Rattle.rounding.proofs.Told.{parts_refused}
 use Rattle.trailing_defs.specs.Calls.{size_offset_for}
 use Rattle.trailing.specs.View.{trailing_of}
 use Rattle.trailing_defs.proofs.Calls.{size_offset_meets}
 use Rattle.util_defs.proofs.Refusals.{means}
 use Rattle.trailing.proofs.TrailingSliceLayout+u64.size_offset.Goals as goal
 
-pub size_offset_at-requires : goal.size_offset_at-requires
-size_offset_at-requires c = parts_told c.components.result c.components.ensures.meaning c.in_ok-parts.was
-
 pub returns-clause-answer : goal.returns-clause-answer
-returns-clause-answer c = c.size_offset_at.ensures
+returns-clause-answer c = c.size_offset.ensures
 
 pub returns-clause-meaning : goal.returns-clause-meaning
 returns-clause-meaning c = means (size_offset_meets 64 (trailing_of c.args.self) (omega arith)) (returns-clause-answer c)
