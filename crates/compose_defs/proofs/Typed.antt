@@ -93,9 +93,8 @@ next_member w p l m a ms = go (begin_for w ported a p) refl
         ∙ ap (λ (o : Outcome Layout). and_then o (length ms) composed) (sym (addition_step w p l m (reached w p 0 z ms (begin_checked w a p b) e)))
     go (refused k) b e = absurd (not_composed e)
 
-pub addition_told : (w p : ℕ) (l : Layout) (m : Member) {o : Outcome Layout} {H : Type 0} → o ≡ addition_for w p l m → H
-    → (o ≡ addition_for w p l m) × (NextMember w p l m o × H)
-addition_told w p l m e h = (e, (subst (NextMember w p l m) (sym e) (next_member w p l m), h))
+pub addition_told : (w p : ℕ) (l : Layout) (m : Member) {o : Outcome Layout} → o ≡ addition_for w p l m → (o ≡ addition_for w p l m) × NextMember w p l m o
+addition_told w p l m e = (e, subst (NextMember w p l m) (sym e) (next_member w p l m))
 
 -- what was accepted composes to the working layout, whatever runs before
 goes_on : (w p i : ℕ) (l : Layout) (ms : List Member) → check_for w l ≡ answered tt

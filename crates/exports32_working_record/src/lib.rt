@@ -1,5 +1,5 @@
 // The addition of a record to a working layout at 32 bits for C and Rust: no logic of its own. include/lukaripe32.h is its C
-// side.
+// side. C has each function by its name, so that none is an instance of a generic one.
 #![tactic(auto)]
 
 ghost use Rattle.std.specs.Prelude.{◌≡◌};

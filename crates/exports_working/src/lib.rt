@@ -6,13 +6,13 @@
 ghost use Rattle.std.specs.Prelude.{◌≡◌};
 ghost use Rattle.make.specs.Make.{new_zst_for};
 ghost use Rattle.record_defs.specs.Record.{words_for};
-ghost use Rattle.working.specs.View.{add_says};
+ghost use Rattle.layout.specs.View.{layout_says};
 ghost use Rattle.exports_layouts.specs.Layouts.{words_given, layout_out};
 ghost use Rattle.exports_working.specs.Working.{worked_out, working_for};
 
 use exports_layouts::{Layout, LayoutOut};
 use layout::DstLayout;
-use working::Addition;
+use util::Refusal;
 
 // What an addition gives: the refusal, or 0, and the words of the working layout after it.
 #[derive(Clone, Copy)]
@@ -22,14 +22,13 @@ pub struct Worked {
 }
 
 // An addition as it crosses: on a refusal the words are those that were lent.
-pub fn worked_out(lent: Layout, addition: Addition<u64>) -> Worked
-    ensures { result ≡ worked_out (add_says addition.answer addition.layout) lent }
+pub fn worked_out(lent: Layout, next: Result<DstLayout<u64>, Refusal>) -> Worked
+    ensures { result ≡ worked_out (layout_says next) lent }
 {
-    let answer = addition.answer;
-    match answer {
-        Ok(()) => Worked {
+    match next {
+        Ok(layout) => Worked {
             refusal: 0,
-            layout: exports_layouts::words_out(record::words_from_layout(addition.layout)),
+            layout: exports_layouts::words_out(record::words_from_layout(layout)),
         },
         Err(refusal) => Worked {
             refusal: refusal.number(),

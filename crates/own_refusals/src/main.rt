@@ -11,7 +11,6 @@ use shift::Mode;
 use std::io;
 use trailing::TrailingSliceLayout;
 use util::Refusal;
-use working::Addition;
 
 fn fixed(align: u64) -> DstLayout<u64> {
     DstLayout {
@@ -95,13 +94,13 @@ fn extended(l: DstLayout<u64>, field: DstLayout<u64>) -> u64 {
 }
 
 fn added(l: DstLayout<u64>, field: DstLayout<u64>) -> u64 {
-    refused(working::with_member(l, field, 0).answer)
+    refused(working::with_member(l, field, 0))
 }
 
 // No record: 20, where the working layout is good.
 fn added_record(l: DstLayout<u64>) -> u64 {
     let bytes = [0u8; 1];
-    refused(working::with_record(l, &bytes, 0).answer)
+    refused(working::with_record(l, &bytes, 0))
 }
 
 fn computed(src: DstLayout<u64>, dst: DstLayout<u64>) -> u64 {

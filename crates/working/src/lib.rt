@@ -14,13 +14,6 @@ ghost use Rattle.working.specs.View.{add_says, untouched};
 use layout::DstLayout;
 use util::Refusal;
 
-// What an addition gives: whether the member was accepted, and the working layout after it.
-#[derive(Clone, Copy)]
-pub struct Addition<N> {
-    pub answer: Result<(), Refusal>,
-    pub layout: DstLayout<N>,
-}
-
 // The empty layout, with its own alignment; 0 means that none is asked for. What a composition of no members gives, under any
 // packing.
 pub fn begin(repr_align: u64) -> Result<DstLayout<u64>, Refusal>
@@ -30,52 +23,30 @@ pub fn begin(repr_align: u64) -> Result<DstLayout<u64>, Refusal>
     make::new_zst(repr_align)
 }
 
-// The layout after a step: a refusal leaves it as it was.
-fn settle(own: DstLayout<u64>, next: Result<DstLayout<u64>, Refusal>) -> Addition<u64>
-    ensures answer { add_says result.answer result.layout ≡ layout_says next }
-    ensures lent { untouched result.answer own result.layout }
+// The layout with one member more, by value.
+pub fn with_member(
+    own: DstLayout<u64>,
+    field: DstLayout<u64>,
+    repr_packed: u64,
+) -> Result<DstLayout<u64>, Refusal>
+    ensures answer { layout_says result ≡ addition_for 64 repr_packed (layout_of own) (answered (layout_of field)) }
+    ensures meaning { NextMember 64 repr_packed (layout_of own) (answered (layout_of field)) (layout_says result) }
 {
-    match next {
-        Ok(layout) => Addition {
-            answer: Ok(()),
-            layout,
-        },
-        Err(refusal) => Addition {
-            answer: Err(refusal),
-            layout: own,
-        },
-    }
+    extend::extend(own, field, repr_packed)
 }
 
-// The step of a member's record; the working layout is tested before it.
-fn record_step(
+// The same by the member's record; the working layout is tested before it.
+pub fn with_record(
     own: DstLayout<u64>,
     member: &[u8],
     repr_packed: u64,
 ) -> Result<DstLayout<u64>, Refusal>
-    ensures { layout_says result ≡ addition_for 64 repr_packed (layout_of own) (decode_for 64 member.now) }
+    ensures answer { layout_says result ≡ addition_for 64 repr_packed (layout_of own) (decode_for 64 member.now) }
+    ensures meaning { NextMember 64 repr_packed (layout_of own) (decode_for 64 member.now) (layout_says result) }
 {
     own.check()?;
     let field = record::decode(member)?;
-    extend::extend(own, field, repr_packed)
-}
-
-// The addition of a member by value, to a layout by value.
-pub fn with_member(own: DstLayout<u64>, field: DstLayout<u64>, repr_packed: u64) -> Addition<u64>
-    ensures answer { add_says result.answer result.layout ≡ addition_for 64 repr_packed (layout_of own) (answered (layout_of field)) }
-    ensures meaning { NextMember 64 repr_packed (layout_of own) (answered (layout_of field)) (add_says result.answer result.layout) }
-    ensures lent { untouched result.answer own result.layout }
-{
-    settle(own, extend::extend(own, field, repr_packed))
-}
-
-// The addition of a member by its record, to a layout by value.
-pub fn with_record(own: DstLayout<u64>, member: &[u8], repr_packed: u64) -> Addition<u64>
-    ensures answer { add_says result.answer result.layout ≡ addition_for 64 repr_packed (layout_of own) (decode_for 64 member.now) }
-    ensures meaning { NextMember 64 repr_packed (layout_of own) (decode_for 64 member.now) (add_says result.answer result.layout) }
-    ensures lent { untouched result.answer own result.layout }
-{
-    settle(own, record_step(own, member, repr_packed))
+    with_member(own, field, repr_packed)
 }
 
 // The addition of a member to a lent layout, which a refusal leaves as it was.
@@ -84,9 +55,8 @@ pub fn add(own: &mut DstLayout<u64>, field: DstLayout<u64>, repr_packed: u64) ->
     ensures meaning { NextMember 64 repr_packed (layout_of own.old) (answered (layout_of field)) (add_says result own.new) }
     ensures lent { untouched result own.old own.new }
 {
-    let addition = with_member(*own, field, repr_packed);
-    *own = addition.layout;
-    addition.answer
+    *own = with_member(*own, field, repr_packed)?;
+    Ok(())
 }
 
 // The addition of a member by its record to a lent layout, which a refusal leaves as it was.
@@ -97,7 +67,6 @@ pub fn add_record(own: &mut DstLayout<u64>, member: &[u8], repr_packed: u64) -> 
         (add_says result own.new) }
     ensures lent { untouched result own.old own.new }
 {
-    let addition = with_record(*own, member, repr_packed);
-    *own = addition.layout;
-    addition.answer
+    *own = with_record(*own, member, repr_packed)?;
+    Ok(())
 }

@@ -1,5 +1,6 @@
-// A layout built member by member at 32 bits (document 02, request 14): a lent working layout, altered on each added member. The
-// additions by value do the work; those over the reference copy the lent layout in, and what came of it out.
+// A layout built member by member at 32 bits (document 02, request 14): a lent working layout, altered on each added member.
+// The additions by value do the work; those over the reference copy the lent layout in, and what came of it out. Functions of
+// their own, and no instances of generic ones: the step is another function than at 64 bits, and is all that is called.
 #![tactic(auto)]
 
 ghost use Rattle.working.specs.View.{add_says, untouched};
@@ -13,7 +14,6 @@ ghost use Rattle.compose_defs.specs.Typed.{addition_for, NextMember};
 
 use layout::DstLayout;
 use util::Refusal;
-use working::Addition;
 
 // The empty layout, with its own alignment; 0 means that none is asked for. What a composition of no members gives, under any
 // packing.
@@ -24,52 +24,30 @@ pub fn begin(repr_align: u32) -> Result<DstLayout<u32>, Refusal>
     layouts32::new_zst(repr_align)
 }
 
-// The layout after a step: a refusal leaves it as it was.
-fn settle(own: DstLayout<u32>, next: Result<DstLayout<u32>, Refusal>) -> Addition<u32>
-    ensures answer { add_says result.answer result.layout ≡ layout_says next }
-    ensures lent { untouched result.answer own result.layout }
+// The layout with one member more, by value.
+pub fn with_member(
+    own: DstLayout<u32>,
+    field: DstLayout<u32>,
+    repr_packed: u32,
+) -> Result<DstLayout<u32>, Refusal>
+    ensures answer { layout_says result ≡ addition_for 32 repr_packed (layout_of own) (answered (layout_of field)) }
+    ensures meaning { NextMember 32 repr_packed (layout_of own) (answered (layout_of field)) (layout_says result) }
 {
-    match next {
-        Ok(layout) => Addition {
-            answer: Ok(()),
-            layout,
-        },
-        Err(refusal) => Addition {
-            answer: Err(refusal),
-            layout: own,
-        },
-    }
+    steps32::extend(own, field, repr_packed)
 }
 
-// The step of a member's record; the working layout is tested before it.
-fn record_step(
+// The same by the member's record; the working layout is tested before it.
+pub fn with_record(
     own: DstLayout<u32>,
     member: &[u8],
     repr_packed: u32,
 ) -> Result<DstLayout<u32>, Refusal>
-    ensures { layout_says result ≡ addition_for 32 repr_packed (layout_of own) (decode_for 32 member.now) }
+    ensures answer { layout_says result ≡ addition_for 32 repr_packed (layout_of own) (decode_for 32 member.now) }
+    ensures meaning { NextMember 32 repr_packed (layout_of own) (decode_for 32 member.now) (layout_says result) }
 {
     layouts32::check(own)?;
     let field = record32::decode(member)?;
-    steps32::extend(own, field, repr_packed)
-}
-
-// The addition of a member by value, to a layout by value.
-pub fn with_member(own: DstLayout<u32>, field: DstLayout<u32>, repr_packed: u32) -> Addition<u32>
-    ensures answer { add_says result.answer result.layout ≡ addition_for 32 repr_packed (layout_of own) (answered (layout_of field)) }
-    ensures meaning { NextMember 32 repr_packed (layout_of own) (answered (layout_of field)) (add_says result.answer result.layout) }
-    ensures lent { untouched result.answer own result.layout }
-{
-    settle(own, steps32::extend(own, field, repr_packed))
-}
-
-// The addition of a member by its record, to a layout by value.
-pub fn with_record(own: DstLayout<u32>, member: &[u8], repr_packed: u32) -> Addition<u32>
-    ensures answer { add_says result.answer result.layout ≡ addition_for 32 repr_packed (layout_of own) (decode_for 32 member.now) }
-    ensures meaning { NextMember 32 repr_packed (layout_of own) (decode_for 32 member.now) (add_says result.answer result.layout) }
-    ensures lent { untouched result.answer own result.layout }
-{
-    settle(own, record_step(own, member, repr_packed))
+    with_member(own, field, repr_packed)
 }
 
 // The addition of a member to a lent layout, which a refusal leaves as it was.
@@ -78,9 +56,8 @@ pub fn add(own: &mut DstLayout<u32>, field: DstLayout<u32>, repr_packed: u32) ->
     ensures meaning { NextMember 32 repr_packed (layout_of own.old) (answered (layout_of field)) (add_says result own.new) }
     ensures lent { untouched result own.old own.new }
 {
-    let addition = with_member(*own, field, repr_packed);
-    *own = addition.layout;
-    addition.answer
+    *own = with_member(*own, field, repr_packed)?;
+    Ok(())
 }
 
 // The addition of a member by its record to a lent layout, which a refusal leaves as it was.
@@ -91,7 +68,6 @@ pub fn add_record(own: &mut DstLayout<u32>, member: &[u8], repr_packed: u32) -> 
         (add_says result own.new) }
     ensures lent { untouched result own.old own.new }
 {
-    let addition = with_record(*own, member, repr_packed);
-    *own = addition.layout;
-    addition.answer
+    *own = with_record(*own, member, repr_packed)?;
+    Ok(())
 }

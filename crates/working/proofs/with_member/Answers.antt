@@ -6,4 +6,7 @@ use Rattle.compose_defs.proofs.Typed.{addition_value, addition_told}
 use Rattle.working.proofs.with_member.Goals as goal
 
 pub returns : goal.returns
-returns c = let told_here = addition_told 64 c.args.repr_packed (layout_of c.args.own) (answered (layout_of c.args.field)) (c.settle.ensures.answer ∙ c.extend.ensures.answer ∙ sym (addition_value 64 c.args.repr_packed (layout_of c.args.own) (layout_of c.args.field))) c.settle.ensures.lent in record { answer = told_here.0; meaning = told_here.1.0; lent = told_here.1.1 }
+returns c =
+    let told = addition_told 64 c.args.repr_packed (layout_of c.args.own) (answered (layout_of c.args.field))
+    (c.extend.ensures.answer ∙ sym (addition_value 64 c.args.repr_packed (layout_of c.args.own) (layout_of c.args.field))) in
+    record { answer = told.0; meaning = told.1 }

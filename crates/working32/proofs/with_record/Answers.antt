@@ -1,9 +1,28 @@
 -- `working32::with_record` meets its contract. Assumes nothing.
-use Rattle.layout.specs.View.{layout_of}
-use mathlib.Core.Path.{◌∙◌}
+use Rattle.util.proofs.Told.{handed_on}
+use mathlib.Core.Path.{sym, ap, ◌∙◌}
+use Rattle.util_defs.proofs.Tables.{told_by}
+use Rattle.layout.specs.View.{check_says, layout_of, layout_says}
 use Rattle.record_defs.specs.Record.{decode_for}
-use Rattle.compose_defs.proofs.Typed.{addition_told}
+use Rattle.compose_defs.specs.Compose.{member_step, ported}
+use Rattle.compose_defs.specs.Typed.{addition_for}
+use Rattle.compose_defs.proofs.Typed.{addition_step, addition_off, addition_told}
 use Rattle.working32.proofs.with_record.Goals as goal
 
 pub returns : goal.returns
-returns c = let told_here = addition_told 32 c.args.repr_packed (layout_of c.args.own) (decode_for 32 c.args.member.now) (c.settle.ensures.answer ∙ c.record_step.ensures) c.settle.ensures.lent in record { answer = told_here.0; meaning = told_here.1.0; lent = told_here.1.1 }
+returns c =
+    let told = addition_told 32 c.args.repr_packed (layout_of c.args.own) (decode_for 32 c.args.member.now)
+    (c.with_member.ensures.answer ∙ ap (addition_for 32 c.args.repr_packed (layout_of c.args.own)) (sym (told_by layout_says c.decode.ensures.answer c.in_ok-field.was))) in
+    record { answer = told.0; meaning = told.1 }
+
+pub returns-in_err-field : goal.returns-in_err-field
+returns-in_err-field c =
+    let told = addition_told 32 c.args.repr_packed (layout_of c.args.own) (decode_for 32 c.args.member.now)
+    (handed_on _ c.from_residual-in_err-field.result _ c.from_residual-in_err-field.ensures.1 (sym (addition_step 32 c.args.repr_packed (layout_of c.args.own) (decode_for 32 c.args.member.now) (told_by check_says c.check.ensures.answer c.in_ok-check.was) ∙ ap (member_step 32 ported c.args.repr_packed (layout_of c.args.own)) (told_by layout_says c.decode.ensures.answer c.in_err-field.was)))) in
+    record { answer = told.0; meaning = told.1 }
+
+pub returns-in_err-check : goal.returns-in_err-check
+returns-in_err-check c =
+    let told = addition_told 32 c.args.repr_packed (layout_of c.args.own) (decode_for 32 c.args.member.now)
+    (handed_on _ c.from_residual.result _ c.from_residual.ensures.1 (sym (addition_off 32 c.args.repr_packed (layout_of c.args.own) (decode_for 32 c.args.member.now) (told_by check_says c.check.ensures.answer c.in_err-check.was)))) in
+    record { answer = told.0; meaning = told.1 }
