@@ -1,5 +1,5 @@
 -- What the answers of this crate say. Assumes nothing.
-use Rattle.std.specs.Prelude.{Bool, true, false, ℕ, replicate, Option, Some, None}
+use Rattle.std.specs.Prelude.{Bool, true, false, Option, Some, None}
 use Rattle.recorded_defs.specs.Lines as lines
 use Rattle.recorded.specs.declared.Number.{Number}
 use Rattle.recorded.specs.declared.Line.{Line}
@@ -9,10 +9,9 @@ abbrev pub number_says : Option Number → lines.Number
 number_says (Some n) = lines.number n.value n.is_last n.next
 number_says None = lines.none
 
--- a line as it is returned; of one that does not read as numbers nothing, and the end of the text
-abbrev pub line_out : lines.Read → ℕ → Line
-line_out (lines.line ns count next) end = record { numbers = ns; count = count; next = next; is_good = true }
-line_out lines.unread end = record { numbers = replicate 64 0; count = 0; next = end; is_good = false }
+abbrev pub line_says : Option Line → lines.Read
+line_says (Some l) = lines.line l.numbers l.count l.next
+line_says None = lines.unread
 
 -- one line more, which agrees or differs
 abbrev pub counted : Tally → Bool → Tally

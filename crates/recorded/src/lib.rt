@@ -2,11 +2,11 @@
 // rust/differential/recorded.rs says what the numbers of a line are; tools/record writes them.
 #![tactic(auto)]
 
-ghost use Rattle.std.specs.Prelude.{IfOk, ◌≡◌, false, ◌+◌, ◌≤◌, length, drop, replicate};
+ghost use Rattle.std.specs.Prelude.{IfOk, IfSome, ◌≡◌, false, ◌+◌, ◌<◌, ◌≤◌, length, drop, replicate};
 ghost use Rattle.io.specs.Counts.{IsPrefixLen};
-ghost use Rattle.recorded_defs.specs.Lines.{digit_of, end_of, number_from, unread, line_at, Ahead, same_from, agrees_with, one_more};
+ghost use Rattle.recorded_defs.specs.Lines.{digit_of, end_of, number_from, line_at, same_from, agrees_with, one_more, bytes_from};
 ghost use Rattle.std.specs.Fn.{FnReturnsAt};
-ghost use Rattle.recorded.specs.View.{number_says, line_out, counted};
+ghost use Rattle.recorded.specs.View.{number_says, line_says, counted};
 ghost use Rattle.recorded.specs.Tallies.{Tallies, TalliesSome};
 
 use std::io::ErrorKind;
@@ -29,14 +29,14 @@ struct Number {
     is_last: bool,
 }
 
+// A line that reads as numbers. They stand in an array of fixed length, as those that are told do: nothing here has a heap.
 #[derive(Clone, Copy)]
-pub struct Line {
+struct Line {
     // The numbers of the line, and 0 after them.
-    pub numbers: [u64; WIDTH],
-    pub count: usize,
-    // Where the next line starts; the end of the text where this one does not read as numbers.
-    pub next: usize,
-    pub is_good: bool,
+    numbers: [u64; WIDTH],
+    count: usize,
+    // Where the next line starts.
+    next: usize,
 }
 
 // What a call tells: how many inputs it took from the line, and the numbers of its answer, which the line has behind them.
@@ -46,6 +46,11 @@ pub struct Told {
     pub length: usize,
     pub numbers: [u64; LENGTH],
 }
+
+// The most bytes that a line lends: eight records.
+pub const BYTES: usize = 384;
+
+const WORDS: usize = BYTES / words::WORD_BYTES;
 
 // Lines, and how many of them differ from what was told.
 #[derive(Clone, Copy)]
@@ -155,8 +160,7 @@ fn read_number(text: &[u8], from: usize) -> Option<Number>
     ensures { number_says result ≡ number_from 0 false from (drop from text.now) }
 {
     let mut value: u64 = 0;
-    let mut at = from;
-    while at < text.len() {
+    for at in from..text.len() {
         let byte = text[at];
         let digit = digit(byte);
         if digit > 9 {
@@ -166,60 +170,34 @@ fn read_number(text: &[u8], from: usize) -> Option<Number>
             return None;
         }
         value = value * 10 + digit;
-        at += 1;
     }
     None
 }
 
-// The line that starts at from.
-pub fn read_line(text: &[u8], from: usize) -> Line
-    ensures answer { result ≡ line_out (line_at text.now from) (length text.now) }
-    ensures ahead { Ahead text.now from result.next }
+// The line that starts at from, if it reads as numbers.
+fn read_line(text: &[u8], from: usize) -> Option<Line>
+    ensures answer { line_says result ≡ line_at text.now from }
+    ensures ahead { IfSome result (λ l. (from < l.next) × (l.next ≤ length text.now)) }
 {
     let mut numbers = [0u64; WIDTH];
-    let mut count: usize = 0;
     let mut at = from;
-    while count < WIDTH {
-        match read_number(text, at) {
-            Some(number) => {
-                let Number {
-                    value,
-                    next,
-                    is_last,
-                } = number;
-                numbers[count] = value;
-                count += 1;
-                at = next;
-                if is_last {
-                    return Line {
-                        numbers,
-                        count,
-                        next,
-                        is_good: true,
-                    };
-                }
-            }
-            None => {
-                return no_line(text.len());
-            }
+    for count in 0..WIDTH {
+        let number = read_number(text, at)?;
+        numbers[count] = number.value;
+        at = number.next;
+        if number.is_last {
+            return Some(Line {
+                numbers,
+                count: count + 1,
+                next: at,
+            });
         }
     }
-    no_line(text.len())
+    None
 }
 
-// What stands in place of a line that does not read as numbers.
-fn no_line(end: usize) -> Line
-    ensures { result ≡ line_out unread end }
-{
-    Line {
-        numbers: [0; WIDTH],
-        count: 0,
-        next: end,
-        is_good: false,
-    }
-}
-
-// How many lines the text has, and how many of them differ from what the calls tell.
+// How many lines the text has, and how many of them differ from what the calls tell. Behind one that does not read as numbers
+// nothing is read. Lines have lengths of their own, so that no `for` goes from one to the next.
 pub fn replay<F: Fn(&[u64; WIDTH]) -> Told>(text: &[u8], call: F) -> Tally
     requires { F.IsAlwaysCallable call }
     ensures { Tallies (FnReturnsAt F.Fn call) text.now 0 (record { lines = 0; differ = 0 }) result }
@@ -230,7 +208,9 @@ pub fn replay<F: Fn(&[u64; WIDTH]) -> Told>(text: &[u8], call: F) -> Tally
     };
     let mut at = 0;
     while at < text.len() {
-        let line = read_line(text, at);
+        let Some(line) = read_line(text, at) else {
+            return tally.with_line(false);
+        };
         let numbers = line.numbers;
         let told = call(&numbers);
         tally = tally.with_line(agrees(&numbers, line.count, told));
@@ -286,12 +266,22 @@ fn is_same(line: &[u64; WIDTH], from: usize, told: [u64; LENGTH], length: usize)
     requires { (from + length ≤ 64) × (length ≤ 13) }
     ensures { result ≡ same_from length line.now from told 0 }
 {
-    let mut k = 0;
-    while k < length {
+    for k in 0..length {
         if line[from + k] != told[k] {
             return false;
         }
-        k += 1;
     }
     true
+}
+
+// The bytes of the words of the line from this one on.
+pub fn bytes_from(line: &[u64; WIDTH], from: usize) -> [u8; BYTES]
+    requires { from ≤ 16 }
+    ensures { result ≡ bytes_from 48 line.now from }
+{
+    let mut bytes = [0u8; BYTES];
+    for k in 0..WORDS {
+        words::put_word(&mut bytes, k * words::WORD_BYTES, line[from + k]);
+    }
+    bytes
 }

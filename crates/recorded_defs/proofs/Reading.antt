@@ -1,15 +1,17 @@
 -- Reading a line: one byte more of a number, one number more of a line, one number more that is the same. Assumes nothing.
 use mathlib.Core.Path.{◌≡◌, refl, sym, subst}
 use mathlib.Core.Bool.{Bool, true, false, cond}
-use mathlib.Core.List.{List, [], ◌∷◌}
-use Prim.Native.Nat.{ℕ, suc, ◌+◌, ◌-◌, ◌*◌, ◌≤◌, ◌<◌}
+use mathlib.Core.List.{List, [], ◌∷◌, ◌++◌}
+use Prim.Native.Nat.{ℕ, zero, suc, ◌+◌, ◌-◌, ◌*◌, ◌≤◌, ◌<◌}
 use native.Mathlib.Omega.{arith}
 use borrow.Author.Tests.{lt-ltb, le-ltb, eq-eqb, ne_eqb}
 use lib.Dec.{eqb, ltb}
 use lib.ListN.{length, drop, get_or, set, drop_of_length-le, length-drop}
 use lib.Seq.{drop-cons}
 use Rattle.util_defs.specs.Width.{M}
-use Rattle.recorded_defs.specs.Lines.{digit_of, Number, number, none, end_of, number_from, line, unread, line_from, same_from}
+use Rattle.words.specs.Bytes.{word_bytes}
+use Rattle.words.proofs.LittleEndian.{more}
+use Rattle.recorded_defs.specs.Lines.{bytes_from, digit_of, Number, number, none, end_of, number_from, line, unread, line_from, same_from}
 
 -- the byte before 0, 0, 9, and the byte after 9
 pub digit_edges : (digit_of 47 ≡ 10) × (digit_of 48 ≡ 0) × (digit_of 57 ≡ 9) × (digit_of 58 ≡ 10)
@@ -120,3 +122,13 @@ same_begun n i xs ys =
     let f : n - 0 ≡ n = omega arith in
     let g : i + 0 ≡ i = omega arith in
     rw (f, g)
+
+-- the bytes of words: one word more, and how many they are
+pub bytes_on : (k from : ℕ) (ns : List ℕ) → bytes_from (k + 1) ns from ≡ bytes_from k ns from ++ word_bytes (get_or ns (from + k) 0)
+unfolding bytes_from
+bytes_on k from ns = let f : k + 1 ≡ suc k = omega arith in rw f
+
+pub bytes_length : (k from : ℕ) (ns : List ℕ) → length (bytes_from k ns from) ≡ k * 8
+unfolding bytes_from
+bytes_length zero from ns = refl
+bytes_length (suc k) from ns = omega (arith, more (bytes_from k ns from) (k * 8) (get_or ns (from + k) 0) (bytes_length k from ns))

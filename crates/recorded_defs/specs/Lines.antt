@@ -1,6 +1,7 @@
 -- Recorded answers: a line is decimal numbers with single spaces between. Assumes nothing.
-use Rattle.std.specs.Prelude.{Bool, true, false, cond, List, [], ◌∷◌, ℕ, zero, suc, ◌+◌, ◌-◌, ◌*◌, ◌<◌, ◌≤◌, eqb, ltb, length, drop, get_or, set, replicate}
+use Rattle.std.specs.Prelude.{Bool, true, false, cond, List, [], ◌∷◌, ℕ, zero, suc, ◌+◌, ◌-◌, ◌*◌, ◌++◌, eqb, ltb, drop, get_or, set, replicate}
 use Rattle.util_defs.specs.Width.{M}
+use Rattle.words.specs.Bytes.{word_bytes}
 
 -- the value of a digit in ASCII, and 10 for any other byte
 abbrev pub digit_of : ℕ → ℕ
@@ -42,10 +43,6 @@ line_from (suc k) s at ns count =
 abbrev pub line_at : List ℕ → ℕ → Read
 line_at s from = line_from 64 s from (replicate 64 0) 0
 
--- what comes after a line is further on in the text
-abbrev pub Ahead : List ℕ → ℕ → ℕ → Type 0
-Ahead s from next = from < length s → (from < next) × (next ≤ length s)
-
 -- k numbers of a list from i on are those of another from j on
 unfoldable pub same_from : ℕ → List ℕ → ℕ → List ℕ → ℕ → Bool
 same_from zero xs i ys j = true
@@ -61,3 +58,8 @@ agrees_with ns count inputs k told =
 -- one more, where 64 bits hold it
 abbrev pub one_more : ℕ → ℕ
 one_more n = cond (ltb n (M 64)) (n + 1) n
+
+-- the bytes of k words of a line from one on
+unfoldable pub bytes_from : ℕ → List ℕ → ℕ → List ℕ
+bytes_from zero ns from = []
+bytes_from (suc k) ns from = bytes_from k ns from ++ word_bytes (get_or ns (from + k) 0)

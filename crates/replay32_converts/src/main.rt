@@ -5,17 +5,12 @@ mod calls;
 
 use calls::call;
 use std::io;
-use std::rt::Files;
-
-fn report<R: Files + Print + Eprint>(rt: &R, name: &str) -> io::Result<()> {
-    let tally = recorded::replay_file(rt, name, call)?;
-    println!(rt; "{name}: {tally}")
-}
 
 // The lines of `wrong` are wrong on purpose, in one number or in shape: a replay that misses one writes another count.
 fn main(rt: HostRuntime) -> io::Result<()> {
     for name in ["answers", "full", "wrong"] {
-        report(&rt, name)?;
+        let tally = recorded::replay_file(&rt, name, call)?;
+        println!(rt; "{name}: {tally}")?;
     }
     Ok(())
 }

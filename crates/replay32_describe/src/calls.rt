@@ -7,10 +7,7 @@ use exports_short::MovedOut;
 use exports32_layouts::{Layout32, LayoutOut32};
 use exports32_lists::ComposedOut32;
 use numbers32::low_word;
-use recorded::{LENGTH, Told, WIDTH};
-
-// The greatest length of bytes; no line agrees with a greater one.
-const BYTES: usize = 384;
+use recorded::{BYTES, LENGTH, Told, WIDTH};
 
 // The output of a rewriting is the front of these bytes, which are 165 before. No line agrees with a longer output, nor with one
 // that is looked at from a later word on.
@@ -85,32 +82,12 @@ fn first(line: &[u64; WIDTH]) -> Layout32 {
     }
 }
 
-// The bytes of the words of the line from this one on.
-fn bytes_from(line: &[u64; WIDTH], from: usize) -> [u8; BYTES] {
-    let mut bytes = [0u8; BYTES];
-    let mut at = from;
-    let mut rest: u64 = 0;
-    let mut k = 0;
-    while k < BYTES {
-        if k % 8 == 0 {
-            if at < WIDTH {
-                rest = line[at];
-                at += 1;
-            }
-        }
-        bytes[k] = (rest % 256) as u8;
-        rest /= 256;
-        k += 1;
-    }
-    bytes
-}
-
 fn read(line: &[u64; WIDTH]) -> Told {
     let length = line[1] as usize;
     if length > BYTES {
         return tell_none();
     }
-    let bytes = bytes_from(line, 2);
+    let bytes = recorded::bytes_from(line, 2);
     let answer = exports32_describe::lukaripe32_read(&bytes[..length]);
     tell_composed(1 + (length + 7) / 8, answer)
 }
@@ -175,7 +152,7 @@ fn rewritten(line: &[u64; WIDTH]) -> Told {
     if from > LAST_SEEN {
         return tell_none();
     }
-    let bytes = bytes_from(line, 4);
+    let bytes = recorded::bytes_from(line, 4);
     let mut area = [165u8; AREA];
     let inputs = 3 + (length + 7) / 8;
     rewritten_into(
@@ -188,7 +165,7 @@ fn rewritten(line: &[u64; WIDTH]) -> Told {
     )
 }
 
-// What the function of the line tells.
+// What the function of the line tells. Its number is read from a file, so that a match on it is the plainest table of functions.
 pub(crate) fn call(line: &[u64; WIDTH]) -> Told {
     match line[0] {
         51 => read(line),

@@ -257,7 +257,7 @@ fn full(line: &[u64; WIDTH]) -> Told {
     }
 }
 
-// What the function of the line tells.
+// What the function of the line tells. Its number is read from a file, so that a match on it is the plainest table of functions.
 pub(crate) fn call(line: &[u64; WIDTH]) -> Told {
     match line[0] {
         48 => padding_of_counts(line),

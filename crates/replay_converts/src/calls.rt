@@ -208,7 +208,7 @@ fn carried_full(line: &[u64; WIDTH]) -> CarriedOut {
     )
 }
 
-// What the function of the line tells.
+// What the function of the line tells. Its number is read from a file, so that a match on it is the plainest table of functions.
 pub(crate) fn call(line: &[u64; WIDTH]) -> Told {
     match line[0] {
         28 => tell_cast(cast(line)),

@@ -7,10 +7,7 @@ use exports_layouts::{ComposedOut, Layout, LayoutOut};
 use exports_numbers::Number;
 use exports_short::MovedOut;
 use exports_working::Worked;
-use recorded::{LENGTH, Told, WIDTH};
-
-// The greatest length of bytes, eight records; no line agrees with a greater one.
-const BYTES: usize = 384;
+use recorded::{BYTES, LENGTH, Told, WIDTH};
 
 // The greatest length of a lent slice, more than there are members.
 const SLICE: usize = 16;
@@ -107,32 +104,12 @@ fn second(line: &[u64; WIDTH]) -> Layout {
     }
 }
 
-// The bytes of the words of the line from this one on.
-fn bytes_from(line: &[u64; WIDTH], from: usize) -> [u8; BYTES] {
-    let mut bytes = [0u8; BYTES];
-    let mut at = from;
-    let mut rest: u64 = 0;
-    let mut k = 0;
-    while k < BYTES {
-        if k % 8 == 0 {
-            if at < WIDTH {
-                rest = line[at];
-                at += 1;
-            }
-        }
-        bytes[k] = (rest % 256) as u8;
-        rest /= 256;
-        k += 1;
-    }
-    bytes
-}
-
 fn decode(line: &[u64; WIDTH]) -> Told {
     let length = line[1] as usize;
     if length > BYTES {
         return tell_none();
     }
-    let bytes = bytes_from(line, 2);
+    let bytes = recorded::bytes_from(line, 2);
     let answer = exports_layouts::lukaripe_decode(&bytes[..length]);
     tell_layout(1 + (length + 7) / 8, answer)
 }
@@ -171,7 +148,7 @@ fn composed(line: &[u64; WIDTH]) -> Told {
     if length > BYTES {
         return tell_none();
     }
-    let bytes = bytes_from(line, 4);
+    let bytes = recorded::bytes_from(line, 4);
     let answer = composition(line[0], line[1], line[2], &bytes[..length]);
     tell_composed(3 + (length + 7) / 8, answer)
 }
@@ -225,7 +202,7 @@ fn placed(line: &[u64; WIDTH]) -> Told {
     if gaps_length > SLICE {
         return tell_none();
     }
-    let bytes = bytes_from(line, 7);
+    let bytes = recorded::bytes_from(line, 7);
     let mut places = [0u64; SLICE];
     let mut gaps = [0u64; SLICE];
     let answer = exports_places::lukaripe_for_repr_c_struct_places(
@@ -276,7 +253,7 @@ fn worked_by_record(line: &[u64; WIDTH]) -> Told {
     if length > BYTES {
         return tell_none();
     }
-    let bytes = bytes_from(line, 9);
+    let bytes = recorded::bytes_from(line, 9);
     let answer = exports_working_record::add_record_words(first(line), &bytes[..length], line[7]);
     tell_worked(8 + (length + 7) / 8, answer)
 }
@@ -286,7 +263,7 @@ fn decode_short(line: &[u64; WIDTH]) -> Told {
     if length > BYTES {
         return tell_none();
     }
-    let bytes = bytes_from(line, 2);
+    let bytes = recorded::bytes_from(line, 2);
     let answer = exports_short::lukaripe_decode_short(&bytes[..length]);
     tell_layout(1 + (length + 7) / 8, answer)
 }
@@ -391,7 +368,7 @@ fn moved(line: &[u64; WIDTH]) -> Told {
     if from > LAST_SEEN {
         return tell_none();
     }
-    let bytes = bytes_from(line, 4);
+    let bytes = recorded::bytes_from(line, 4);
     let mut area = [165u8; AREA];
     let inputs = 3 + (length + 7) / 8;
     moved_into(
@@ -434,7 +411,7 @@ fn listed(line: &[u64; WIDTH]) -> Told {
     }
 }
 
-// What the function of the line tells.
+// What the function of the line tells. Its number is read from a file, so that a match on it is the plainest table of functions.
 pub(crate) fn call(line: &[u64; WIDTH]) -> Told {
     match line[0] {
         19 => tell_layout(

@@ -5,18 +5,13 @@ mod calls;
 
 use calls::call;
 use std::io;
-use std::rt::Files;
-
-fn report<R: Files + Print + Eprint>(rt: &R, name: &str) -> io::Result<()> {
-    let tally = recorded::replay_file(rt, name, call)?;
-    println!(rt; "{name}: {tally}")
-}
 
 // The answers of equal sizes and forms, of the padding over counts and of all cases stand in files of their own. The lines of
 // `wrong` are wrong on purpose, in one number or in shape: a replay that misses one writes another count.
 fn main(rt: HostRuntime) -> io::Result<()> {
     for name in ["answers", "full", "share", "cases", "wrong"] {
-        report(&rt, name)?;
+        let tally = recorded::replay_file(&rt, name, call)?;
+        println!(rt; "{name}: {tally}")?;
     }
     Ok(())
 }

@@ -1,46 +1,46 @@
 -- `recorded::read_line` meets its contract. Assumes nothing.
 use mathlib.Core.Path.{◌≡◌, refl, sym, ap, ◌∙◌}
-use mathlib.Core.Bool.{Bool, true, false}
-use Prim.Native.Nat.{◌-◌}
+use mathlib.Core.Bool.{Bool, false}
+use mathlib.Core.List.{List}
+use Prim.Native.Nat.{ℕ}
+use Rattle.std.specs.Prelude.{Option, Some}
 use native.Mathlib.Omega.{arith}
-use lib.ListN.{length, drop}
-use Rattle.recorded_defs.specs.Lines.{number, number_from, Read}
-use Rattle.recorded.specs.View.{number_says, line_out}
+use lib.ListN.{drop}
+use Rattle.recorded_defs.specs.Lines.{number, number_from}
+use Rattle.recorded.specs.declared.Number.{Number}
+use Rattle.recorded.specs.View.{number_says, line_says}
 use Rattle.recorded_defs.proofs.Reading.{number_within, line_full, line_last, line_on, line_off}
-use Rattle.recorded.proofs.Unread.{unread_out}
 use Rattle.recorded.proofs.read_line.Goals as goal
 
+-- the number that was read, whether it is the last or not
+read : (s : List ℕ) (at : ℕ) {r : Option Number} {n : Number} {b : Bool} → number_says r ≡ number_from 0 false at (drop at s) → r ≡ Some n
+    → n.is_last ≡ b → number_from 0 false at (drop at s) ≡ number n.value b n.next
+read s at {n = n} e f g = sym e ∙ ap number_says f ∙ ap (λ (b : Bool). number n.value b n.next) g
+
 pub loop-count-init : goal.loop-count-init
-loop-count-init c = (omega arith, omega arith, refl)
+loop-count-init c = (omega arith, refl)
 
-pub returns-then-is_last-clause-answer : goal.returns-then-is_last-clause-answer
-returns-then-is_last-clause-answer c =
-    let x = c.args in
-    let e : number_from 0 false c.loop-count.at (drop c.loop-count.at x.text.now) ≡ number c.in-Some.number.value true c.in-Some.number.next =
-    sym c.read_number.ensures ∙ ap number_says c.in-Some.is ∙ ap (λ (b : Bool). number c.in-Some.number.value b c.in-Some.number.next) c.if-is_last.true in
-    ap (λ (o : Read). line_out o (length x.text.now)) (sym (line_last x.text.now c.loop-count.numbers c.loop-count.at c.loop-count.count c.loop-count-test.true e) ∙ c.loop-count.invariant.2)
+pub returns-then-number-clause-answer : goal.returns-then-number-clause-answer
+returns-then-number-clause-answer c =
+    let l = c.loop-count in
+    sym (line_last c.args.text.now l.numbers l.at l.count c.loop-count-test.true (read c.args.text.now c.loop-count.at c.read_number.ensures c.in_ok-number.was c.if-number.true)) ∙ l.invariant.1
 
-pub returns-then-is_last-clause-ahead : goal.returns-then-is_last-clause-ahead
-returns-then-is_last-clause-ahead c =
-    let x = c.args in
-    let e : number_from 0 false c.loop-count.at (drop c.loop-count.at x.text.now) ≡ number c.in-Some.number.value true c.in-Some.number.next =
-    sym c.read_number.ensures ∙ ap number_says c.in-Some.is ∙ ap (λ (b : Bool). number c.in-Some.number.value b c.in-Some.number.next) c.if-is_last.true in
-    let w = number_within x.text.now 0 c.loop-count.at false e in λ h. (omega (arith, w.0, c.loop-count.invariant.0), w.1)
+pub returns-then-number-clause-ahead : goal.returns-then-number-clause-ahead
+returns-then-number-clause-ahead c =
+    let w = number_within c.args.text.now 0 c.loop-count.at false (read c.args.text.now c.loop-count.at c.read_number.ensures c.in_ok-number.was c.if-number.true) in (omega (arith, w.0, c.loop-count.invariant.0), w.1)
 
 pub loop-count-preserved : goal.loop-count-preserved
 loop-count-preserved c =
-    let x = c.args in
-    let e : number_from 0 false c.loop-count.at (drop c.loop-count.at x.text.now) ≡ number c.in-Some.number.value false c.in-Some.number.next =
-    sym c.read_number.ensures ∙ ap number_says c.in-Some.is ∙ ap (λ (b : Bool). number c.in-Some.number.value b c.in-Some.number.next) c.if-is_last.false in
-    let w = number_within x.text.now 0 c.loop-count.at false e in
-    (omega (arith, w.0, c.loop-count.invariant.0), omega arith, sym (line_on x.text.now c.loop-count.numbers c.loop-count.at c.loop-count.count c.loop-count-test.true e) ∙ c.loop-count.invariant.2)
+    let l = c.loop-count in
+    let e = read c.args.text.now c.loop-count.at c.read_number.ensures c.in_ok-number.was c.if-number.false in
+    (omega (arith, (number_within c.args.text.now 0 l.at false e).0, l.invariant.0), sym (line_on c.args.text.now l.numbers l.at l.count c.loop-count-test.true e) ∙ l.invariant.1)
 
-pub returns-in-None : goal.returns-in-None
-returns-in-None c =
-    let x = c.args in
-    let e = sym c.read_number.ensures ∙ ap number_says c.in-None.is in
-    let u = sym (line_off x.text.now c.loop-count.numbers c.loop-count.at c.loop-count.count c.loop-count-test.true e) ∙ c.loop-count.invariant.2 in let told_here = unread_out x.text.now x.from u c.no_line.ensures in record { answer = told_here.0; ahead = told_here.1 }
+pub returns-in_err-number-clause-answer : goal.returns-in_err-number-clause-answer
+returns-in_err-number-clause-answer c =
+    let l = c.loop-count in
+    ap line_says c.from_residual.ensures ∙ sym (line_off c.args.text.now l.numbers l.at l.count c.loop-count-test.true (sym c.read_number.ensures ∙ ap number_says c.in_err-number.was)) ∙ l.invariant.1
 
-pub returns : goal.returns
-returns c =
-    let x = c.args in let told_here = unread_out x.text.now x.from (sym (line_full x.text.now c.loop-count.numbers c.loop-count.at c.loop-count.count c.loop-count-test.false) ∙ c.loop-count.invariant.2) c.no_line-2.ensures in record { answer = told_here.0; ahead = told_here.1 }
+pub returns-clause-answer : goal.returns-clause-answer
+returns-clause-answer c =
+    let l = c.loop-count in
+    sym (line_full c.args.text.now l.numbers l.at l.count c.loop-count-test.false) ∙ l.invariant.1

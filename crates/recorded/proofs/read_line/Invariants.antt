@@ -6,7 +6,4 @@ use Rattle.recorded.proofs.read_line.Given as goal
 
 abbrev pub invariant-loop-count : goal.invariant-loop-count
 invariant-loop-count l =
-    (l.from ≤ l.at) × (l.count ≤ 64) × (line_from (64 - l.count) l.text l.at l.numbers l.count ≡ line_from 64 l.text l.from l.initial.numbers 0)
-
-abbrev pub decreases-loop-count : goal.decreases-loop-count
-decreases-loop-count l = 64 - l.count
+    (l.from ≤ l.at) × (line_from (64 - l.count) l.text l.at l.numbers l.count ≡ line_from 64 l.text l.from l.initial.numbers 0)

@@ -1,27 +1,35 @@
 -- `recorded::replay` meets its contract. Assumes nothing.
-use Rattle.std.proofs.Common.{◌≡◌, ℕ, ◌<◌, Bool, List, refl, ap, ◌∙◌, subst, length}
+use Rattle.std.proofs.Common.{◌≡◌, ℕ, ◌<◌, Bool, false, List, refl, sym, ap, ◌∙◌, subst, length}
 use Rattle.std.proofs.lemmas.Fn.{says_at}
-use Rattle.recorded.specs.declared.Line.{Line}
+use Rattle.recorded_defs.specs.Lines.{line, unread, line_at}
 use Rattle.recorded.specs.declared.Told.{Told}
 use Rattle.recorded.specs.declared.Tally.{Tally}
-use Rattle.recorded.specs.View.{counted}
-use Rattle.recorded.specs.Tallies.{Tallies, ended, goes_on, agreed, read_at}
+use Rattle.recorded.specs.View.{line_says, counted}
+use Rattle.recorded.specs.Tallies.{Tallies, ended, no_line, goes_on, agreed}
 use Rattle.recorded.proofs.replay.Goals as goal
 
 -- one line before what comes behind it
-one_before : {tells : List ℕ → Told → Type 0} {s : List ℕ} {at : ℕ} {t u : Tally} {l : Line} {b : Bool} {r : Tally} (told : Told)
-    → l ≡ read_at s at → at < length s → tells l.numbers told → b ≡ agreed l told → r ≡ counted t b → Tallies tells s l.next r u → Tallies tells s at t u
-one_before {tells} {s} {at} {t} {u} {l} told e less p q k h =
-    goes_on told less (subst (λ (x : Line). tells x.numbers told) e p)
-    (subst (λ (x : Line). Tallies tells s x.next (counted t (agreed x told)) u) e
-    (subst (λ (r : Tally). Tallies tells s l.next r u) (k ∙ ap (counted t) q) h))
+one_before : {tells : List ℕ → Told → Type 0} {s ns : List ℕ} {at count next : ℕ} {t u : Tally} {b : Bool} {r : Tally} (told : Told)
+    → line_at s at ≡ line ns count next → at < length s → tells ns told → b ≡ agreed ns count told → r ≡ counted t b
+    → Tallies tells s next r u → Tallies tells s at t u
+one_before {tells} {s} {ns} {at} {count} {next} {t} {u} told e less p q k h =
+    goes_on told less e p (subst (λ (r : Tally). Tallies tells s next r u) (k ∙ ap (counted t) q) h)
+
+-- a line that does not read as numbers
+last_line : {tells : List ℕ → Told → Type 0} {s : List ℕ} {at : ℕ} {t r : Tally} → at < length s → line_at s at ≡ unread → r ≡ counted t false
+    → Tallies tells s at t r
+last_line {tells} {s} {at} {t} less e k = subst (λ (r : Tally). Tallies tells s at t r) (sym k) (no_line less e)
 
 pub loop-at-init : goal.loop-at-init
 loop-at-init g c = λ u h. h
 
+pub returns-in_default : goal.returns-in_default
+returns-in_default g c =
+    c.loop-at.invariant c.with_line.result (last_line c.loop-at-test.true (sym c.read_line.ensures.answer ∙ ap line_says c.in_default.is) c.with_line.ensures)
+
 pub loop-at-preserved : goal.loop-at-preserved
 loop-at-preserved g c = λ u h.
-    c.loop-at.invariant u (one_before c.call-told.result c.read_line-line.ensures.answer c.loop-at-test.true (says_at g.F.Fn c.call-told.ensures refl) c.agrees.ensures c.with_line-tally.ensures h)
+    c.loop-at.invariant u (one_before c.call-told.result (sym c.read_line.ensures.answer ∙ ap line_says c.in-Some.is) c.loop-at-test.true (says_at g.F.Fn c.call-told.ensures refl) c.agrees.ensures c.with_line-tally.ensures h)
 
 pub returns : goal.returns
 returns g c = c.loop-at.invariant c.loop-at.tally (ended c.loop-at-test.false)

@@ -1,5 +1,5 @@
 -- A replay: what is left of the text, over the tally so far, gives the tally of all. Assumes nothing.
-use Rattle.std.proofs.Common.{length, ◌-◌, ℕ}
+use Rattle.std.proofs.Common.{length, ◌-◌}
 use Rattle.std.specs.Fn.{FnReturnsAt}
 use Rattle.recorded.specs.declared.Tally.{Tally}
 use Rattle.recorded.specs.Tallies.{Tallies}
