@@ -165,20 +165,13 @@ fn exact_elems(layout: DstLayout<u64>, size: u64) -> Result<u64, Refusal>
     requires { (None (layout_causes 64 (layout_of layout))) × IsTrailing (layout_of layout).info }
     ensures { number_says result ≡ unless (no_exact 64 (layout_of layout) size ∷ []) (count_in 64 (layout_of layout).info size) }
 {
-    match cast_checked(layout, 0, size, CastType::Prefix) {
-        Ok(
-            Granted {
-                elems,
-                split_at: object_size,
-            },
-        ) => {
-            if object_size == size {
-                Ok(elems)
-            } else {
-                Err(Refusal::NoExactCount)
-            }
-        }
-        Err(_) => Err(Refusal::NoExactCount),
+    let Ok(granted) = cast_checked(layout, 0, size, CastType::Prefix) else {
+        return Err(Refusal::NoExactCount);
+    };
+    if granted.split_at == size {
+        Ok(granted.elems)
+    } else {
+        Err(Refusal::NoExactCount)
     }
 }
 
@@ -196,7 +189,8 @@ fn exact_checked(layout: DstLayout<u64>, size: u64) -> Result<u64, Refusal>
 // The greatest count whose size is exactly size.
 pub fn metadata_for_exact_size(layout: DstLayout<u64>, size: u64) -> Result<u64, Refusal>
     ensures answer { number_says result ≡ exact_for 64 (layout_of layout) size }
-    ensures meaning { Meets (exact_causes 64 (layout_of layout) size) (ExactIn 64 (layout_of layout).info size) (number_says result) }
+    ensures meaning { Meets (exact_causes 64 (layout_of layout) size) (ExactIn 64 (layout_of layout).info size)
+        (number_says result) }
 {
     layout.check()?;
     exact_checked(layout, size)

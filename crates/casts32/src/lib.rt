@@ -1,5 +1,6 @@
 // Casts at 32 bits, by those at 64. An address that passes 32 bits with the length is given to them as one that passes 64, so
-// that it is refused in its turn.
+// that it is refused in its turn. Each is a function of its own, and no instance of a generic one: it is the widening, a call
+// and the narrowing, which at 64 bits there is nothing of.
 #![tactic(auto)]
 
 ghost use Rattle.layout.specs.View.{layout_of};
@@ -17,6 +18,7 @@ use cast::{CastType, Granted};
 use layout::DstLayout;
 use util::Refusal;
 
+// A grant of 64 bits narrowed. No TryFrom, as `low_word`.
 fn low_grant(answer: Result<Granted<u64>, Refusal>) -> Result<Granted<u32>, Refusal>
     ensures { cast_says result ≡ mapped (low_grant 32) (cast_says answer) }
 {
@@ -74,7 +76,8 @@ pub fn validate_cast_and_convert_metadata(
 // The greatest count whose size is exactly size.
 pub fn metadata_for_exact_size(layout: DstLayout<u32>, size: u32) -> Result<u32, Refusal>
     ensures answer { number_says result ≡ exact_for 32 (layout_of layout) size }
-    ensures meaning { Meets (exact_causes 32 (layout_of layout) size) (ExactIn 32 (layout_of layout).info size) (number_says result) }
+    ensures meaning { Meets (exact_causes 32 (layout_of layout) size) (ExactIn 32 (layout_of layout).info size)
+        (number_says result) }
 {
     numbers32::low_number(cast::metadata_for_exact_size(
         layouts32::wide_layout(layout),

@@ -13,7 +13,7 @@ ghost use Rattle.shift.specs.View.{mode_of};
 ghost use Rattle.convert_defs.specs.Reasons.{conversion_causes};
 ghost use Rattle.convert_defs.specs.Convert.{Params, params_of, by_kinds};
 ghost use Rattle.convert_defs.specs.Convert.{Converts, compute_causes, compute_for};
-ghost use Rattle.convert.specs.View.{compute_says, compute_says};
+ghost use Rattle.convert.specs.View.{params_in, compute_says};
 
 use layout::{DstLayout, SizeInfo};
 use shift::Mode;
@@ -35,6 +35,27 @@ pub enum CastParamsInner<N> {
     SizedToSized,
 }
 
+// The same of 32 bits and of 64.
+impl From<CastParamsInner<u32>> for CastParamsInner<u64> {
+    ghost from_gives = { λ narrow wide. params_in wide ≡ params_in narrow };
+
+    fn from(params: CastParamsInner<u32>) -> CastParamsInner<u64> {
+        match params {
+            CastParamsInner::UnsizedToUnsized {
+                offset_delta_elems,
+                elem_multiple,
+            } => CastParamsInner::UnsizedToUnsized {
+                offset_delta_elems: offset_delta_elems as u64,
+                elem_multiple: elem_multiple as u64,
+            },
+            CastParamsInner::SizedToUnsized { dst_meta } => CastParamsInner::SizedToUnsized {
+                dst_meta: dst_meta as u64,
+            },
+            CastParamsInner::SizedToSized => CastParamsInner::SizedToSized,
+        }
+    }
+}
+
 // Trailing to trailing.
 fn compute_unsized(
     src_layout: DstLayout<u64>,
@@ -45,8 +66,8 @@ fn compute_unsized(
 ) -> Result<CastParamsInner<u64>, Refusal>
     requires { None (layout_causes 64 (layout_of src_layout)) × (info_of src_layout.size_info ≡ trailing (trailing_of src))
         × None (layout_causes 64 (layout_of dst_layout)) × (info_of dst_layout.size_info ≡ trailing (trailing_of dst)) }
-    ensures { compute_says result ≡ by_kinds 64 (comparison_of 64 (mode_of mode)) (trailing (trailing_of src)) (layout_of dst_layout)
-        (trailing (trailing_of dst)) }
+    ensures { compute_says result ≡ by_kinds 64 (comparison_of 64 (mode_of mode)) (trailing (trailing_of src))
+        (layout_of dst_layout) (trailing (trailing_of dst)) }
 {
     let dst_elem_size = dst.elem_size;
     if dst_elem_size == 0 {
@@ -88,10 +109,12 @@ fn compute_from_sized(
                 Err(Refusal::FixedSizesDiffer)
             }
         }
-        SizeInfo::SliceDst(_) => match cast::metadata_for_exact_size(dst_layout, src_size) {
-            Ok(dst_meta) => { Ok(CastParamsInner::SizedToUnsized { dst_meta }) }
-            Err(_) => Err(Refusal::SourceNoExactCount),
-        },
+        SizeInfo::SliceDst(_) => {
+            let Ok(dst_meta) = cast::metadata_for_exact_size(dst_layout, src_size) else {
+                return Err(Refusal::SourceNoExactCount);
+            };
+            Ok(CastParamsInner::SizedToUnsized { dst_meta })
+        }
     }
 }
 
@@ -103,8 +126,8 @@ fn compute_from_unsized(
 ) -> Result<CastParamsInner<u64>, Refusal>
     requires { None (layout_causes 64 (layout_of src_layout)) × (info_of src_layout.size_info ≡ trailing (trailing_of src))
         × None (layout_causes 64 (layout_of dst_layout)) }
-    ensures { compute_says result ≡ by_kinds 64 (comparison_of 64 (mode_of mode)) (trailing (trailing_of src)) (layout_of dst_layout)
-        (info_of dst_layout.size_info) }
+    ensures { compute_says result ≡ by_kinds 64 (comparison_of 64 (mode_of mode)) (trailing (trailing_of src))
+        (layout_of dst_layout) (info_of dst_layout.size_info) }
 {
     let size_info = dst_layout.size_info;
     match size_info {
@@ -143,7 +166,8 @@ pub fn try_compute(
     dst_layout: DstLayout<u64>,
     mode: Mode,
 ) -> Result<CastParamsInner<u64>, Refusal>
-    ensures answer { compute_says result ≡ compute_for 64 (comparison_of 64 (mode_of mode)) (layout_of src_layout) (layout_of dst_layout) }
+    ensures answer { compute_says result ≡ compute_for 64 (comparison_of 64 (mode_of mode)) (layout_of src_layout)
+        (layout_of dst_layout) }
     ensures meaning { Meets (compute_causes 64 (comparison_of 64 (mode_of mode)) (layout_of src_layout) (layout_of dst_layout))
         (Converts 64 (comparison_of 64 (mode_of mode)) (layout_of src_layout) (layout_of dst_layout)) (compute_says result) }
     ensures fits { (q : Params) → compute_says result ≡ answered q → FitsWidth 64 (layout_of src_layout) × FitsWidth 64

@@ -1,4 +1,5 @@
-// Conversions at 32 bits, by those at 64, in every mode.
+// Conversions at 32 bits, by those at 64, in every mode. Each is a function of its own, and no instance of a generic one: it is
+// the widening, a call and the narrowing, which at 64 bits there is nothing of.
 #![tactic(auto)]
 
 ghost use Rattle.layout.specs.View.{layout_of};
@@ -9,7 +10,8 @@ ghost use Rattle.util.specs.View.{number_says};
 ghost use Rattle.layout_defs.specs.Layout.{FitsWidth};
 ghost use Rattle.shift_defs.specs.Mode.{comparison_of};
 ghost use Rattle.shift.specs.View.{mode_of};
-ghost use Rattle.convert_defs.specs.Convert.{Params, Converts, compute_causes, compute_for, converted, metadata_causes, metadata_for};
+ghost use Rattle.convert_defs.specs.Convert.{Params, Converts, compute_causes, compute_for};
+ghost use Rattle.convert_defs.specs.Convert.{converted, metadata_causes, metadata_for};
 ghost use Rattle.convert.specs.View.{params_in, compute_says};
 ghost use Rattle.widths_defs.specs.Low.{mapped};
 ghost use Rattle.widths_converts_defs.specs.Low.{low_params};
@@ -20,6 +22,7 @@ use layout::DstLayout;
 use shift::Mode;
 use util::Refusal;
 
+// A conversion of 64 bits narrowed. No TryFrom, as `low_word`.
 fn low_params(params: CastParamsInner<u64>) -> CastParamsInner<u32>
     ensures { params_in result ≡ low_params 32 (params_in params) }
 {
@@ -33,24 +36,6 @@ fn low_params(params: CastParamsInner<u64>) -> CastParamsInner<u32>
         },
         CastParamsInner::SizedToUnsized { dst_meta } => CastParamsInner::SizedToUnsized {
             dst_meta: numbers32::low_word(dst_meta),
-        },
-        CastParamsInner::SizedToSized => CastParamsInner::SizedToSized,
-    }
-}
-
-fn wide_params(params: CastParamsInner<u32>) -> CastParamsInner<u64>
-    ensures { params_in result ≡ params_in params }
-{
-    match params {
-        CastParamsInner::UnsizedToUnsized {
-            offset_delta_elems,
-            elem_multiple,
-        } => CastParamsInner::UnsizedToUnsized {
-            offset_delta_elems: offset_delta_elems as u64,
-            elem_multiple: elem_multiple as u64,
-        },
-        CastParamsInner::SizedToUnsized { dst_meta } => CastParamsInner::SizedToUnsized {
-            dst_meta: dst_meta as u64,
         },
         CastParamsInner::SizedToSized => CastParamsInner::SizedToSized,
     }
@@ -77,7 +62,8 @@ pub fn try_compute(
     dst_layout: DstLayout<u32>,
     mode: Mode,
 ) -> Result<CastParamsInner<u32>, Refusal>
-    ensures answer { compute_says result ≡ compute_for 32 (comparison_of 32 (mode_of mode)) (layout_of src_layout) (layout_of dst_layout) }
+    ensures answer { compute_says result ≡ compute_for 32 (comparison_of 32 (mode_of mode)) (layout_of src_layout)
+        (layout_of dst_layout) }
     ensures meaning { Meets (compute_causes 32 (comparison_of 32 (mode_of mode)) (layout_of src_layout) (layout_of dst_layout))
         (Converts 32 (comparison_of 32 (mode_of mode)) (layout_of src_layout) (layout_of dst_layout)) (compute_says result) }
     ensures fits { FitsWidth 32 (layout_of src_layout) × FitsWidth 32 (layout_of dst_layout) }
@@ -107,5 +93,5 @@ pub fn cast_metadata(params: CastParamsInner<u32>, src_meta: u32) -> Result<u32,
     ensures meaning { Meets (metadata_causes 32 (params_in params) src_meta) (λ n. n ≡ converted (params_in params) src_meta)
         (number_says result) }
 {
-    metadata_within(carry::cast_metadata(wide_params(params), src_meta as u64))
+    metadata_within(carry::cast_metadata(CastParamsInner::from(params), src_meta as u64))
 }

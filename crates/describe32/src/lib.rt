@@ -1,4 +1,5 @@
-// Nested type descriptions at 32 bits: the reader of both widths, whose layouts 32 bits then hold.
+// Nested type descriptions at 32 bits: the reader of both widths, whose layouts 32 bits then hold. Each is a function of its
+// own, and no instance of a generic one: it is the widening, a call and the narrowing, which at 64 bits there is nothing of.
 #![tactic(auto)]
 
 ghost use Rattle.std.specs.Prelude.{◌≡◌};
@@ -12,7 +13,7 @@ use describe::ReadPart;
 use layout::{DstLayout, SizeInfo};
 use util::RefusedAt;
 
-// A part of 64 bits narrowed.
+// A part of 64 bits narrowed. No TryFrom, as `low_word`.
 pub fn low_part(
     answer: Result<ReadPart<u64>, RefusedAt<usize>>,
 ) -> Result<ReadPart<u32>, RefusedAt<usize>>
@@ -25,7 +26,7 @@ pub fn low_part(
     })
 }
 
-// A description of 64 bits narrowed.
+// A description of 64 bits narrowed. No TryFrom, as `low_word`.
 fn low_read(
     answer: Result<DstLayout<u64>, RefusedAt<u64>>,
 ) -> Result<DstLayout<u32>, RefusedAt<u64>>

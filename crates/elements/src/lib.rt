@@ -28,7 +28,8 @@ fn elem_size(elem: DstLayout<u64>) -> Result<u64, Refusal>
 // The layout of an array of count elements: their size, and all else as the element has it.
 pub fn for_array(elem: DstLayout<u64>, count: u64) -> Result<DstLayout<u64>, Refusal>
     ensures answer { layout_says result ≡ array_for 64 (layout_of elem) count }
-    ensures meaning { Meets (array_causes 64 (layout_of elem) count) (λ l. l ≡ array_layout (layout_of elem) count) (layout_says result) }
+    ensures meaning { Meets (array_causes 64 (layout_of elem) count) (λ l. l ≡ array_layout (layout_of elem) count)
+        (layout_says result) }
 {
     let size = elem_size(elem)?;
     match util::checked_mul(size, count) {

@@ -1,4 +1,5 @@
-// Arrays and slices of a layout at 32 bits, by those at 64.
+// Arrays and slices of a layout at 32 bits, by those at 64. Each is a function of its own, and no instance of a generic one: it
+// is the widening, a call and the narrowing, which at 64 bits there is nothing of.
 #![tactic(auto)]
 
 ghost use Rattle.std.specs.Prelude.{◌≡◌};
@@ -37,7 +38,8 @@ pub fn array_within(elem: DstLayout<u64>, count: u64, max: u64) -> Result<DstLay
 // The layout of an array of count elements: their size, and all else as the element has it.
 pub fn for_array(elem: DstLayout<u32>, count: u32) -> Result<DstLayout<u32>, Refusal>
     ensures answer { layout_says result ≡ array_for 32 (layout_of elem) count }
-    ensures meaning { Meets (array_causes 32 (layout_of elem) count) (λ l. l ≡ array_layout (layout_of elem) count) (layout_says result) }
+    ensures meaning { Meets (array_causes 32 (layout_of elem) count) (λ l. l ≡ array_layout (layout_of elem) count)
+        (layout_says result) }
 {
     layouts32::low_answer(array_within(layouts32::wide_layout(elem), count as u64, numbers32::MAX))
 }

@@ -1,4 +1,5 @@
-// The functions of casts and conversions at 32 bits for C and Rust: no logic of their own. include/lukaripe32.h is their C side.
+// The functions of casts and conversions at 32 bits for C and Rust: no logic of their own. include/lukaripe32.h is their C
+// side. C has each function by its name, so that none is an instance of a generic one.
 #![tactic(auto)]
 
 ghost use Rattle.convert.specs.View.{params_in, compute_says};
@@ -23,6 +24,7 @@ use exports32_numbers::Number32;
 use shift::Mode;
 use util::Refusal;
 
+// C has it by value and by name, so that it is no Result and has no type parameter.
 #[repr(C)]
 #[derive(Clone, Copy)]
 pub struct CastOut32 {
@@ -31,6 +33,7 @@ pub struct CastOut32 {
     pub split: u32,
 }
 
+// C has it by name, so that it has no type parameter.
 #[repr(C)]
 #[derive(Clone, Copy)]
 pub struct CastParams32 {
@@ -40,6 +43,7 @@ pub struct CastParams32 {
     pub dst_meta: u32,
 }
 
+// C has it by value and by name, so that it is no Result and has no type parameter.
 #[repr(C)]
 #[derive(Clone, Copy)]
 pub struct CastParamsOut32 {
@@ -48,6 +52,7 @@ pub struct CastParamsOut32 {
 }
 
 // A granted cast, or the refusal.
+#[inline(always)]
 pub fn cast_out(a: Result<Granted<u32>, Refusal>) -> CastOut32
     ensures { result ≡ cast_out32 (cast_says a) }
 {
@@ -102,6 +107,7 @@ fn no_params() -> CastParams32
 }
 
 // The parameters of a conversion, or the refusal.
+#[inline(always)]
 pub fn params_out(a: Result<CastParamsInner<u32>, Refusal>) -> CastParamsOut32
     ensures { result ≡ params_out32 (compute_says a) }
 {
@@ -174,7 +180,8 @@ pub extern "C" fn lukaripe32_metadata_for_exact_size(layout: Layout32, size: u32
 
 // The conversion in a mode. An export has its mode as a constant, which the compiler then drops.
 pub fn compute_out(src: Layout32, dst: Layout32, mode: Mode) -> CastParamsOut32
-    ensures { result ≡ params_out32 (with_layout32 32 src (λ l. with_layout32 32 dst (λ m. compute_for 32 (comparison_of 32 (mode_of mode)) l m))) }
+    ensures { result ≡ params_out32 (with_layout32 32 src (λ l. with_layout32 32 dst
+        (λ m. compute_for 32 (comparison_of 32 (mode_of mode)) l m))) }
 {
     match exports32_layouts::layout_in(src) {
         Ok(l) => match exports32_layouts::layout_in(dst) {
@@ -188,7 +195,8 @@ pub fn compute_out(src: Layout32, dst: Layout32, mode: Mode) -> CastParamsOut32
 // How counts of one layout are converted to another.
 #[unsafe(no_mangle)]
 pub extern "C" fn lukaripe32_try_compute(src: Layout32, dst: Layout32) -> CastParamsOut32
-    ensures { result ≡ params_out32 (with_layout32 32 src (λ l. with_layout32 32 dst (λ m. compute_for 32 (same_sequence 32) l m))) }
+    ensures { result ≡ params_out32 (with_layout32 32 src (λ l. with_layout32 32 dst
+        (λ m. compute_for 32 (same_sequence 32) l m))) }
 {
     compute_out(src, dst, Mode::Ported)
 }

@@ -1,4 +1,5 @@
-// What C and Rust call of exports32_converts: an export for each of its functions, with the same contract, and no logic of its own.
+// What C and Rust call of exports32_converts: an export for each of its functions, with the same contract, and no logic of its
+// own.
 #![tactic(auto)]
 
 ghost use Rattle.std.specs.Prelude.{◌≡◌};
@@ -42,7 +43,8 @@ pub extern "C" fn lukaripe32_metadata_for_exact_size(layout: Layout32, size: u32
 // How counts of one layout are converted to another.
 #[unsafe(no_mangle)]
 pub extern "C" fn lukaripe32_try_compute(src: Layout32, dst: Layout32) -> CastParamsOut32
-    ensures { result ≡ params_out32 (with_layout32 32 src (λ l. with_layout32 32 dst (λ m. compute_for 32 (same_sequence 32) l m))) }
+    ensures { result ≡ params_out32 (with_layout32 32 src (λ l. with_layout32 32 dst
+        (λ m. compute_for 32 (same_sequence 32) l m))) }
 {
     exports32_converts::lukaripe32_try_compute(src, dst)
 }

@@ -13,7 +13,8 @@ use exports32_layouts::Layout32;
 // How counts of one layout are converted to another, in the full mode.
 #[unsafe(no_mangle)]
 pub extern "C" fn lukaripe32_try_compute_full(src: Layout32, dst: Layout32) -> CastParamsOut32
-    ensures { result ≡ params_out32 (with_layout32 32 src (λ l. with_layout32 32 dst (λ m. compute_for 32 (sizes_agree 32) l m))) }
+    ensures { result ≡ params_out32 (with_layout32 32 src (λ l. with_layout32 32 dst
+        (λ m. compute_for 32 (sizes_agree 32) l m))) }
 {
     exports32_converts_full::lukaripe32_try_compute_full(src, dst)
 }

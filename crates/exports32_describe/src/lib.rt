@@ -1,5 +1,5 @@
-// The reader of type descriptions at 32 bits, and their rewriting, for C and Rust: no logic of their own. include/lukaripe32.h is
-// their C side.
+// The reader of type descriptions at 32 bits, and their rewriting, for C and Rust: no logic of their own. include/lukaripe32.h
+// is their C side. C has each function by its name, so that none is an instance of a generic one.
 #![tactic(auto)]
 
 ghost use Rattle.std.specs.Prelude.{◌≡◌, length};

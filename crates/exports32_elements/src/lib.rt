@@ -1,5 +1,6 @@
 // Arrays and slices of a layout at 32 bits for C and Rust: no logic of their own. include/lukaripe32.h is their C side. They
-// stand apart, so that what they call is called once here, and inlined.
+// stand apart, so that what they call is called once here, and inlined. C has each function by its name, so that none is an
+// instance of a generic one.
 #![tactic(auto)]
 
 ghost use Rattle.std.specs.Prelude.{◌≡◌};

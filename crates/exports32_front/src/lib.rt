@@ -1,6 +1,6 @@
 // Which of two buffers serves at 32 bits, for C and Rust: no logic of its own. include/lukaripe32.h is its C side. A part of a
 // buffer does not cross as a slice: what crosses is which buffer it is of, and how long it is. The buffers may have more bytes
-// than 32 bits number.
+// than 32 bits number. C has each function by its name, so that none is an instance of a generic one.
 #![tactic(auto)]
 
 ghost use Rattle.front.specs.View.{serving_says};
@@ -13,6 +13,7 @@ ghost use Rattle.exports32_front.specs.Serving.{serving_out32, serving_out_of32}
 use exports32_layouts::Layout32;
 use front::Serving;
 
+// C has it by value and by name, so that it is no enum and has no type parameter.
 #[repr(C)]
 #[derive(Clone, Copy)]
 pub struct ServingOut32 {
@@ -23,6 +24,7 @@ pub struct ServingOut32 {
     pub split: u32,
 }
 
+#[inline(always)]
 fn serving_out(a: Serving<u32>) -> ServingOut32
     ensures { result ≡ serving_out32 (serving_says a) }
 {

@@ -1,5 +1,5 @@
 // The full comparison of sizes and the normal form at 32 bits for C and Rust: no logic of their own. include/lukaripe32.h is
-// their C side.
+// their C side. C has each function by its name, so that none is an instance of a generic one.
 #![tactic(auto)]
 
 ghost use Rattle.full.specs.View.{form_says};
@@ -13,7 +13,8 @@ use exports32_numbers::{Number32, Trailing32};
 use full::NormalForm;
 use util::Refusal;
 
-// A normal form has no offset and no alignment.
+// A normal form has no offset and no alignment. C has it by value and by name, so that it is no Result and has no type
+// parameter.
 #[repr(C)]
 #[derive(Clone, Copy)]
 pub struct NormalFormOut32 {

@@ -1,5 +1,6 @@
 // The conversion guarantee at 32 bits for C and Rust: no logic of its own. include/lukaripe32.h is its C side. It stands apart,
-// so that in the exports of casts and conversions each of these functions is called once, and inlined.
+// so that in the exports of casts and conversions each of these functions is called once, and inlined. C has each function by
+// its name, so that none is an instance of a generic one.
 #![tactic(auto)]
 
 ghost use Rattle.guarantee.specs.View.{answers_in};
@@ -20,6 +21,7 @@ use guarantee::Carried;
 use shift::Mode;
 use util::Refusal;
 
+// C has it by name, so that it has no type parameter.
 #[repr(C)]
 #[derive(Clone, Copy)]
 pub struct CarriedOut32 {

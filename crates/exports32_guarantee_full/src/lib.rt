@@ -1,5 +1,6 @@
-// The conversion guarantee of the full mode at 32 bits, for C and Rust: no logic of its own. include/lukaripe32.h is its C side.
-// It stands apart, so that the conversion of each mode is called once in its unit, and inlined.
+// The conversion guarantee of the full mode at 32 bits, for C and Rust: no logic of its own. include/lukaripe32.h is its C
+// side. It stands apart, so that the conversion of each mode is called once in its unit, and inlined. C has each function by
+// its name, so that none is an instance of a generic one.
 #![tactic(auto)]
 
 ghost use Rattle.std.specs.Prelude.{◌≡◌};

@@ -1,4 +1,5 @@
-// The functions of layouts and of scalars at 32 bits for C and Rust: no logic of their own. include/lukaripe32.h is their C side.
+// The functions of layouts and of scalars at 32 bits for C and Rust: no logic of their own. include/lukaripe32.h is their C
+// side. C has each function by its name, so that none is an instance of a generic one.
 #![tactic(auto)]
 
 ghost use Rattle.layout.specs.View.{layout_of, layout_says};
@@ -19,7 +20,7 @@ use layout::DstLayout;
 use record::Words;
 use util::Refusal;
 
-// A layout, as the six words of its record.
+// A layout, as the six words of its record. C has it by name, so that it has no type parameter.
 #[repr(C)]
 #[derive(Clone, Copy)]
 pub struct Layout32 {
@@ -32,6 +33,7 @@ pub struct Layout32 {
     pub word: u32,
 }
 
+// C has it by value and by name, so that it is no Result and has no type parameter.
 #[repr(C)]
 #[derive(Clone, Copy)]
 pub struct LayoutOut32 {
@@ -39,21 +41,30 @@ pub struct LayoutOut32 {
     pub layout: Layout32,
 }
 
+// The words of a layout that was handed over.
+impl From<Layout32> for Words {
+    ghost from_gives = { λ given words. words_in words ≡ words_given32 given };
+
+    fn from(l: Layout32) -> Words {
+        Words {
+            align: l.align as u64,
+            kind: l.kind as u64,
+            size: l.size_base as u64,
+            offset: l.offset as u64,
+            elem_size: l.elem_size as u64,
+            word: l.word as u64,
+        }
+    }
+}
+
 // A layout that was handed over: its words are tested as a record's are.
 pub fn layout_in(l: Layout32) -> Result<DstLayout<u32>, Refusal>
     ensures { layout_says result ≡ words_for 32 (words_given32 l) }
 {
-    layouts32::low_answer(record::layout_from_words(Words {
-        align: l.align as u64,
-        kind: l.kind as u64,
-        size: l.size_base as u64,
-        offset: l.offset as u64,
-        elem_size: l.elem_size as u64,
-        word: l.word as u64,
-    }))
+    layouts32::low_answer(record::layout_from_words(Words::from(l)))
 }
 
-// Words of 64 bits narrowed.
+// Words of 64 bits narrowed. No TryFrom, as `low_word`.
 fn low_words(words: Words) -> Layout32
     ensures { result ≡ words_out32 (low_words 32 (words_in words)) }
 {
@@ -89,6 +100,7 @@ pub fn no_layout() -> Layout32
 }
 
 // A layout as it crosses to C.
+#[inline(always)]
 pub fn layout_out(a: Result<DstLayout<u32>, Refusal>) -> LayoutOut32
     ensures { result ≡ layout_out32 (layout_says a) }
 {

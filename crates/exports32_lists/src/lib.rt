@@ -1,4 +1,5 @@
-// The compositions of member lists at 32 bits for C and Rust: no logic of their own. include/lukaripe32.h is their C side.
+// The compositions of member lists at 32 bits for C and Rust: no logic of their own. include/lukaripe32.h is their C side. C
+// has each function by its name, so that none is an instance of a generic one.
 #![tactic(auto)]
 
 ghost use Rattle.compose.specs.View.{compose_says};
@@ -12,7 +13,8 @@ use exports32_layouts::Layout32;
 use layout::DstLayout;
 use util::RefusedAt;
 
-// A composed layout, or its refusal and where.
+// A composed layout, or its refusal and where. C has it by value and by name, so that it is no Result and has no type
+// parameter.
 #[repr(C)]
 #[derive(Clone, Copy)]
 pub struct ComposedOut32 {
@@ -22,6 +24,7 @@ pub struct ComposedOut32 {
 }
 
 // A composition as it crosses to C.
+#[inline(always)]
 pub fn composed_out(a: Result<DstLayout<u32>, RefusedAt<u64>>) -> ComposedOut32
     ensures { result ≡ composed_out32 (compose_says a) }
 {

@@ -1,5 +1,5 @@
 // The functions of numbers and of trailing layouts at 32 bits for C and Rust: no logic of their own. include/lukaripe32.h is
-// their C side.
+// their C side. C has each function by its name, so that none is an instance of a generic one.
 #![tactic(auto)]
 
 ghost use Rattle.trailing.specs.View.{trailing_of, advance_says};
@@ -17,6 +17,7 @@ use rounding::RoundingAlignAndPhase;
 use trailing::{SizeRefusal, TrailingSliceLayout};
 use util::Refusal;
 
+// C has it by value and by name, so that it is no Result and has no type parameter.
 #[repr(C)]
 #[derive(Clone, Copy)]
 pub struct Number32 {
@@ -24,6 +25,7 @@ pub struct Number32 {
     pub value: u32,
 }
 
+// C has it by value and by name, so that it is no Result and has no type parameter.
 #[repr(C)]
 #[derive(Clone, Copy)]
 pub struct Components32 {
@@ -32,7 +34,7 @@ pub struct Components32 {
     pub phase: u32,
 }
 
-// A trailing layout: the last four words of its record.
+// A trailing layout: the last four words of its record. C has it by name, so that it has no type parameter.
 #[repr(C)]
 #[derive(Clone, Copy)]
 pub struct Trailing32 {
@@ -42,6 +44,7 @@ pub struct Trailing32 {
     pub word: u32,
 }
 
+// C has it by value and by name, so that it is no Result and has no type parameter.
 #[repr(C)]
 #[derive(Clone, Copy)]
 pub struct TrailingAnswer32 {
@@ -50,6 +53,7 @@ pub struct TrailingAnswer32 {
 }
 
 // A number: an answer of a function of numbers.
+#[inline(always)]
 pub fn number_out(a: Result<u32, Refusal>) -> Number32
     ensures { result ≡ number_out32 (number_says a) }
 {
@@ -63,6 +67,7 @@ pub fn number_out(a: Result<u32, Refusal>) -> Number32
 }
 
 // A yes or no as a number.
+#[inline(always)]
 pub fn decision_out(a: Result<bool, Refusal>) -> Number32
     ensures { result ≡ decision_out32 (decision_says a) }
 {

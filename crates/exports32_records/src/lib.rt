@@ -1,5 +1,5 @@
 // Records of both forms at 32 bits for C and Rust: no logic of their own. include/lukaripe32.h is their C side. The moves of
-// lists between the forms have no width.
+// lists between the forms have no width. C has each function by its name, so that none is an instance of a generic one.
 #![tactic(auto)]
 
 ghost use Rattle.std.specs.Prelude.{◌≡◌, length};
@@ -11,20 +11,6 @@ ghost use Rattle.exports32_layouts.specs.Layouts.{words_given32, layout_out32};
 
 use exports32_layouts::{Layout32, LayoutOut32};
 use record::Words;
-
-// The words of a layout that was handed over.
-fn wide_words(l: Layout32) -> Words
-    ensures { words_in result ≡ words_given32 l }
-{
-    Words {
-        align: l.align as u64,
-        kind: l.kind as u64,
-        size: l.size_base as u64,
-        offset: l.offset as u64,
-        elem_size: l.elem_size as u64,
-        word: l.word as u64,
-    }
-}
 
 // The layout of a record.
 #[unsafe(no_mangle)]
@@ -40,7 +26,7 @@ pub extern "C" fn lukaripe32_encode(layout: Layout32, out: &mut [u8]) -> u64
     ensures value { result ≡ refusal_out (encode_words_for 32 (words_given32 layout) (length out.old)) }
     ensures out_after { out.new ≡ encoded_words_into 32 (words_given32 layout) out.old }
 {
-    match record::encode_words(wide_words(layout), out) {
+    match record::encode_words(Words::from(layout), out) {
         Ok(()) => 0,
         Err(refusal) => refusal.number(),
     }
@@ -60,7 +46,7 @@ pub extern "C" fn lukaripe32_encode_short(layout: Layout32, out: &mut [u8]) -> u
     ensures value { result ≡ refusal_out (encode_short_words_for (words_given32 layout) (length out.old)) }
     ensures out_after { out.new ≡ encoded_short_words_into (words_given32 layout) out.old }
 {
-    match short::encode_short_words(wide_words(layout), out) {
+    match short::encode_short_words(Words::from(layout), out) {
         Ok(()) => 0,
         Err(refusal) => refusal.number(),
     }

@@ -1,4 +1,5 @@
-// What C and Rust call of exports32_records: an export for each of its functions, with the same contract, and no logic of its own.
+// What C and Rust call of exports32_records: an export for each of its functions, with the same contract, and no logic of its
+// own.
 #![tactic(auto)]
 
 ghost use Rattle.std.specs.Prelude.{◌≡◌, length};

@@ -1,5 +1,6 @@
-// The padding over a list of counts at 32 bits for C and Rust: no logic of its own. include/lukaripe32.h is its C side. It stands
-// apart, so that what it calls is called once here, and inlined.
+// The padding over a list of counts at 32 bits for C and Rust: no logic of its own. include/lukaripe32.h is its C side. It
+// stands apart, so that what it calls is called once here, and inlined. C has each function by its name, so that none is an
+// instance of a generic one.
 #![tactic(auto)]
 
 ghost use Rattle.share.specs.View.{share_says};
@@ -12,8 +13,9 @@ use exports32_numbers::Trailing32;
 use share::Share;
 use util::RefusedAt;
 
-// Total padding over total size and the mean size as fractions in lowest terms, the greatest padding and its first index; or the
-// refusal and where. There may be more counts than 32 bits number: how many there are and an index have 64 bits.
+// Total padding over total size and the mean size as fractions in lowest terms, the greatest padding and its first index; or
+// the refusal and where. There may be more counts than 32 bits number: how many there are and an index have 64 bits. C has it
+// by value and by name, so that it is no Result and has no type parameter.
 #[repr(C)]
 #[derive(Clone, Copy)]
 pub struct PaddingOut32 {

@@ -1,5 +1,6 @@
-// The match of two trailing layouts at 32 bits for C and Rust: no logic of its own. include/lukaripe32.h is its C side. It stands
-// apart, so that what it calls is called once here, and inlined.
+// The match of two trailing layouts at 32 bits for C and Rust: no logic of its own. include/lukaripe32.h is its C side. It
+// stands apart, so that what it calls is called once here, and inlined. C has each function by its name, so that none is an
+// instance of a generic one.
 #![tactic(auto)]
 
 ghost use Rattle.std.specs.Prelude.{◌≡◌};
@@ -14,7 +15,8 @@ use shift::Mode;
 
 // The match in a mode. An export has its mode as a constant, which the compiler then drops.
 pub fn match_out(src: Trailing32, dst: Trailing32, dst_base: u32, mode: Mode) -> Number32
-    ensures { result ≡ decision_out32 (match_for 32 (comparison_of 32 (mode_of mode)) (trailing_in32 src) (trailing_in32 dst) dst_base) }
+    ensures { result ≡ decision_out32 (match_for 32 (comparison_of 32 (mode_of mode)) (trailing_in32 src) (trailing_in32 dst)
+        dst_base) }
 {
     exports32_numbers::decision_out(shifts32::size_sequences_match(
         exports32_numbers::trailing_in(src),

@@ -1,4 +1,5 @@
-// What C and Rust call of exports32_working: an export for each of its functions, with the same contract, and no logic of its own.
+// What C and Rust call of exports32_working: an export for each of its functions, with the same contract, and no logic of its
+// own.
 #![tactic(auto)]
 
 ghost use Rattle.std.specs.Prelude.{◌≡◌};
@@ -25,8 +26,8 @@ pub extern "C" fn lukaripe32_working_add(
     field: Layout32,
     repr_packed: u32,
 ) -> u64
-    ensures value { result ≡ (worked_out32 (working_for 32 repr_packed (words_given32 working.old) (words_for 32 (words_given32 field)))
-        working.old).refusal }
+    ensures value { result ≡ (worked_out32 (working_for 32 repr_packed (words_given32 working.old)
+        (words_for 32 (words_given32 field))) working.old).refusal }
     ensures working_after { working.new
         ≡ (worked_out32 (working_for 32 repr_packed (words_given32 working.old) (words_for 32 (words_given32 field)))
         working.old).layout }

@@ -22,6 +22,7 @@ use exports_numbers::Number;
 use shift::Mode;
 use util::Refusal;
 
+// C has it by value, so that it is no Result.
 #[repr(C)]
 #[derive(Clone, Copy)]
 pub struct CastOut {
@@ -39,6 +40,7 @@ pub struct CastParams {
     pub dst_meta: u64,
 }
 
+// C has it by value, so that it is no Result.
 #[repr(C)]
 #[derive(Clone, Copy)]
 pub struct CastParamsOut {
@@ -47,6 +49,7 @@ pub struct CastParamsOut {
 }
 
 // A granted cast, or the refusal.
+#[inline(always)]
 pub fn cast_out(a: Result<Granted<u64>, Refusal>) -> CastOut
     ensures { result ≡ cast_out (cast_says a) }
 {
@@ -101,6 +104,7 @@ fn no_params() -> CastParams
 }
 
 // The parameters of a conversion, or the refusal.
+#[inline(always)]
 pub fn params_out(a: Result<CastParamsInner<u64>, Refusal>) -> CastParamsOut
     ensures { result ≡ params_out (compute_says a) }
 {
@@ -173,7 +177,8 @@ pub extern "C" fn lukaripe_metadata_for_exact_size(layout: Layout, size: u64) ->
 
 // The conversion in a mode. An export has its mode as a constant, which the compiler then drops.
 pub fn compute_out(src: Layout, dst: Layout, mode: Mode) -> CastParamsOut
-    ensures { result ≡ params_out (with_layout 64 src (λ l. with_layout 64 dst (λ m. compute_for 64 (comparison_of 64 (mode_of mode)) l m))) }
+    ensures { result ≡ params_out (with_layout 64 src (λ l. with_layout 64 dst
+        (λ m. compute_for 64 (comparison_of 64 (mode_of mode)) l m))) }
 {
     match exports_layouts::layout_in(src) {
         Ok(l) => match exports_layouts::layout_in(dst) {

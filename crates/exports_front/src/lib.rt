@@ -12,6 +12,7 @@ ghost use Rattle.exports_front.specs.Serving.{serving_out, serving_out_of};
 use exports_layouts::Layout;
 use front::Serving;
 
+// C has it by value, so that it is no enum.
 #[repr(C)]
 #[derive(Clone, Copy)]
 pub struct ServingOut {
@@ -22,6 +23,7 @@ pub struct ServingOut {
     pub split: u64,
 }
 
+#[inline(always)]
 fn serving_out(a: Serving<u64>) -> ServingOut
     ensures { result ≡ serving_out (serving_says a) }
 {

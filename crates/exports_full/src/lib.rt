@@ -12,7 +12,7 @@ use exports_numbers::{Number, Trailing};
 use full::NormalForm;
 use util::Refusal;
 
-// A normal form has no offset and no alignment.
+// A normal form has no offset and no alignment. C has it by value, so that it is no Result.
 #[repr(C)]
 #[derive(Clone, Copy)]
 pub struct NormalFormOut {

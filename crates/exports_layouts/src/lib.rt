@@ -33,6 +33,7 @@ pub struct Layout {
     pub word: u64,
 }
 
+// C has it by value, so that it is no Result.
 #[repr(C)]
 #[derive(Clone, Copy)]
 pub struct LayoutOut {
@@ -40,6 +41,7 @@ pub struct LayoutOut {
     pub layout: Layout,
 }
 
+// C has it by value, so that it is no Result.
 #[repr(C)]
 #[derive(Clone, Copy)]
 pub struct ComposedOut {
@@ -122,6 +124,7 @@ fn no_layout() -> Layout
 }
 
 // A layout as it crosses to C.
+#[inline(always)]
 pub fn layout_out(a: Result<DstLayout<u64>, Refusal>) -> LayoutOut
     ensures { result ≡ layout_out (layout_says a) }
 {
@@ -138,6 +141,7 @@ pub fn layout_out(a: Result<DstLayout<u64>, Refusal>) -> LayoutOut
 }
 
 // A composition as it crosses to C.
+#[inline(always)]
 pub fn composed_out(a: Result<DstLayout<u64>, RefusedAt<u64>>) -> ComposedOut
     ensures { result ≡ composed_out (compose_says a) }
 {

@@ -16,6 +16,7 @@ use rounding::RoundingAlignAndPhase;
 use trailing::{SizeRefusal, TrailingSliceLayout};
 use util::Refusal;
 
+// C has it by value, so that it is no Result.
 #[repr(C)]
 #[derive(Clone, Copy)]
 pub struct Number {
@@ -23,6 +24,7 @@ pub struct Number {
     pub value: u64,
 }
 
+// C has it by value, so that it is no Result.
 #[repr(C)]
 #[derive(Clone, Copy)]
 pub struct Components {
@@ -41,6 +43,7 @@ pub struct Trailing {
     pub word: u64,
 }
 
+// C has it by value, so that it is no Result.
 #[repr(C)]
 #[derive(Clone, Copy)]
 pub struct TrailingAnswer {
@@ -49,6 +52,7 @@ pub struct TrailingAnswer {
 }
 
 // A number: an answer of a function of numbers.
+#[inline(always)]
 pub fn number_out(a: Result<u64, Refusal>) -> Number
     ensures { result ≡ number_out (number_says a) }
 {
@@ -62,6 +66,7 @@ pub fn number_out(a: Result<u64, Refusal>) -> Number
 }
 
 // A yes or no as a number.
+#[inline(always)]
 pub fn decision_out(a: Result<bool, Refusal>) -> Number
     ensures { result ≡ decision_out (decision_says a) }
 {

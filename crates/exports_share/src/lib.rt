@@ -12,8 +12,8 @@ use exports_numbers::Trailing;
 use share::Share;
 use util::RefusedAt;
 
-// Total padding over total size and the mean size as fractions in lowest terms, the greatest padding and its first index; or the
-// refusal and where.
+// Total padding over total size and the mean size as fractions in lowest terms, the greatest padding and its first index; or
+// the refusal and where. C has it by value, so that it is no Result.
 #[repr(C)]
 #[derive(Clone, Copy)]
 pub struct PaddingOut {

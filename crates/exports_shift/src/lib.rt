@@ -14,7 +14,8 @@ use shift::Mode;
 
 // The match in a mode. An export has its mode as a constant, which the compiler then drops.
 pub fn match_out(src: Trailing, dst: Trailing, dst_base: u64, mode: Mode) -> Number
-    ensures { result ≡ decision_out (match_for 64 (comparison_of 64 (mode_of mode)) (trailing_in src) (trailing_in dst) dst_base) }
+    ensures { result ≡ decision_out (match_for 64 (comparison_of 64 (mode_of mode)) (trailing_in src) (trailing_in dst)
+        dst_base) }
 {
     exports_numbers::decision_out(shift::size_sequences_match(
         exports_numbers::trailing_in(src),

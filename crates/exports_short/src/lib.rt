@@ -12,7 +12,7 @@ use exports_layouts::{Layout, LayoutOut};
 use record::Words;
 use util::RefusedAt;
 
-// The number of bytes that a move wrote, or its refusal and where.
+// The number of bytes that a move wrote, or its refusal and where. C has it by value, so that it is no Result.
 #[repr(C)]
 #[derive(Clone, Copy)]
 pub struct MovedOut {

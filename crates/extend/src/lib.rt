@@ -114,6 +114,7 @@ fn extend_checked(
 }
 
 // `extend` of a layout with a size that is accepted: nothing is asked of its alignment, which a composition tests once.
+#[inline(always)]
 pub fn extend_onto(
     own: SizedLayout,
     field: DstLayout<u64>,
@@ -126,6 +127,7 @@ pub fn extend_onto(
 }
 
 // `extend` of a layout with a size.
+#[inline(always)]
 pub fn extend_sized(
     own: SizedLayout,
     field: DstLayout<u64>,
@@ -142,7 +144,8 @@ pub fn extend_sized(
     }
 }
 
-// The refusal of a member after a trailing part: 7, where none comes before it.
+// The refusal of a member after a trailing part: 7, where none comes before it. There is no answer but a refusal, so that this is
+// no Result, and no `?` hands one on.
 fn after_trailing(own: DstLayout<u64>, field: DstLayout<u64>, repr_packed: u64) -> Refusal
     requires { IsTrailing (info_of own.size_info) }
     ensures { refused (number_of result) ≡ extend_for 64 (layout_of own) (layout_of field) repr_packed }
@@ -164,7 +167,7 @@ fn after_trailing(own: DstLayout<u64>, field: DstLayout<u64>, repr_packed: u64) 
     }
 }
 
-// `extend` of a trailing layout, which is always refused: the number.
+// `extend` of a trailing layout, which is always refused: by what.
 pub fn extend_trailing(
     align: u64,
     tail: TrailingSliceLayout<u64>,

@@ -1,6 +1,7 @@
-// A page read in place, at 32 bits: the front part of the map where its prefix cast is granted, else of the spare copy where that
-// one's is (document 02, request 13). Both are only read, and no byte is copied. A buffer may have more bytes than 32 bits
-// number: its cast is then refused, by 11 where nothing comes before it, and its length is never cut off.
+// A page read in place, at 32 bits: the front part of the map where its prefix cast is granted, else of the spare copy where
+// that one's is (document 02, request 13). Both are only read, and no byte is copied. A buffer may have more bytes than 32 bits
+// number: its cast is then refused, by 11 where nothing comes before it, and its length is never cut off. Functions of their
+// own, and no instances of generic ones: the cast is another function than at 64 bits, and is all that is called.
 #![tactic(auto)]
 
 ghost use Rattle.front.specs.View.{serving_says};

@@ -47,8 +47,8 @@ pub fn convert_and_cast(
     more_len: u64,
     mode: Mode,
 ) -> Carried<u64>
-    ensures answer { answers_in result ≡ answers_of 64 (comparison_of 64 (mode_of mode)) (layout_of src_layout) (layout_of dst_layout)
-        src_meta addr bytes_len more_len }
+    ensures answer { answers_in result ≡ answers_of 64 (comparison_of 64 (mode_of mode)) (layout_of src_layout)
+        (layout_of dst_layout) src_meta addr bytes_len more_len }
     ensures meaning { Demand3Of 64 (comparison_of 64 (mode_of mode)) (layout_of src_layout) (layout_of dst_layout)
         src_meta addr bytes_len more_len (answers_in result) }
 {

@@ -1,4 +1,5 @@
-// The conversion guarantee at 32 bits, of what the calls of a conversion and of the casts after it return.
+// The conversion guarantee at 32 bits, of what the calls of a conversion and of the casts after it return. A function of its
+// own, and no instance of a generic one: each call in it is another function than at 64 bits, and nothing else is in it.
 #![tactic(auto)]
 
 ghost use Rattle.guarantee.specs.View.{answers_in};
@@ -39,8 +40,8 @@ pub fn convert_and_cast(
     more_len: u32,
     mode: Mode,
 ) -> Carried<u32>
-    ensures answer { answers_in result ≡ answers_of 32 (comparison_of 32 (mode_of mode)) (layout_of src_layout) (layout_of dst_layout)
-        src_meta addr bytes_len more_len }
+    ensures answer { answers_in result ≡ answers_of 32 (comparison_of 32 (mode_of mode)) (layout_of src_layout)
+        (layout_of dst_layout) src_meta addr bytes_len more_len }
     ensures meaning { Demand3Of 32 (comparison_of 32 (mode_of mode)) (layout_of src_layout) (layout_of dst_layout)
         src_meta addr bytes_len more_len (answers_in result) }
 {

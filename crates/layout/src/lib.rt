@@ -52,6 +52,7 @@ pub fn round_up(len: u64, align: u64) -> Result<u64, Refusal>
 
 impl DstLayout<u64> {
     // Whether the layout is one: its alignment is a power of two and its rounding word, if it has one, is not 0.
+    #[inline(always)]
     pub fn check(self) -> Result<(), Refusal>
         ensures answer { check_says result ≡ check_for 64 (layout_of self) }
         ensures meaning { Meets (layout_causes 64 (layout_of self)) (λ _. FitsWidth 64 (layout_of self)) (check_says result) }

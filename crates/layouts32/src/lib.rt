@@ -1,4 +1,5 @@
-// Whole layouts at 32 bits, by those at 64: made of numbers, checked, and asked for their padding.
+// Whole layouts at 32 bits, by those at 64: made of numbers, checked, and asked for their padding. Each is a function of its
+// own, and no instance of a generic one: it is the widening, a call and the narrowing, which at 64 bits there is nothing of.
 #![tactic(auto)]
 
 ghost use Rattle.std.specs.Prelude.{◌≡◌, true, false};
@@ -16,6 +17,7 @@ use layout::{DstLayout, SizeInfo};
 use trailing::TrailingSliceLayout;
 use util::Refusal;
 
+// A size of 32 bits widened to 64. No From: an impl stands in the crate of a type, below what this promises of 32 bits.
 fn wide_info(size_info: SizeInfo<u32>) -> SizeInfo<u64>
     ensures { (info_of result ≡ info_of size_info) × InfoIn 32 (info_of size_info) }
 {
@@ -25,6 +27,7 @@ fn wide_info(size_info: SizeInfo<u32>) -> SizeInfo<u64>
     }
 }
 
+// A size of 64 bits narrowed. No TryFrom, as `low_word`.
 fn low_info(size_info: SizeInfo<u64>) -> SizeInfo<u32>
     ensures { info_of result ≡ low_info 32 (info_of size_info) }
 {
@@ -36,7 +39,8 @@ fn low_info(size_info: SizeInfo<u64>) -> SizeInfo<u32>
     }
 }
 
-// A layout of 32 bits widened to 64, which hold the same numbers.
+// A layout of 32 bits widened to 64, which hold the same numbers. No From: an impl stands in the crate of a type, below what
+// this promises of 32 bits.
 pub fn wide_layout(layout: DstLayout<u32>) -> DstLayout<u64>
     ensures { (layout_of result ≡ layout_of layout) × LayoutIn 32 (layout_of layout) }
 {
@@ -49,7 +53,7 @@ pub fn wide_layout(layout: DstLayout<u32>) -> DstLayout<u64>
     }
 }
 
-// A layout of 64 bits narrowed.
+// A layout of 64 bits narrowed. No TryFrom, as `low_word`.
 pub fn low_layout(layout: DstLayout<u64>) -> DstLayout<u32>
     ensures { layout_of result ≡ low_layout 32 (layout_of layout) }
 {
@@ -62,7 +66,7 @@ pub fn low_layout(layout: DstLayout<u64>) -> DstLayout<u32>
     }
 }
 
-// An answer of 64 bits narrowed.
+// An answer of 64 bits narrowed. No TryFrom, as `low_word`.
 pub fn low_answer(answer: Result<DstLayout<u64>, Refusal>) -> Result<DstLayout<u32>, Refusal>
     ensures { layout_says result ≡ mapped (low_layout 32) (layout_says answer) }
 {
@@ -114,7 +118,8 @@ pub fn for_slice(size: u32, align: u32) -> Result<DstLayout<u32>, Refusal>
 // Whether padding between the members is not ruled out. A yes does not mean that there is some.
 pub fn requires_static_padding(layout: DstLayout<u32>) -> Result<bool, Refusal>
     ensures answer { decision_says result ≡ static_for 32 (layout_of layout) }
-    ensures meaning { Meets (layout_causes 32 (layout_of layout)) (Tells ((layout_of layout).mark ≡ false)) (decision_says result) }
+    ensures meaning { Meets (layout_causes 32 (layout_of layout)) (Tells ((layout_of layout).mark ≡ false))
+        (decision_says result) }
 {
     needs::requires_static_padding(wide_layout(layout))
 }
@@ -122,7 +127,8 @@ pub fn requires_static_padding(layout: DstLayout<u32>) -> Result<bool, Refusal>
 // Whether padding after the elements is not ruled out at every count. A yes does not mean that a count needs some.
 pub fn requires_dynamic_padding(layout: DstLayout<u32>) -> Result<bool, Refusal>
     ensures answer { decision_says result ≡ dynamic_for 32 (layout_of layout) }
-    ensures meaning { Meets (layout_causes 32 (layout_of layout)) (Tells (DynamicPadding 32 (layout_of layout).info)) (decision_says result) }
+    ensures meaning { Meets (layout_causes 32 (layout_of layout)) (Tells (DynamicPadding 32 (layout_of layout).info))
+        (decision_says result) }
 {
     needs::requires_dynamic_padding(wide_layout(layout))
 }

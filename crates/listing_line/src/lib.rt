@@ -98,7 +98,7 @@ fn put_refusal(out: &mut [u8], number: u64, place: u64) -> usize
     put_token(out, at + 3, place, b'\n')
 }
 
-// A composition of 32 bits as one of 64.
+// A composition of 32 bits as one of 64. No From: neither the trait nor a type of the impl would be of this crate.
 fn wide_composed(
     answer: Result<DstLayout<u32>, RefusedAt<u64>>,
 ) -> Result<DstLayout<u64>, RefusedAt<u64>>

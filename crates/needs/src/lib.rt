@@ -43,7 +43,8 @@ fn dynamic_padding(size_info: SizeInfo<u64>) -> Result<bool, Refusal>
 // Whether padding between the members is not ruled out. A yes does not mean that there is some.
 pub fn requires_static_padding(layout: DstLayout<u64>) -> Result<bool, Refusal>
     ensures answer { decision_says result ≡ static_for 64 (layout_of layout) }
-    ensures meaning { Meets (layout_causes 64 (layout_of layout)) (Tells ((layout_of layout).mark ≡ false)) (decision_says result) }
+    ensures meaning { Meets (layout_causes 64 (layout_of layout)) (Tells ((layout_of layout).mark ≡ false))
+        (decision_says result) }
 {
     layout.check()?;
     let unpadded = layout.statically_shallow_unpadded;
@@ -53,7 +54,8 @@ pub fn requires_static_padding(layout: DstLayout<u64>) -> Result<bool, Refusal>
 // Whether padding after the elements is not ruled out at every count. A yes does not mean that a count needs some.
 pub fn requires_dynamic_padding(layout: DstLayout<u64>) -> Result<bool, Refusal>
     ensures answer { decision_says result ≡ dynamic_for 64 (layout_of layout) }
-    ensures meaning { Meets (layout_causes 64 (layout_of layout)) (Tells (DynamicPadding 64 (info_of layout.size_info))) (decision_says result) }
+    ensures meaning { Meets (layout_causes 64 (layout_of layout)) (Tells (DynamicPadding 64 (info_of layout.size_info)))
+        (decision_says result) }
 {
     let size_info = layout.size_info;
     layout.check()?;

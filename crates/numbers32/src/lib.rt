@@ -1,12 +1,14 @@
-// Rounding helpers and rounding words at 32 bits, by those at 64: the numbers are widened, and the lower half of what comes back
-// is the answer, since 32 bits hold it.
+// Rounding helpers and rounding words at 32 bits, by those at 64: the numbers are widened, and the lower half of what comes
+// back is the answer, since 32 bits hold it. Each is a function of its own, and no instance of a generic one: it is the
+// widening, a call and the narrowing, which at 64 bits there is nothing of.
 #![tactic(auto)]
 
 ghost use Rattle.std.specs.Prelude.{◌≡◌};
 ghost use Rattle.util_defs.specs.Power.{PowerOfTwo, power_of_two};
 ghost use Rattle.util_defs.specs.Round.{GreatestMultiple, LeastPadding};
 ghost use Rattle.util_defs.specs.Refusal.{Tells, Meets};
-ghost use Rattle.util_defs.specs.Helpers.{align_causes, aligns_causes, padding_for, round_down_for, max_for, min_for, Larger, Smaller};
+ghost use Rattle.util_defs.specs.Helpers.{align_causes, aligns_causes, padding_for, round_down_for, max_for};
+ghost use Rattle.util_defs.specs.Helpers.{min_for, Larger, Smaller};
 ghost use Rattle.util.specs.View.{number_says};
 ghost use Rattle.rounding.specs.Word.{IsWord, AlignOf, PartsOf, new_causes, word_causes, new_for, components_for, align_for};
 ghost use Rattle.rounding.specs.View.{new_says, components_says, word_of};
@@ -18,14 +20,14 @@ use util::Refusal;
 // The greatest number of 32 bits.
 pub const MAX: u64 = 0xffff_ffff;
 
-// The lower 32 bits.
+// The lower 32 bits. Not by TryFrom, which would have a refusal that never comes.
 pub fn low_word(x: u64) -> u32
     ensures { result ≡ low 32 x }
 {
     (x % 0x1_0000_0000) as u32
 }
 
-// A number of 64 bits narrowed.
+// A number of 64 bits narrowed. No TryFrom, as `low_word`.
 pub fn low_number(answer: Result<u64, Refusal>) -> Result<u32, Refusal>
     ensures { number_says result ≡ mapped (low 32) (number_says answer) }
 {
@@ -33,6 +35,7 @@ pub fn low_number(answer: Result<u64, Refusal>) -> Result<u32, Refusal>
     Ok(low_word(n))
 }
 
+// A word that was made, narrowed. No TryFrom, as `low_word`.
 fn low_new(
     answer: Result<RoundingAlignAndPhase<u64>, Refusal>,
 ) -> Result<RoundingAlignAndPhase<u32>, Refusal>
@@ -42,6 +45,7 @@ fn low_new(
     Ok(RoundingAlignAndPhase(low_word(word.0)))
 }
 
+// The parts of a word narrowed. No TryFrom, as `low_word`.
 fn low_components(answer: Result<Components<u64>, Refusal>) -> Result<Components<u32>, Refusal>
     ensures { components_says result ≡ mapped (low_parts 32) (components_says answer) }
 {

@@ -1,5 +1,6 @@
 // Records of layouts at 32 bits, by those at 64: a record keeps 64-bit fields, and a number that 32 bits do not hold is refused
-// after the record's own tests.
+// after the record's own tests. Each is a function of its own, and no instance of a generic one: it is the widening, a call and
+// the narrowing, which at 64 bits there is nothing of.
 #![tactic(auto)]
 
 ghost use Rattle.std.specs.Prelude.{◌≡◌, length};

@@ -1,4 +1,5 @@
-// Scalars by code on the 32-bit target.
+// Scalars by code on the 32-bit target. A function of its own: this target has a table of its own, and so other sizes and
+// alignments by another rule.
 #![tactic(auto)]
 
 ghost use Rattle.layout.specs.View.{layout_says};

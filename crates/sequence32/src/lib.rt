@@ -1,4 +1,5 @@
-// The sizes of two trailing layouts compared, and the normal form of one, at 32 bits, by those at 64.
+// The sizes of two trailing layouts compared, and the normal form of one, at 32 bits, by those at 64. Each is a function of its
+// own, and no instance of a generic one: it is the widening, a call and the narrowing, which at 64 bits there is nothing of.
 #![tactic(auto)]
 
 ghost use Rattle.trailing.specs.View.{trailing_of};
@@ -65,6 +66,7 @@ pub fn sizes_agree(
     full::sizes_agree(trailing32::wide_tail(first), trailing32::wide_tail(other))
 }
 
+// A form of 64 bits narrowed. No TryFrom, as `low_word`.
 fn low_form(form: NormalForm<u64>) -> NormalForm<u32>
     ensures { form_in result ≡ low_form 32 (form_in form) }
 {

@@ -93,7 +93,8 @@ pub fn size_sequences_match(
     dst_base: u64,
     mode: Mode,
 ) -> Result<bool, Refusal>
-    ensures answer { decision_says result ≡ match_for 64 (comparison_of 64 (mode_of mode)) (trailing_of src) (trailing_of dst) dst_base }
+    ensures answer { decision_says result ≡ match_for 64 (comparison_of 64 (mode_of mode)) (trailing_of src) (trailing_of dst)
+        dst_base }
     ensures meaning { Meets (same_causes (trailing_of src) (trailing_of dst))
         (FoundMatch 64 (comparison_of 64 (mode_of mode)) (trailing_of src) (trailing_of dst) dst_base) (decision_says result) }
 {
@@ -223,7 +224,8 @@ fn matching_delta_elems(
     mode: Mode,
 ) -> Option<u64>
     requires { (0 < (trailing_of src).word) × (0 < (trailing_of dst).word) × (0 < (trailing_of dst).elem) }
-    ensures { shift_in result ≡ shift_of 64 (comparison_of 64 (mode_of mode)) (trailing_of src) (layout_of dst_layout) (trailing_of dst) }
+    ensures { shift_in result ≡ shift_of 64 (comparison_of 64 (mode_of mode)) (trailing_of src) (layout_of dst_layout)
+        (trailing_of dst) }
 {
     match matching_offset(src, dst, mode) {
         Some(elems) => Some(elems),
@@ -262,7 +264,8 @@ pub fn offset_delta_elems(
     dst_layout: DstLayout<u64>,
     mode: Mode,
 ) -> Result<Option<u64>, Refusal>
-    ensures answer { shift_says result ≡ shift_for 64 (comparison_of 64 (mode_of mode)) (layout_of src_layout) (layout_of dst_layout) }
+    ensures answer { shift_says result ≡ shift_for 64 (comparison_of 64 (mode_of mode)) (layout_of src_layout)
+        (layout_of dst_layout) }
     ensures meaning { Meets (shift_causes 64 (layout_of src_layout) (layout_of dst_layout))
         (ShiftMeans 64 (comparison_of 64 (mode_of mode)) (layout_of src_layout).info (layout_of dst_layout).info)
         (shift_says result) }

@@ -1,4 +1,5 @@
-// The shift of a conversion at 32 bits, by that at 64.
+// The shift of a conversion at 32 bits, by that at 64. Each is a function of its own, and no instance of a generic one: it is
+// the widening, a call and the narrowing, which at 64 bits there is nothing of.
 #![tactic(auto)]
 
 ghost use Rattle.layout.specs.View.{info_of, layout_of};
@@ -36,7 +37,8 @@ pub fn size_sequences_match(
     dst_base: u32,
     mode: Mode,
 ) -> Result<bool, Refusal>
-    ensures answer { decision_says result ≡ match_for 32 (comparison_of 32 (mode_of mode)) (trailing_of src) (trailing_of dst) dst_base }
+    ensures answer { decision_says result ≡ match_for 32 (comparison_of 32 (mode_of mode)) (trailing_of src) (trailing_of dst)
+        dst_base }
     ensures meaning { Meets (same_causes (trailing_of src) (trailing_of dst))
         (FoundMatch 32 (comparison_of 32 (mode_of mode)) (trailing_of src) (trailing_of dst) dst_base) (decision_says result) }
 {
@@ -49,6 +51,7 @@ pub fn size_sequences_match(
     )
 }
 
+// A shift of 64 bits narrowed. No TryFrom, as `low_word`.
 fn low_shift(shift: Option<u64>) -> Option<u32>
     ensures { shift_in result ≡ low_shift 32 (shift_in shift) }
 {
@@ -76,7 +79,8 @@ pub fn offset_delta_elems(
     dst_layout: DstLayout<u32>,
     mode: Mode,
 ) -> Result<Option<u32>, Refusal>
-    ensures answer { shift_says result ≡ shift_for 32 (comparison_of 32 (mode_of mode)) (layout_of src_layout) (layout_of dst_layout) }
+    ensures answer { shift_says result ≡ shift_for 32 (comparison_of 32 (mode_of mode)) (layout_of src_layout)
+        (layout_of dst_layout) }
     ensures meaning { Meets (shift_causes 32 (layout_of src_layout) (layout_of dst_layout))
         (ShiftMeans 32 (comparison_of 32 (mode_of mode)) (layout_of src_layout).info (layout_of dst_layout).info)
         (shift_says result) }

@@ -1,4 +1,5 @@
-// The member step and final padding at 32 bits, by those at 64.
+// The member step and final padding at 32 bits, by those at 64. Each is a function of its own, and no instance of a generic
+// one: it is the widening, a call and the narrowing, which at 64 bits there is nothing of.
 #![tactic(auto)]
 
 ghost use Rattle.std.specs.Prelude.{◌≡◌};
@@ -72,6 +73,7 @@ pub fn extend_within(
 }
 
 // The layout with one member more, which stands at the least place that aligns it; no padding follows it.
+#[inline(always)]
 pub fn extend(
     own: DstLayout<u32>,
     field: DstLayout<u32>,

@@ -1,5 +1,6 @@
 // Trailing layouts at 32 bits, by those at 64. Where 32 bits do not hold what comes back it is refused, by the number that the
-// papers give it.
+// papers give it. Each is a function of its own, and no instance of a generic one: it is the widening, a call and the
+// narrowing, which at 64 bits there is nothing of.
 #![tactic(auto)]
 
 ghost use Rattle.util.specs.View.{number_says};
@@ -19,7 +20,8 @@ use rounding::RoundingAlignAndPhase;
 use trailing::{SizeRefusal, TrailingSliceLayout};
 use util::Refusal;
 
-// A layout of 32 bits widened to 64, which hold the same numbers.
+// A layout of 32 bits widened to 64, which hold the same numbers. No From: an impl stands in the crate of a type, below what
+// this promises of 32 bits.
 pub fn wide_tail(tail: TrailingSliceLayout<u32>) -> TrailingSliceLayout<u64>
     ensures { (trailing_of result ≡ trailing_of tail) × TailIn 32 (trailing_of tail) }
 {
@@ -32,7 +34,7 @@ pub fn wide_tail(tail: TrailingSliceLayout<u32>) -> TrailingSliceLayout<u64>
     }
 }
 
-// A layout of 64 bits narrowed.
+// A layout of 64 bits narrowed. No TryFrom, as `low_word`.
 pub fn low_tail(tail: TrailingSliceLayout<u64>) -> TrailingSliceLayout<u32>
     ensures { trailing_of result ≡ low_tail 32 (trailing_of tail) }
 {

@@ -6,7 +6,8 @@ ghost use Rattle.util_defs.specs.Width.{checked};
 ghost use Rattle.util_defs.specs.Power.{PowerOfTwo, power_of_two};
 ghost use Rattle.util_defs.specs.Round.{GreatestMultiple, LeastPadding};
 ghost use Rattle.util_defs.specs.Refusal.{Tells, Meets};
-ghost use Rattle.util_defs.specs.Helpers.{align_causes, aligns_causes, padding_for, round_down_for, max_for, min_for, Larger, Smaller};
+ghost use Rattle.util_defs.specs.Helpers.{align_causes, aligns_causes, padding_for, round_down_for, max_for};
+ghost use Rattle.util_defs.specs.Helpers.{min_for, Larger, Smaller};
 ghost use Rattle.util.specs.View.{number_says, product_says};
 
 mod refusal;

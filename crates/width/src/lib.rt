@@ -17,8 +17,9 @@ pub enum Width {
     Bits64,
 }
 
-// Whether a width is the narrow one. The steps below take this and no enum: where it is a constant, the compiler carries it into
-// a loop, and what the other width needs is gone.
+// Whether a width is the narrow one. The steps below, and the loops of describe and rewrite, take this and no enum: where it is a
+// constant, the compiler carries it into a loop, and what the other width needs is gone. With an enum, which it does not carry,
+// the reader took half as many instructions more.
 pub fn narrow(width: Width) -> bool
     ensures { result ≡ narrow_of width }
 {
@@ -73,7 +74,7 @@ pub fn for_array(narrow: bool, elem: DstLayout<u64>, count: u64) -> Result<DstLa
     }
 }
 
-// A layout of 32 bits as one of 64.
+// A layout of 32 bits as one of 64. No From: neither the trait nor a type of the impl would be of this crate.
 fn wide_answer(answer: Result<DstLayout<u32>, Refusal>) -> Result<DstLayout<u64>, Refusal>
     ensures { layout_says result ≡ layout_says answer }
 {

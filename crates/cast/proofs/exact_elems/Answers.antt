@@ -22,14 +22,14 @@ whole k r e = e ∙ sym (cast_accepted 64 (layout_of k.args.layout) prefix 0 k.a
 pub cast_checked-requires : goal.cast_checked-requires
 cast_checked-requires c = c.requires.0
 
-pub returns-then-object_size-size : goal.returns-then-object_size-size
-returns-then-object_size-size c =
-    exact_answered 64 (layout_of c.args.layout) c.args.size c.cast_checked.result c.requires.1 (whole c.before.before.before c.cast_checked.result c.cast_checked.ensures) c.in-Ok.is c.if-object_size-size.true
+pub returns-then-granted-size : goal.returns-then-granted-size
+returns-then-granted-size c =
+    exact_answered 64 (layout_of c.args.layout) c.args.size c.cast_checked.result c.requires.1 (whole c.before.before.before.before c.cast_checked.result c.cast_checked.ensures) c.in-Ok.is c.if-granted-size.true
 
-pub returns-else-object_size-size : goal.returns-else-object_size-size
-returns-else-object_size-size c =
-    exact_other 64 (layout_of c.args.layout) c.args.size c.cast_checked.result (whole c.before.before.before c.cast_checked.result c.cast_checked.ensures) c.in-Ok.is c.if-object_size-size.false
+pub returns-else-granted-size : goal.returns-else-granted-size
+returns-else-granted-size c =
+    exact_other 64 (layout_of c.args.layout) c.args.size c.cast_checked.result (whole c.before.before.before.before c.cast_checked.result c.cast_checked.ensures) c.in-Ok.is c.if-granted-size.false
 
-pub returns-in-Err : goal.returns-in-Err
-returns-in-Err c =
-    exact_none 64 (layout_of c.args.layout) c.args.size c.cast_checked.result (whole c.before.before c.cast_checked.result c.cast_checked.ensures) c.in-Err.is
+pub returns-in_default : goal.returns-in_default
+returns-in_default c =
+    exact_none 64 (layout_of c.args.layout) c.args.size c.cast_checked.result (whole c.before.before c.cast_checked.result c.cast_checked.ensures) c.in_default.is

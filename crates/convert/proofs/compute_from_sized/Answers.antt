@@ -33,7 +33,7 @@ unfolding unless
 returns-in-Ok c = λ m.
     ap by_count (sym (told_by number_says c.metadata_for_exact_size.ensures.answer c.in-Ok.is)) ∙ ap (λ (i : SizeInfo ℕ). by_kinds 64 (comparison_of 64 m) (fixed c.args.src_size) (layout_of c.args.dst_layout) (info_of i)) (sym c.in-SliceDst.is)
 
-pub returns-in-Err : goal.returns-in-Err
+pub returns-in_default : goal.returns-in_default
 unfolding unless
-returns-in-Err c = λ m.
-    ap by_count (sym (told_by number_says c.metadata_for_exact_size.ensures.answer c.in-Err.is)) ∙ ap (λ (i : SizeInfo ℕ). by_kinds 64 (comparison_of 64 m) (fixed c.args.src_size) (layout_of c.args.dst_layout) (info_of i)) (sym c.in-SliceDst.is)
+returns-in_default c = λ m.
+    ap by_count (sym (told_by number_says c.metadata_for_exact_size.ensures.answer c.in_default.is)) ∙ ap (λ (i : SizeInfo ℕ). by_kinds 64 (comparison_of 64 m) (fixed c.args.src_size) (layout_of c.args.dst_layout) (info_of i)) (sym c.in-SliceDst.is)

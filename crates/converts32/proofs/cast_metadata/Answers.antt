@@ -13,7 +13,7 @@ use Rattle.converts32.proofs.cast_metadata.Goals as goal
 pub returns-clause-answer : goal.returns-clause-answer
 returns-clause-answer c =
     let q = params_in c.args.params in
-    let n = c.args.src_meta in c.metadata_within.ensures ∙ ap (metadata_within (M 32)) (c.cast_metadata.ensures.answer ∙ ap (λ (x : Params). metadata_for 64 x n) c.wide_params.ensures)
+    let n = c.args.src_meta in c.metadata_within.ensures ∙ ap (metadata_within (M 32)) (c.cast_metadata.ensures.answer ∙ ap (λ (x : Params). metadata_for 64 x n) c.from.ensures)
     ∙ sym (metadata_narrows 32 64 q n (omega arith))
 
 pub returns-clause-meaning : goal.returns-clause-meaning

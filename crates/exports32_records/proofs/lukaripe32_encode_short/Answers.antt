@@ -9,13 +9,13 @@ use Rattle.exports_layouts.specs.Layouts.{refusal_out}
 use Rattle.exports32_records.proofs.lukaripe32_encode_short.Goals as goal
 
 pub returns-in-Ok-clause-value : goal.returns-in-Ok-clause-value
-returns-in-Ok-clause-value c = let s = c.args.out.now in let e = c.wide_words.ensures in sym (ap refusal_out (sym (ap (λ (z : Words). encode_short_words_for z (length s)) e) ∙ told_by encode_says c.encode_short_words.ensures.answer c.in-Ok.is))
+returns-in-Ok-clause-value c = let s = c.args.out.now in let e = c.from.ensures in sym (ap refusal_out (sym (ap (λ (z : Words). encode_short_words_for z (length s)) e) ∙ told_by encode_says c.encode_short_words.ensures.answer c.in-Ok.is))
 
 pub returns-in-Ok-clause-out_after : goal.returns-in-Ok-clause-out_after
-returns-in-Ok-clause-out_after c = let s = c.args.out.now in let e = c.wide_words.ensures in c.encode_short_words.ensures.bytes ∙ ap (λ (z : Words). encoded_short_words_into z s) e
+returns-in-Ok-clause-out_after c = let s = c.args.out.now in let e = c.from.ensures in c.encode_short_words.ensures.bytes ∙ ap (λ (z : Words). encoded_short_words_into z s) e
 
 pub returns-in-Err-clause-value : goal.returns-in-Err-clause-value
-returns-in-Err-clause-value c = let s = c.args.out.now in let e = c.wide_words.ensures in c.number.ensures ∙ sym (ap refusal_out (sym (ap (λ (z : Words). encode_short_words_for z (length s)) e) ∙ told_by encode_says c.encode_short_words.ensures.answer c.in-Err.is))
+returns-in-Err-clause-value c = let s = c.args.out.now in let e = c.from.ensures in c.number.ensures ∙ sym (ap refusal_out (sym (ap (λ (z : Words). encode_short_words_for z (length s)) e) ∙ told_by encode_says c.encode_short_words.ensures.answer c.in-Err.is))
 
 pub returns-in-Err-clause-out_after : goal.returns-in-Err-clause-out_after
-returns-in-Err-clause-out_after c = let s = c.args.out.now in let e = c.wide_words.ensures in c.encode_short_words.ensures.bytes ∙ ap (λ (z : Words). encoded_short_words_into z s) e
+returns-in-Err-clause-out_after c = let s = c.args.out.now in let e = c.from.ensures in c.encode_short_words.ensures.bytes ∙ ap (λ (z : Words). encoded_short_words_into z s) e
