@@ -48,14 +48,5 @@ pub fn advance(
     ensures meaning { Meets (advance_causes 64 (trailing_of tail) bytes) (Advanced 64 (trailing_of tail) bytes elem_size)
         (advance_says result) }
 {
-    let word = tail.size_rounding_align_and_phase;
-    let parts = word.components()?;
-    advance_decoded(
-        Decoded {
-            layout: tail,
-            parts,
-        },
-        bytes,
-        elem_size,
-    )
+    advance_decoded(tail.decoded()?, bytes, elem_size)
 }

@@ -3,12 +3,12 @@
 #![tactic(auto)]
 
 ghost use Rattle.std.specs.Prelude.{◌≡◌, [], ◌∷◌, ◌+◌, ◌^◌, ◌≤◌, ◌<◌};
-ghost use Rattle.util_defs.specs.Refusal.{answered, unless, None, Meets};
+ghost use Rattle.util_defs.specs.Refusal.{answered, unless, Meets};
 ghost use Rattle.util.specs.View.{number_says};
 ghost use Rattle.rounding.specs.Word.{AlignOf};
 ghost use Rattle.trailing_defs.specs.Calls.{GreatestIn};
 ghost use Rattle.trailing.specs.View.{trailing_of};
-ghost use Rattle.layout_defs.specs.Layout.{trailing, layout_causes};
+ghost use Rattle.layout_defs.specs.Layout.{trailing};
 ghost use Rattle.layout_defs.specs.Extend.{IsTrailing};
 ghost use Rattle.layout.specs.View.{info_of, layout_of};
 ghost use Rattle.cast_defs.specs.Cast.{prefix, tested_address, split_at, is_elem_zero, too_small, bytes_causes};
@@ -16,8 +16,8 @@ ghost use Rattle.cast_defs.specs.Cast.{cast_causes, greatest_grant, cast_for, Gr
 ghost use Rattle.cast_defs.specs.Exact.{no_exact, exact_causes, exact_for, ExactIn};
 ghost use Rattle.cast.specs.View.{side_of, cast_says};
 
-use layout::{DstLayout, SizeInfo};
-use trailing::TrailingSliceLayout;
+use layout::{DstLayout, SizeInfo, ValidLayout};
+use trailing::{TrailingSliceLayout, ValidTail};
 use util::Refusal;
 
 // Whether the bytes of a cast are those in front, or those at the end.
@@ -90,11 +90,12 @@ fn fit_elems(
     })
 }
 
-fn fit_trailing(tail: TrailingSliceLayout<u64>, len: u64) -> Result<Granted<u64>, Refusal>
-    requires { (0 < (trailing_of tail).word) × (0 < tail.elem_size) }
-    ensures { cast_says result ≡ unless (too_small 64 (trailing (trailing_of tail)) len ∷ [])
-        (greatest_grant 64 (trailing (trailing_of tail)) prefix len) }
+fn fit_trailing(valid: ValidTail, len: u64) -> Result<Granted<u64>, Refusal>
+    requires { 0 < valid.layout.elem_size }
+    ensures { cast_says result ≡ unless (too_small 64 (trailing (trailing_of valid.layout)) len ∷ [])
+        (greatest_grant 64 (trailing (trailing_of valid.layout)) prefix len) }
 {
+    let tail = valid.layout;
     let Ok(max_slice_bytes) = tail.max_trailing_bytes(len) else {
         return Err(Refusal::CastTooSmall);
     };
@@ -105,15 +106,15 @@ fn fit_trailing(tail: TrailingSliceLayout<u64>, len: u64) -> Result<Granted<u64>
 
 // The cast of a layout that passed its check: the alignment is judged before the size.
 fn cast_checked(
-    layout: DstLayout<u64>,
+    valid: ValidLayout,
     addr: u64,
     len: u64,
     cast_type: CastType,
 ) -> Result<Granted<u64>, Refusal>
-    requires { None (layout_causes 64 (layout_of layout)) }
-    ensures { cast_says result ≡ unless (bytes_causes 64 (layout_of layout) (side_of cast_type) addr len)
-        (greatest_grant 64 (layout_of layout).info (side_of cast_type) len) }
+    ensures { cast_says result ≡ unless (bytes_causes 64 (layout_of valid.layout) (side_of cast_type) addr len)
+        (greatest_grant 64 (layout_of valid.layout).info (side_of cast_type) len) }
 {
+    let layout = valid.layout;
     let size_info = layout.size_info;
     if elem_size_zero(size_info) {
         return Err(Refusal::CastElemSizeZero);
@@ -136,7 +137,7 @@ fn cast_checked(
             }
         }
         SizeInfo::SliceDst(tail) => {
-            let fit = fit_trailing(tail, len)?;
+            let fit = fit_trailing(ValidTail { layout: tail }, len)?;
             Ok(Granted {
                 elems: fit.elems,
                 split_at: split_around(fit.split_at, len, cast_type),
@@ -157,15 +158,16 @@ pub fn validate_cast_and_convert_metadata(
         (GrantMeans 64 (layout_of layout).info (side_of cast_type) bytes_len) (cast_says result) }
 {
     layout.check()?;
-    cast_checked(layout, addr, bytes_len, cast_type)
+    cast_checked(ValidLayout { layout }, addr, bytes_len, cast_type)
 }
 
 // The count of a layout's size, where the layout is trailing: that of a cast over size bytes that leaves none.
-fn exact_elems(layout: DstLayout<u64>, size: u64) -> Result<u64, Refusal>
-    requires { (None (layout_causes 64 (layout_of layout))) × IsTrailing (layout_of layout).info }
-    ensures { number_says result ≡ unless (no_exact 64 (layout_of layout) size ∷ []) (count_in 64 (layout_of layout).info size) }
+fn exact_elems(valid: ValidLayout, size: u64) -> Result<u64, Refusal>
+    requires { IsTrailing (layout_of valid.layout).info }
+    ensures { number_says result ≡ unless (no_exact 64 (layout_of valid.layout) size ∷ [])
+        (count_in 64 (layout_of valid.layout).info size) }
 {
-    let Ok(granted) = cast_checked(layout, 0, size, CastType::Prefix) else {
+    let Ok(granted) = cast_checked(valid, 0, size, CastType::Prefix) else {
         return Err(Refusal::NoExactCount);
     };
     if granted.split_at == size {
@@ -175,14 +177,14 @@ fn exact_elems(layout: DstLayout<u64>, size: u64) -> Result<u64, Refusal>
     }
 }
 
-fn exact_checked(layout: DstLayout<u64>, size: u64) -> Result<u64, Refusal>
-    requires { None (layout_causes 64 (layout_of layout)) }
-    ensures { number_says result ≡ unless (no_exact 64 (layout_of layout) size ∷ []) (count_in 64 (layout_of layout).info size) }
+fn exact_checked(valid: ValidLayout, size: u64) -> Result<u64, Refusal>
+    ensures { number_says result ≡ unless (no_exact 64 (layout_of valid.layout) size ∷ [])
+        (count_in 64 (layout_of valid.layout).info size) }
 {
-    let size_info = layout.size_info;
+    let size_info = valid.layout.size_info;
     match size_info {
         SizeInfo::Sized { size: _ } => Err(Refusal::NoExactCount),
-        SizeInfo::SliceDst(_) => exact_elems(layout, size),
+        SizeInfo::SliceDst(_) => exact_elems(valid, size),
     }
 }
 
@@ -193,5 +195,5 @@ pub fn metadata_for_exact_size(layout: DstLayout<u64>, size: u64) -> Result<u64,
         (number_says result) }
 {
     layout.check()?;
-    exact_checked(layout, size)
+    exact_checked(ValidLayout { layout }, size)
 }

@@ -5,7 +5,7 @@
 ghost use Rattle.std.specs.Prelude.{◌≡◌};
 ghost use Rattle.util_defs.specs.Refusal.{answered, None, Meets, unless};
 ghost use Rattle.trailing.specs.View.{trailing_of};
-ghost use Rattle.layout_defs.specs.Layout.{fixed, trailing, layout_causes, FitsWidth};
+ghost use Rattle.layout_defs.specs.Layout.{fixed, trailing, FitsWidth};
 ghost use Rattle.layout.specs.View.{info_of, layout_of};
 ghost use Rattle.shift_defs.specs.Mode as Modes;
 ghost use Rattle.shift_defs.specs.Mode.{comparison_of};
@@ -15,7 +15,7 @@ ghost use Rattle.convert_defs.specs.Convert.{Params, params_of, by_kinds};
 ghost use Rattle.convert_defs.specs.Convert.{Converts, compute_causes, compute_for};
 ghost use Rattle.convert.specs.View.{params_in, compute_says};
 
-use layout::{DstLayout, SizeInfo};
+use layout::{DstLayout, SizeInfo, ValidLayout};
 use shift::Mode;
 use trailing::TrailingSliceLayout;
 use util::Refusal;
@@ -58,16 +58,16 @@ impl From<CastParamsInner<u32>> for CastParamsInner<u64> {
 
 // Trailing to trailing.
 fn compute_unsized(
-    src_layout: DstLayout<u64>,
+    valid_src: ValidLayout,
     src: TrailingSliceLayout<u64>,
-    dst_layout: DstLayout<u64>,
+    valid_dst: ValidLayout,
     dst: TrailingSliceLayout<u64>,
     mode: Mode,
 ) -> Result<CastParamsInner<u64>, Refusal>
-    requires { None (layout_causes 64 (layout_of src_layout)) × (info_of src_layout.size_info ≡ trailing (trailing_of src))
-        × None (layout_causes 64 (layout_of dst_layout)) × (info_of dst_layout.size_info ≡ trailing (trailing_of dst)) }
+    requires { (info_of valid_src.layout.size_info ≡ trailing (trailing_of src))
+        × (info_of valid_dst.layout.size_info ≡ trailing (trailing_of dst)) }
     ensures { compute_says result ≡ by_kinds 64 (comparison_of 64 (mode_of mode)) (trailing (trailing_of src))
-        (layout_of dst_layout) (trailing (trailing_of dst)) }
+        (layout_of valid_dst.layout) (trailing (trailing_of dst)) }
 {
     let dst_elem_size = dst.elem_size;
     if dst_elem_size == 0 {
@@ -80,7 +80,7 @@ fn compute_unsized(
     if src_elem_size % dst_elem_size != 0 {
         return Err(Refusal::ElemNoMultiple);
     }
-    let Ok(shift) = shift::offset_delta_elems(src_layout, dst_layout, mode) else {
+    let Ok(shift) = shift::offset_delta_elems(valid_src.layout, valid_dst.layout, mode) else {
         return Err(Refusal::NoShift);
     };
     match shift {
@@ -119,42 +119,42 @@ fn compute_from_sized(
 }
 
 fn compute_from_unsized(
-    src_layout: DstLayout<u64>,
+    valid_src: ValidLayout,
     src: TrailingSliceLayout<u64>,
-    dst_layout: DstLayout<u64>,
+    valid_dst: ValidLayout,
     mode: Mode,
 ) -> Result<CastParamsInner<u64>, Refusal>
-    requires { None (layout_causes 64 (layout_of src_layout)) × (info_of src_layout.size_info ≡ trailing (trailing_of src))
-        × None (layout_causes 64 (layout_of dst_layout)) }
+    requires { info_of valid_src.layout.size_info ≡ trailing (trailing_of src) }
     ensures { compute_says result ≡ by_kinds 64 (comparison_of 64 (mode_of mode)) (trailing (trailing_of src))
-        (layout_of dst_layout) (info_of dst_layout.size_info) }
+        (layout_of valid_dst.layout) (info_of valid_dst.layout.size_info) }
 {
-    let size_info = dst_layout.size_info;
+    let size_info = valid_dst.layout.size_info;
     match size_info {
         SizeInfo::Sized { size: _ } => Err(Refusal::TrailingToFixed),
-        SizeInfo::SliceDst(dst) => compute_unsized(src_layout, src, dst_layout, dst, mode),
+        SizeInfo::SliceDst(dst) => compute_unsized(valid_src, src, valid_dst, dst, mode),
     }
 }
 
 // The conversion between two layouts that passed their checks.
 fn compute(
-    src_layout: DstLayout<u64>,
-    dst_layout: DstLayout<u64>,
+    valid_src: ValidLayout,
+    valid_dst: ValidLayout,
     mode: Mode,
 ) -> Result<CastParamsInner<u64>, Refusal>
-    requires { None (layout_causes 64 (layout_of src_layout)) × None (layout_causes 64 (layout_of dst_layout)) }
-    ensures { compute_says result
-        ≡ unless (conversion_causes 64 (comparison_of 64 (mode_of mode)) (layout_of src_layout) (layout_of dst_layout))
-        (params_of 64 (comparison_of 64 (mode_of mode)) (layout_of src_layout).info (layout_of dst_layout)
-        (layout_of dst_layout).info) }
+    ensures { compute_says result ≡ unless
+        (conversion_causes 64 (comparison_of 64 (mode_of mode)) (layout_of valid_src.layout) (layout_of valid_dst.layout))
+        (params_of 64 (comparison_of 64 (mode_of mode)) (layout_of valid_src.layout).info (layout_of valid_dst.layout)
+        (layout_of valid_dst.layout).info) }
 {
+    let src_layout = valid_src.layout;
+    let dst_layout = valid_dst.layout;
     if src_layout.align < dst_layout.align {
         return Err(Refusal::SourceAlignLower);
     }
     let size_info = src_layout.size_info;
     match size_info {
         SizeInfo::Sized { size } => compute_from_sized(size, dst_layout),
-        SizeInfo::SliceDst(src) => compute_from_unsized(src_layout, src, dst_layout, mode),
+        SizeInfo::SliceDst(src) => compute_from_unsized(valid_src, src, valid_dst, mode),
     }
 }
 
@@ -175,5 +175,7 @@ pub fn try_compute(
 {
     src_layout.check()?;
     dst_layout.check()?;
-    compute(src_layout, dst_layout, mode)
+    let src = ValidLayout { layout: src_layout };
+    let dst = ValidLayout { layout: dst_layout };
+    compute(src, dst, mode)
 }

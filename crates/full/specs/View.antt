@@ -2,7 +2,7 @@
 use Rattle.std.specs.Prelude.{ℕ, Result}
 use Rattle.util.specs.View.{says}
 use Rattle.util.specs.declared.refusal.Refusal.{Refusal}
-use Rattle.util_defs.specs.Refusal.{Outcome, answered, refused}
+use Rattle.util_defs.specs.Refusal.{Outcome}
 use Rattle.full_defs.specs.Form.{Form}
 use Rattle.full.specs.declared.NormalForm.{NormalForm}
 

@@ -127,28 +127,18 @@ pub fn sizes_agree(
     ensures meaning { Meets (same_causes (trailing_of first) (trailing_of other))
         (FoundEqual 64 (trailing_of first) (trailing_of other)) (decision_says result) }
 {
-    let word = first.size_rounding_align_and_phase;
-    let other_word = other.size_rounding_align_and_phase;
-    let parts = word.components()?;
-    let other_parts = other_word.components()?;
-    Ok(decoded_agree(
-        Decoded {
-            layout: first,
-            parts,
-        },
-        Decoded {
-            layout: other,
-            parts: other_parts,
-        },
-    ))
+    let first = first.decoded()?;
+    let other = other.decoded()?;
+    Ok(decoded_agree(first, other))
 }
 
 // The form whose phase is 0: its base is the size at 0, which must exist.
-fn form_at_zero(layout: TrailingSliceLayout<u64>, align: u64) -> Result<NormalForm<u64>, Refusal>
-    requires { (0 < (trailing_of layout).word)
-        × (form_of 64 (trailing_of layout) ≡ form (size_at 64 (trailing_of layout) 0) align (trailing_of layout).elem) }
-    ensures { form_says result ≡ form_for 64 (trailing_of layout) }
+fn form_at_zero(decoded: Decoded, align: u64) -> Result<NormalForm<u64>, Refusal>
+    requires { form_of 64 (trailing_of decoded.layout)
+        ≡ form (size_at 64 (trailing_of decoded.layout) 0) align (trailing_of decoded.layout).elem }
+    ensures { form_says result ≡ form_for 64 (trailing_of decoded.layout) }
 {
+    let layout = decoded.layout;
     let Ok(size) = layout.size_for_elems(0) else {
         return Err(Refusal::FormBasePassesMax);
     };
@@ -177,10 +167,10 @@ fn decoded_form(decoded: Decoded) -> Result<NormalForm<u64>, Refusal>
     let Components { align, phase } = decoded.parts;
     let elem = layout.elem_size;
     if elem & (align - 1) == 0 {
-        return form_at_zero(layout, 1);
+        return form_at_zero(decoded, 1);
     }
     if seen_phase(elem, align, phase) == 0 {
-        return form_at_zero(layout, align);
+        return form_at_zero(decoded, align);
     }
     Ok(NormalForm {
         size_base: layout.size_base,
@@ -195,7 +185,5 @@ pub fn normal_form(layout: TrailingSliceLayout<u64>) -> Result<NormalForm<u64>, 
     ensures answer { form_says result ≡ form_for 64 (trailing_of layout) }
     ensures meaning { Meets (form_causes 64 (trailing_of layout)) (IsNormal 64 (trailing_of layout)) (form_says result) }
 {
-    let word = layout.size_rounding_align_and_phase;
-    let parts = word.components()?;
-    decoded_form(Decoded { layout, parts })
+    decoded_form(layout.decoded()?)
 }

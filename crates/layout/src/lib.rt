@@ -2,9 +2,10 @@
 #![tactic(auto)]
 
 ghost use Rattle.std.specs.Prelude.{◌≡◌};
-ghost use Rattle.util_defs.specs.Refusal.{Meets};
+ghost use Rattle.util_defs.specs.Refusal.{None, Meets};
 ghost use Rattle.util.specs.View.{number_says};
 ghost use Rattle.layout_defs.specs.Layout.{layout_causes, check_for, FitsWidth};
+ghost use Rattle.layout_defs.specs.Unique.{accepted_prop};
 ghost use Rattle.layout_defs.specs.Extend.{round_up_causes, round_up_for, LeastPlace};
 ghost use Rattle.layout.specs.View.{layout_of, check_says};
 
@@ -26,6 +27,13 @@ pub struct DstLayout<N> {
     pub statically_shallow_unpadded: bool,
     // An alignment modifier was asked for, of the type or of a member at any depth. The Rust has no such mark.
     pub align_modifier: bool,
+}
+
+// A layout that `check` accepts.
+#[derive(Clone, Copy)]
+pub struct ValidLayout {
+    pub layout: DstLayout<u64>,
+    pub ghost accepted: { None (layout_causes 64 (layout_of layout)) } by { accepted_prop 64 (layout_of layout) },
 }
 
 // A layout with a size: no member of it is trailing.

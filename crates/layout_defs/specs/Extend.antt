@@ -1,6 +1,7 @@
 -- The member step: one member more at the end of a layout (document 01, module 4; the Reference's rules
 -- layout.repr.c.struct.size-field-offset and layout.repr.alignment.packed-fields). Assumes nothing.
-use Rattle.std.specs.Prelude.{◌≡◌, Bool, true, false, cond, not, ◌&&◌, ◌||◌, List, [], ◌∷◌, ◌++◌, ◌⊎◌, ℕ, ◌+◌, ◌%◌, ◌^◌, ◌≤◌, ◌<◌, max, min, eqb, ltb}
+use Rattle.std.specs.Prelude.{◌≡◌, Bool, true, false, cond, not, ◌&&◌, ◌||◌, List, [], ◌∷◌, ◌++◌, ◌⊎◌, ℕ, ◌+◌, ◌%◌, ◌^◌, ◌≤◌}
+use Rattle.std.specs.Prelude.{◌<◌, max, min, eqb, ltb}
 use Rattle.util_defs.specs.Width.{M}
 use Rattle.util_defs.specs.Power.{PowerOfTwo, power_of_two}
 use Rattle.util_defs.specs.Round.{up}

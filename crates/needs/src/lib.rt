@@ -5,19 +5,19 @@ ghost use Rattle.std.specs.Prelude.{◌≡◌, false, ◌<◌};
 ghost use Rattle.util_defs.specs.Refusal.{answered, Meets, Tells};
 ghost use Rattle.util.specs.View.{decision_says};
 ghost use Rattle.trailing.specs.View.{trailing_of};
-ghost use Rattle.layout_defs.specs.Layout.{trailing, no_word, layout_causes};
+ghost use Rattle.layout_defs.specs.Layout.{trailing, layout_causes};
 ghost use Rattle.layout.specs.View.{info_of, layout_of};
 ghost use Rattle.padding_defs.specs.Pad.{static_for, DynamicPadding};
 ghost use Rattle.padding_defs.specs.Pad.{dynamic_padding, dynamic_for};
 
-use layout::{DstLayout, SizeInfo};
-use trailing::TrailingSliceLayout;
+use layout::{DstLayout, SizeInfo, ValidLayout};
+use trailing::ValidTail;
 use util::Refusal;
 
-fn trailing_padding(tail: TrailingSliceLayout<u64>) -> Result<bool, Refusal>
-    requires { 0 < tail.size_rounding_align_and_phase.0 }
-    ensures { decision_says result ≡ answered (dynamic_padding 64 (trailing (trailing_of tail))) }
+fn trailing_padding(valid: ValidTail) -> Result<bool, Refusal>
+    ensures { decision_says result ≡ answered (dynamic_padding 64 (trailing (trailing_of valid.layout))) }
 {
+    let tail = valid.layout;
     let word = tail.size_rounding_align_and_phase;
     let align = word.align()?;
     let Ok(initial_size) = tail.size_for_elems(0) else {
@@ -30,13 +30,13 @@ fn trailing_padding(tail: TrailingSliceLayout<u64>) -> Result<bool, Refusal>
     }
 }
 
-fn dynamic_padding(size_info: SizeInfo<u64>) -> Result<bool, Refusal>
-    requires { (no_word (info_of size_info)).means → ⊥ }
-    ensures { decision_says result ≡ answered (dynamic_padding 64 (info_of size_info)) }
+fn dynamic_padding(valid: ValidLayout) -> Result<bool, Refusal>
+    ensures { decision_says result ≡ answered (dynamic_padding 64 (info_of valid.layout.size_info)) }
 {
+    let size_info = valid.layout.size_info;
     match size_info {
         SizeInfo::Sized { size: _ } => Ok(false),
-        SizeInfo::SliceDst(tail) => trailing_padding(tail),
+        SizeInfo::SliceDst(tail) => trailing_padding(ValidTail { layout: tail }),
     }
 }
 
@@ -57,7 +57,6 @@ pub fn requires_dynamic_padding(layout: DstLayout<u64>) -> Result<bool, Refusal>
     ensures meaning { Meets (layout_causes 64 (layout_of layout)) (Tells (DynamicPadding 64 (info_of layout.size_info)))
         (decision_says result) }
 {
-    let size_info = layout.size_info;
     layout.check()?;
-    dynamic_padding(size_info)
+    dynamic_padding(ValidLayout { layout })
 }

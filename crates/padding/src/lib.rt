@@ -4,17 +4,17 @@
 ghost use Rattle.std.specs.Prelude.{◌≡◌, [], ◌∷◌, ◌<◌};
 ghost use Rattle.util_defs.specs.Power.{PowerOfTwo};
 ghost use Rattle.util_defs.specs.Round.{up};
-ghost use Rattle.util_defs.specs.Refusal.{unless, None, Meets};
+ghost use Rattle.util_defs.specs.Refusal.{unless, Meets};
 ghost use Rattle.trailing.specs.View.{trailing_of};
-ghost use Rattle.layout_defs.specs.Layout.{trailing, layout_causes};
+ghost use Rattle.layout_defs.specs.Layout.{trailing};
 ghost use Rattle.layout_defs.specs.Extend.{rounding_passes};
 ghost use Rattle.layout.specs.View.{info_of, layout_of, layout_says, info_says};
 ghost use Rattle.padding_defs.specs.Pad.{fixed_part, coarser, finer, padded_tail, padded_mark, padded};
 ghost use Rattle.padding_defs.specs.Pad.{padding_needs, pad_causes, pad_for, Padded};
 
-use layout::{DstLayout, SizeInfo};
+use layout::{DstLayout, SizeInfo, ValidLayout};
 use rounding::RoundingAlignAndPhase;
-use trailing::{Decoded, TrailingSliceLayout};
+use trailing::{Decoded, TrailingSliceLayout, ValidTail};
 use util::Refusal;
 
 // Padding to an alignment above that of the rounding word. The fixed part of every size, the base rounded up to the word's
@@ -59,23 +59,16 @@ fn pad_finer(tail: TrailingSliceLayout<u64>, align: u64) -> Result<SizeInfo<u64>
     }))
 }
 
-fn pad_trailing(tail: TrailingSliceLayout<u64>, align: u64) -> Result<SizeInfo<u64>, Refusal>
-    requires { PowerOfTwo align × (0 < tail.size_rounding_align_and_phase.0) }
-    ensures { info_says result ≡ unless (rounding_passes 64 (padding_needs 64 align (trailing (trailing_of tail))) ∷ [])
-        (trailing (padded_tail 64 align (trailing_of tail))) }
+fn pad_trailing(valid: ValidTail, align: u64) -> Result<SizeInfo<u64>, Refusal>
+    requires { PowerOfTwo align }
+    ensures { info_says result ≡ unless (rounding_passes 64 (padding_needs 64 align (trailing (trailing_of valid.layout))) ∷ [])
+        (trailing (padded_tail 64 align (trailing_of valid.layout))) }
 {
-    let word = tail.size_rounding_align_and_phase;
-    let parts = word.components()?;
-    if parts.align < align {
-        pad_coarser(
-            Decoded {
-                layout: tail,
-                parts,
-            },
-            align,
-        )
+    let decoded = valid.layout.decoded()?;
+    if decoded.parts.align < align {
+        pad_coarser(decoded, align)
     } else {
-        pad_finer(tail, align)
+        pad_finer(decoded.layout, align)
     }
 }
 
@@ -98,11 +91,12 @@ fn pad_mark(size_info: SizeInfo<u64>, align: u64, unpadded: bool) -> bool
 }
 
 #[inline(always)]
-fn pad_checked(layout: DstLayout<u64>) -> Result<DstLayout<u64>, Refusal>
-    requires { None (layout_causes 64 (layout_of layout)) }
-    ensures { layout_says result ≡ unless (rounding_passes 64 (padding_needs 64 layout.align (info_of layout.size_info)) ∷ [])
-        (padded 64 (layout_of layout)) }
+fn pad_checked(valid: ValidLayout) -> Result<DstLayout<u64>, Refusal>
+    ensures { layout_says result
+        ≡ unless (rounding_passes 64 (padding_needs 64 valid.layout.align (info_of valid.layout.size_info)) ∷ [])
+        (padded 64 (layout_of valid.layout)) }
 {
+    let layout = valid.layout;
     let align = layout.align;
     let size_info = layout.size_info;
     let unpadded = pad_mark(size_info, align, layout.statically_shallow_unpadded);
@@ -118,7 +112,7 @@ fn pad_checked(layout: DstLayout<u64>) -> Result<DstLayout<u64>, Refusal>
             })
         },
         SizeInfo::SliceDst(tail) => {
-            let padded_info = pad_trailing(tail, align)?;
+            let padded_info = pad_trailing(ValidTail { layout: tail }, align)?;
             Ok(DstLayout {
                 align,
                 size_info: padded_info,
@@ -136,5 +130,5 @@ pub fn pad_to_align(layout: DstLayout<u64>) -> Result<DstLayout<u64>, Refusal>
     ensures meaning { Meets (pad_causes 64 (layout_of layout)) (Padded 64 (layout_of layout)) (layout_says result) }
 {
     layout.check()?;
-    pad_checked(layout)
+    pad_checked(ValidLayout { layout })
 }

@@ -3,7 +3,7 @@
 // then proves none of the layout's other functions again.
 #![tactic(auto)]
 
-ghost use Rattle.std.specs.Prelude.{◌≡◌, ◌<◌};
+ghost use Rattle.std.specs.Prelude.{◌≡◌};
 ghost use Rattle.util_defs.specs.Power.{PowerOfTwo};
 ghost use Rattle.util_defs.specs.Refusal.{Meets};
 ghost use Rattle.util.specs.View.{decision_says};
@@ -41,14 +41,13 @@ fn same_stride(elem: u64, parts: Components<u64>, other: Components<u64>) -> boo
 }
 
 // Whether the sizes at 0 exist and are equal.
-fn same_start(first: TrailingSliceLayout<u64>, other: TrailingSliceLayout<u64>) -> bool
-    requires { (0 < (trailing_of first).word) × (0 < (trailing_of other).word) }
-    ensures { result ≡ same_start 64 (trailing_of first) (trailing_of other) }
+fn same_start(first: Decoded, other: Decoded) -> bool
+    ensures { result ≡ same_start 64 (trailing_of first.layout) (trailing_of other.layout) }
 {
-    let Ok(first_size) = first.size_for_elems(0) else {
+    let Ok(first_size) = first.layout.size_for_elems(0) else {
         return false;
     };
-    let Ok(other_size) = other.size_for_elems(0) else {
+    let Ok(other_size) = other.layout.size_for_elems(0) else {
         return false;
     };
     first_size == other_size
@@ -61,7 +60,7 @@ fn same_sequence(first: Decoded, other: Decoded) -> bool
     if elem != other.layout.elem_size {
         return false;
     }
-    if same_start(first.layout, other.layout) {
+    if same_start(first, other) {
         same_stride(elem, first.parts, other.parts)
     } else {
         false
@@ -77,18 +76,7 @@ pub fn has_same_size_sequence(
     ensures meaning { Meets (same_causes (trailing_of first) (trailing_of other))
         (FoundSame 64 (trailing_of first) (trailing_of other)) (decision_says result) }
 {
-    let word = first.size_rounding_align_and_phase;
-    let other_word = other.size_rounding_align_and_phase;
-    let parts = word.components()?;
-    let other_parts = other_word.components()?;
-    Ok(same_sequence(
-        Decoded {
-            layout: first,
-            parts,
-        },
-        Decoded {
-            layout: other,
-            parts: other_parts,
-        },
-    ))
+    let first = first.decoded()?;
+    let other = other.decoded()?;
+    Ok(same_sequence(first, other))
 }

@@ -2,7 +2,7 @@
 use Rattle.std.specs.Prelude.{ℕ, Option, Some, None, Result}
 use Rattle.util.specs.View.{says}
 use Rattle.util.specs.declared.refusal.Refusal.{Refusal}
-use Rattle.util_defs.specs.Refusal.{Outcome, answered, refused}
+use Rattle.util_defs.specs.Refusal.{Outcome}
 use Rattle.shift_defs.specs.Mode.{Mode, ported, full}
 use Rattle.shift_defs.specs.Shift.{Shift, by, missing}
 use Rattle.shift.specs.declared.Mode as Given

@@ -9,16 +9,15 @@ ghost use Rattle.trailing_defs.specs.Sequence.{same_sequence};
 ghost use Rattle.trailing_defs.specs.Calls.{same_causes};
 ghost use Rattle.trailing.specs.View.{trailing_of};
 ghost use Rattle.full_defs.specs.Full.{sizes_agree};
-ghost use Rattle.layout_defs.specs.Layout.{no_word};
 ghost use Rattle.layout.specs.View.{info_of, layout_of};
-ghost use Rattle.shift_defs.specs.Match.{same_from, match_test, match_for, FoundMatch};
+ghost use Rattle.shift_defs.specs.Match.{Comparison, same_from, match_test, match_for, FoundMatch};
 ghost use Rattle.shift_defs.specs.Mode.{comparison_of};
 ghost use Rattle.shift_defs.specs.Shift.{by_offset, by_size, matched_shift, shift_of, shift_between, shift_causes, shift_for};
 ghost use Rattle.shift_defs.specs.Shift.{ShiftMeans};
 ghost use Rattle.shift.specs.View.{mode_of, shift_in, shift_says};
 
-use layout::{DstLayout, SizeInfo};
-use trailing::TrailingSliceLayout;
+use layout::{DstLayout, SizeInfo, ValidLayout};
+use trailing::{TrailingSliceLayout, ValidTail};
 use util::Refusal;
 
 // What compares the sizes of two layouts: the ported comparison, of which a no does not mean that they differ, or the full one.
@@ -28,65 +27,58 @@ pub enum Mode {
     Full,
 }
 
-// Whether the ported comparison says yes. It asks for the sizes at 0 itself.
-fn found_same(src: TrailingSliceLayout<u64>, other: TrailingSliceLayout<u64>) -> bool
-    requires { (0 < (trailing_of src).word) × (0 < (trailing_of other).word) }
-    ensures { result ≡ same_sequence 64 (trailing_of src) (trailing_of other) }
-{
-    match sequence::has_same_size_sequence(src, other) {
-        Ok(same) => same,
-        Err(_) => false,
+// A comparison of the sizes of two layouts, as a mode has it.
+trait Compares {
+    ghost comparison: { Comparison };
+
+    // Whether the source has a size at 0 and the comparison says yes.
+    fn found(src: ValidTail, other: ValidTail) -> bool
+        ensures { result ≡ same_from 64 comparison (trailing_of src.layout) (trailing_of other.layout) };
+}
+
+struct Ported;
+
+// This one asks for the sizes at 0 itself.
+impl Compares for Ported {
+    ghost comparison = { same_sequence 64 };
+
+    fn found(src: ValidTail, other: ValidTail) -> bool {
+        sequence::has_same_size_sequence(src.layout, other.layout).unwrap_or(false)
     }
 }
 
-// Whether the source has a size at 0 and the full comparison, which does not ask for it, says yes.
-fn found_equal(src: TrailingSliceLayout<u64>, other: TrailingSliceLayout<u64>) -> bool
-    requires { (0 < (trailing_of src).word) × (0 < (trailing_of other).word) }
-    ensures { result ≡ same_from 64 (sizes_agree 64) (trailing_of src) (trailing_of other) }
-{
-    let Ok(_) = src.size_for_elems(0) else {
-        return false;
-    };
-    match full::sizes_agree(src, other) {
-        Ok(equal) => equal,
-        Err(_) => false,
+struct Full;
+
+impl Compares for Full {
+    ghost comparison = { sizes_agree 64 };
+
+    fn found(src: ValidTail, other: ValidTail) -> bool {
+        let Ok(_) = src.layout.size_for_elems(0) else {
+            return false;
+        };
+        full::sizes_agree(src.layout, other.layout).unwrap_or(false)
     }
 }
 
-// Whether the target, advanced by dst_base of its elements and given the source's, is found to have the source's sizes, by the
-// ported comparison.
-fn sequences_match(
-    src: TrailingSliceLayout<u64>,
-    dst: TrailingSliceLayout<u64>,
-    dst_base: u64,
-) -> bool
-    requires { (0 < (trailing_of src).word) × (0 < (trailing_of dst).word) }
-    ensures { result ≡ match_test 64 (same_sequence 64) (trailing_of src) (trailing_of dst) dst_base }
+// Whether the target, advanced by dst_base of its elements and given the source's, is found to have the source's sizes.
+fn matches<C: Compares>(src: ValidTail, dst: ValidTail, dst_base: u64) -> bool
+    ensures { result ≡ match_test 64 C.comparison (trailing_of src.layout) (trailing_of dst.layout) dst_base }
 {
-    let Some(base_bytes) = util::checked_mul(dst_base, dst.elem_size) else {
+    let Some(base_bytes) = util::checked_mul(dst_base, dst.layout.elem_size) else {
         return false;
     };
-    let Ok(shifted_dst) = advance::advance(dst, base_bytes, src.elem_size) else {
+    let Ok(shifted_dst) = advance::advance(dst.layout, base_bytes, src.layout.elem_size) else {
         return false;
     };
-    found_same(src, shifted_dst)
+    C::found(
+        src,
+        ValidTail {
+            layout: shifted_dst,
+        },
+    )
 }
 
-// The same by the full comparison.
-fn sizes_match(src: TrailingSliceLayout<u64>, dst: TrailingSliceLayout<u64>, dst_base: u64) -> bool
-    requires { (0 < (trailing_of src).word) × (0 < (trailing_of dst).word) }
-    ensures { result ≡ match_test 64 (sizes_agree 64) (trailing_of src) (trailing_of dst) dst_base }
-{
-    let Some(dst_bytes) = util::checked_mul(dst_base, dst.elem_size) else {
-        return false;
-    };
-    let Ok(shifted_dst) = advance::advance(dst, dst_bytes, src.elem_size) else {
-        return false;
-    };
-    found_equal(src, shifted_dst)
-}
-
-// The same of any two layouts.
+// The same of any two layouts, in a mode.
 pub fn size_sequences_match(
     src: TrailingSliceLayout<u64>,
     dst: TrailingSliceLayout<u64>,
@@ -106,31 +98,26 @@ pub fn size_sequences_match(
     if dst_word.0 == 0 {
         return Err(Refusal::RoundingWordZero);
     }
-    match mode {
-        Mode::Ported => Ok(sequences_match(src, dst, dst_base)),
-        Mode::Full => Ok(sizes_match(src, dst, dst_base)),
-    }
+    let src = ValidTail { layout: src };
+    let dst = ValidTail { layout: dst };
+    Ok(match mode {
+        Mode::Ported => matches::<Ported>(src, dst, dst_base),
+        Mode::Full => matches::<Full>(src, dst, dst_base),
+    })
 }
 
 // The first way: the difference of the size offsets in whole target elements.
-fn exact_offset_delta_elems(
-    src: TrailingSliceLayout<u64>,
-    dst: TrailingSliceLayout<u64>,
-) -> Option<u64>
-    requires { (0 < (trailing_of src).word) × (0 < (trailing_of dst).word) × (0 < (trailing_of dst).elem) }
-    ensures { shift_in result ≡ by_offset 64 (trailing_of src) (trailing_of dst) }
+fn exact_offset_delta_elems(src: ValidTail, dst: ValidTail) -> Option<u64>
+    requires { 0 < (trailing_of dst.layout).elem }
+    ensures { shift_in result ≡ by_offset 64 (trailing_of src.layout) (trailing_of dst.layout) }
 {
-    let Ok(src_offset) = src.size_offset() else {
-        return None;
-    };
-    let Ok(dst_offset) = dst.size_offset() else {
-        return None;
-    };
+    let src_offset = src.layout.size_offset().ok()?;
+    let dst_offset = dst.layout.size_offset().ok()?;
     if src_offset < dst_offset {
         return None;
     }
     let delta = src_offset - dst_offset;
-    let dst_elem_size = dst.elem_size;
+    let dst_elem_size = dst.layout.elem_size;
     if delta % dst_elem_size == 0 {
         Some(delta / dst_elem_size)
     } else {
@@ -139,122 +126,85 @@ fn exact_offset_delta_elems(
 }
 
 // The second way: the target's exact count of the source's size at 0.
-fn offset_delta_by_size(src: TrailingSliceLayout<u64>, dst_layout: DstLayout<u64>) -> Option<u64>
-    requires { 0 < (trailing_of src).word }
-    ensures { shift_in result ≡ by_size 64 (trailing_of src) (layout_of dst_layout) }
+fn offset_delta_by_size(src: ValidTail, dst_layout: DstLayout<u64>) -> Option<u64>
+    ensures { shift_in result ≡ by_size 64 (trailing_of src.layout) (layout_of dst_layout) }
 {
-    let Ok(src_zero_size) = src.size_for_elems(0) else {
+    let Ok(src_zero_size) = src.layout.size_for_elems(0) else {
         return None;
     };
-    match cast::metadata_for_exact_size(dst_layout, src_zero_size) {
-        Ok(elems) => Some(elems),
-        Err(_) => None,
-    }
+    cast::metadata_for_exact_size(dst_layout, src_zero_size).ok()
 }
 
-// The first way, where the sequences match at that shift. Of two such functions each calls the matches itself: a function that
-// both called would hand shifts back through memory, and would keep the mode where it is a constant.
-fn matching_offset(
-    src: TrailingSliceLayout<u64>,
-    dst: TrailingSliceLayout<u64>,
-    mode: Mode,
-) -> Option<u64>
-    requires { (0 < (trailing_of src).word) × (0 < (trailing_of dst).word) × (0 < (trailing_of dst).elem) }
-    ensures { shift_in result ≡ matched_shift 64 (comparison_of 64 (mode_of mode)) (trailing_of src) (trailing_of dst)
-        (by_offset 64 (trailing_of src) (trailing_of dst)) }
+// A shift by the first way, where the two match at it.
+fn matching_offset<C: Compares>(src: ValidTail, dst: ValidTail) -> Option<u64>
+    requires { 0 < (trailing_of dst.layout).elem }
+    ensures { shift_in result ≡ matched_shift 64 C.comparison (trailing_of src.layout) (trailing_of dst.layout)
+        (by_offset 64 (trailing_of src.layout) (trailing_of dst.layout)) }
 {
-    match exact_offset_delta_elems(src, dst) {
-        Some(elems) => match mode {
-            Mode::Ported => {
-                if sequences_match(src, dst, elems) {
-                    Some(elems)
-                } else {
-                    None
-                }
-            }
-            Mode::Full => {
-                if sizes_match(src, dst, elems) {
-                    Some(elems)
-                } else {
-                    None
-                }
-            }
-        },
-        None => None,
+    let elems = exact_offset_delta_elems(src, dst)?;
+    if matches::<C>(src, dst, elems) {
+        Some(elems)
+    } else {
+        None
     }
 }
 
-// The second way, where they do.
-fn matching_size(
-    src: TrailingSliceLayout<u64>,
+// By the second way, where they do.
+fn matching_size<C: Compares>(
+    src: ValidTail,
     dst_layout: DstLayout<u64>,
-    dst: TrailingSliceLayout<u64>,
-    mode: Mode,
+    dst: ValidTail,
 ) -> Option<u64>
-    requires { (0 < (trailing_of src).word) × (0 < (trailing_of dst).word) }
-    ensures { shift_in result ≡ matched_shift 64 (comparison_of 64 (mode_of mode)) (trailing_of src) (trailing_of dst)
-        (by_size 64 (trailing_of src) (layout_of dst_layout)) }
+    ensures { shift_in result ≡ matched_shift 64 C.comparison (trailing_of src.layout) (trailing_of dst.layout)
+        (by_size 64 (trailing_of src.layout) (layout_of dst_layout)) }
 {
-    match offset_delta_by_size(src, dst_layout) {
-        Some(count) => match mode {
-            Mode::Ported => {
-                if sequences_match(src, dst, count) {
-                    Some(count)
-                } else {
-                    None
-                }
-            }
-            Mode::Full => {
-                if sizes_match(src, dst, count) {
-                    Some(count)
-                } else {
-                    None
-                }
-            }
-        },
-        None => None,
+    let count = offset_delta_by_size(src, dst_layout)?;
+    if matches::<C>(src, dst, count) {
+        Some(count)
+    } else {
+        None
     }
 }
 
-// A shift at which they match: by the first way, else by the second.
-fn matching_delta_elems(
-    src: TrailingSliceLayout<u64>,
+// A shift at which they match: by the first way, else by the second. By a match, and above by an `if`: no proof could name what a
+// closure over C gives to `or_else` and `filter`.
+fn matching_delta_elems<C: Compares>(
+    src: ValidTail,
     dst_layout: DstLayout<u64>,
-    dst: TrailingSliceLayout<u64>,
-    mode: Mode,
+    dst: ValidTail,
 ) -> Option<u64>
-    requires { (0 < (trailing_of src).word) × (0 < (trailing_of dst).word) × (0 < (trailing_of dst).elem) }
-    ensures { shift_in result ≡ shift_of 64 (comparison_of 64 (mode_of mode)) (trailing_of src) (layout_of dst_layout)
-        (trailing_of dst) }
+    requires { 0 < (trailing_of dst.layout).elem }
+    ensures { shift_in result ≡ shift_of 64 C.comparison (trailing_of src.layout) (layout_of dst_layout)
+        (trailing_of dst.layout) }
 {
-    match matching_offset(src, dst, mode) {
+    match matching_offset::<C>(src, dst) {
         Some(elems) => Some(elems),
-        None => matching_size(src, dst_layout, dst, mode),
+        None => matching_size::<C>(src, dst_layout, dst),
     }
 }
 
 // The shift between two layouts that passed their checks: there is none from or to a fixed one, nor to elements of no size.
-fn checked_delta_elems(
-    src_layout: DstLayout<u64>,
-    dst_layout: DstLayout<u64>,
-    mode: Mode,
-) -> Option<u64>
-    requires { ((no_word (info_of src_layout.size_info)).means → ⊥) × ((no_word (info_of dst_layout.size_info)).means → ⊥) }
-    ensures { shift_in result ≡ shift_between 64 (comparison_of 64 (mode_of mode)) (info_of src_layout.size_info)
-        (layout_of dst_layout) (info_of dst_layout.size_info) }
+fn checked_delta_elems(valid_src: ValidLayout, valid_dst: ValidLayout, mode: Mode) -> Option<u64>
+    ensures { shift_in result ≡ shift_between 64 (comparison_of 64 (mode_of mode)) (info_of valid_src.layout.size_info)
+        (layout_of valid_dst.layout) (info_of valid_dst.layout.size_info) }
 {
-    let src_info = src_layout.size_info;
+    let src_info = valid_src.layout.size_info;
     let SizeInfo::SliceDst(src) = src_info else {
         return None;
     };
+    let dst_layout = valid_dst.layout;
     let dst_info = dst_layout.size_info;
     let SizeInfo::SliceDst(dst) = dst_info else {
         return None;
     };
     if dst.elem_size == 0 {
-        None
-    } else {
-        matching_delta_elems(src, dst_layout, dst, mode)
+        return None;
+    }
+    let src = ValidTail { layout: src };
+    let dst = ValidTail { layout: dst };
+    match mode {
+        Mode::Ported => matching_delta_elems::<Ported>(src, dst_layout, dst),
+        Mode::Full => matching_delta_elems::<Full>(src, dst_layout, dst),
     }
 }
 
@@ -272,5 +222,7 @@ pub fn offset_delta_elems(
 {
     src_layout.check()?;
     dst_layout.check()?;
-    Ok(checked_delta_elems(src_layout, dst_layout, mode))
+    let src = ValidLayout { layout: src_layout };
+    let dst = ValidLayout { layout: dst_layout };
+    Ok(checked_delta_elems(src, dst, mode))
 }

@@ -3,24 +3,38 @@ use Rattle.util.specs.declared.refusal.Refusal.{Refusal}
 use Rattle.std.specs.Prelude.{Err, Ok, Result}
 use Rattle.std.proofs.Common.{◌≡◌, ℕ, ◌+◌, ◌^◌, ◌<◌, ◌≤◌, Bool, sym, ◌∙◌, subst, inl, inr, arith}
 use Rattle.util_defs.specs.Width.{M}
-use Rattle.util_defs.specs.Refusal.{Tells, holds, fails}
-use Rattle.util_defs.proofs.Refusals.{known, clear, tells_eq, tells_le, tells_lt}
+use Rattle.util_defs.specs.Refusal.{Outcome, Meets, Tells, holds, fails}
+use Rattle.util_defs.proofs.Refusals.{answered_means, refused_means, known, clear, tells_eq, tells_le, tells_lt}
+use Rattle.rounding.specs.Word.{word_causes}
 use Rattle.util_defs.proofs.Tables.{told_by, apart, answer_is, accepted_none}
 use Rattle.trailing_defs.specs.Size.{Trailing, size_at, HasSize, size_offset}
 use Rattle.trailing_defs.specs.Calls.{advance_causes, advanced, advance_for}
 use Rattle.trailing_defs.specs.Sized.{sized, none_above, refused_by, SizeMeans, has, above, refuses}
 use Rattle.trailing_defs.proofs.Sizes.{count_mono}
 use Rattle.util_defs.proofs.Powers.{positive}
-use Rattle.rounding.proofs.Words.{parts_of_lem}
+use Rattle.rounding.proofs.Words.{parts_of_lem, word_refused}
+use Rattle.trailing.specs.declared.Decoded.{Decoded}
 use Rattle.trailing.specs.declared.SizeRefusal.{SizeRefusal}
 use Rattle.trailing.specs.declared.SizeRefusal.TheVariants as Why
 use Rattle.trailing.specs.View.{trailing_of, no_size_says, size_says, advance_says}
 use Rattle.trailing.specs.declared.TrailingSliceLayout.{TrailingSliceLayout}
 use Rattle.std.specs.Result.{IsErrAnd}
 use Rattle.std.proofs.lemmas.Result.{err_from_is_err_and}
-use Rattle.util.specs.View.{number_of}
+use Rattle.util.specs.View.{number_of, says}
 use Rattle.std.proofs.Common.{ap}
 use Rattle.trailing_defs.specs.Sized.{SizeOutcome}
+
+-- the layout that was decoded
+abbrev decoded_layout : Result Decoded Refusal → Outcome (TrailingSliceLayout ℕ)
+decoded_layout = says (λ d. d.layout)
+
+-- of `decoded`: that layout; refused, its word is 0
+pub decoded_told : {n : ℕ} {l : TrailingSliceLayout ℕ} {d : Decoded} (r : Result Decoded Refusal) → Meets (word_causes n) (λ x. x ≡ l) (decoded_layout r) → r ≡ Ok d → d.layout ≡ l
+decoded_told {n} {l} r m e = (answered_means (subst (λ (x : Result Decoded Refusal). Meets (word_causes n) (λ x. x ≡ l) (decoded_layout x)) e m)).1
+
+pub decoded_refused : {n : ℕ} {l : TrailingSliceLayout ℕ} {k : Refusal} (r : Result Decoded Refusal) → Meets (word_causes n) (λ x. x ≡ l) (decoded_layout r) → r ≡ Err k
+    → (n ≡ 0) × (number_of k ≡ 2)
+decoded_refused {n} {l} r m e = word_refused (refused_means (subst (λ (x : Result Decoded Refusal). Meets (word_causes n) (λ x. x ≡ l) (decoded_layout x)) e m))
 
 -- of `size_for_elems`: the size, which exists; by either other answer a layout whose word is not 0 has none
 pub size_told : {s : ℕ} (w : ℕ) (t : Trailing) (n : ℕ) (r : Result ℕ (SizeRefusal ℕ)) → SizeMeans w t n (size_says r) → r ≡ Ok s

@@ -3,10 +3,11 @@
 #![tactic(auto)]
 
 ghost use Rattle.std.specs.Prelude.{◌≡◌, ◌*◌, ◌/◌, ◌%◌, ◌<◌};
+ghost use Rattle.std.specs.Coded.{le_prop};
 ghost use Rattle.util_defs.specs.Power.{PowerOfTwo};
 ghost use Rattle.util_defs.specs.Round.{up};
 ghost use Rattle.util_defs.specs.Refusal.{Meets};
-ghost use Rattle.util.specs.View.{number_says};
+ghost use Rattle.util.specs.View.{says, number_says};
 ghost use Rattle.rounding.specs.Word.{IsWord, word_causes};
 ghost use Rattle.rounding.specs.Unique.{word_prop};
 ghost use Rattle.trailing_defs.specs.Calls.{size_offset_for, GreatestIn, SizeOffset, max_trailing_causes, max_trailing_for};
@@ -29,6 +30,13 @@ pub struct TrailingSliceLayout<N> {
     pub size_base: N,
     // The alignment and phase of the rounding: the phase is the fixed part of what is rounded.
     pub size_rounding_align_and_phase: RoundingAlignAndPhase<N>,
+}
+
+// A trailing layout that is one: its rounding word is not 0.
+#[derive(Clone, Copy)]
+pub struct ValidTail {
+    pub layout: TrailingSliceLayout<u64>,
+    pub ghost has_word: { 0 < layout.size_rounding_align_and_phase.0 } by { le_prop },
 }
 
 // A trailing layout beside the parts of its rounding word.
@@ -64,7 +72,7 @@ fn trailing_remainder(elems: u64, elem: u64, align: u64) -> u64
     util::wrapping_mul(elems, elem_remainder) & size_mask
 }
 
-// Each of these is the layout's method of that name, past the test of its word.
+// Past the test of the word: but for `rounded_phase` and `size_at` each is a step of the layout's method of that name.
 impl Decoded {
     // What an empty run adds: a block of the alignment, but for phase 0 nothing.
     pub fn rounded_phase(self) -> u64
@@ -144,18 +152,25 @@ impl Decoded {
 }
 
 impl TrailingSliceLayout<u64> {
+    // The layout beside the parts of its word, where that is not 0.
+    #[inline(always)]
+    pub fn decoded(self) -> Result<Decoded, Refusal>
+        ensures { Meets (word_causes (trailing_of self).word) (λ l. l ≡ self) (says (λ d. d.layout) result) }
+    {
+        let word = self.size_rounding_align_and_phase;
+        let parts = word.components()?;
+        Ok(Decoded {
+            layout: self,
+            parts,
+        })
+    }
+
     // The base rounded down to a multiple of the alignment, plus the phase.
     pub fn size_offset(self) -> Result<u64, Refusal>
         ensures answer { number_says result ≡ size_offset_for 64 (trailing_of self) }
         ensures meaning { Meets (word_causes (trailing_of self).word) (SizeOffset (trailing_of self)) (number_says result) }
     {
-        let word = self.size_rounding_align_and_phase;
-        let parts = word.components()?;
-        Decoded {
-            layout: self,
-            parts,
-        }
-        .size_offset()
+        self.decoded()?.size_offset()
     }
 
     // The greatest number of trailing bytes whose size is at most available_bytes.
@@ -164,13 +179,7 @@ impl TrailingSliceLayout<u64> {
         ensures meaning { Meets (max_trailing_causes 64 (trailing_of self) available_bytes)
             (GreatestIn 64 (trailing_of self) available_bytes) (number_says result) }
     {
-        let word = self.size_rounding_align_and_phase;
-        let parts = word.components()?;
-        Decoded {
-            layout: self,
-            parts,
-        }
-        .max_trailing_bytes(available_bytes)
+        self.decoded()?.max_trailing_bytes(available_bytes)
     }
 
     // The size at elems less the end of the elements, modulo 2^64.
@@ -179,13 +188,7 @@ impl TrailingSliceLayout<u64> {
         ensures meaning { Meets (word_causes (trailing_of self).word) (PaddingAt 64 (trailing_of self) elems)
             (number_says result) }
     {
-        let word = self.size_rounding_align_and_phase;
-        let parts = word.components()?;
-        Decoded {
-            layout: self,
-            parts,
-        }
-        .padding_for_elems(elems)
+        self.decoded()?.padding_for_elems(elems)
     }
 
     // The greatest count that has a size: as many elements as the greatest number of trailing bytes holds. The divide stands here
@@ -204,12 +207,6 @@ impl TrailingSliceLayout<u64> {
         ensures answer { size_says result ≡ size_given 64 (trailing_of self) elems }
         ensures meaning { SizeMeans 64 (trailing_of self) elems (size_says result) }
     {
-        let word = self.size_rounding_align_and_phase;
-        let parts = word.components()?;
-        Decoded {
-            layout: self,
-            parts,
-        }
-        .size_for_elems(elems)
+        self.decoded()?.size_for_elems(elems)
     }
 }

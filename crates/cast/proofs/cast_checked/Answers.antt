@@ -26,25 +26,25 @@ use Rattle.cast.proofs.Told.{fit_told, fit_within}
 use Rattle.cast.proofs.cast_checked.Goals as goal
 use Rattle.cast.proofs.cast_checked.Goals.{Start}
 
-aligned : (k : Start) → PowerOfTwo k.args.layout.align
-aligned k = power 64 k.args.layout.align (omega arith) k.requires.0
+aligned : (k : Start) → PowerOfTwo k.args.valid.layout.align
+aligned k = power 64 k.args.valid.layout.align (omega arith) k.args.valid.accepted.0
 
 abbrev tested : Start → ℕ
 tested k = tested_address (side_of k.args.cast_type) k.args.addr k.args.len
 
 -- the mask of an aligned address
-straight : (k : Start) (v : ℕ) → v ≡ tested k → bit_and v (k.args.layout.align - 1) ≡ 0 → tested k % k.args.layout.align ≡ 0
-straight k v e z = ap (λ (x : ℕ). x % k.args.layout.align) (sym e) ∙ sym (mask_mod v (aligned k)) ∙ z
+straight : (k : Start) (v : ℕ) → v ≡ tested k → bit_and v (k.args.valid.layout.align - 1) ≡ 0 → tested k % k.args.valid.layout.align ≡ 0
+straight k v e z = ap (λ (x : ℕ). x % k.args.valid.layout.align) (sym e) ∙ sym (mask_mod v (aligned k)) ∙ z
 
 -- past the tests of 10, 11 and 12 only the size is left
-passed : (k : Start) {b : Bool} → b ≡ false → b ≡ is_elem_zero (info_of k.args.layout.size_info) → k.args.addr + k.args.len ≤ 2 ^ 64 - 1
-    → tested k % k.args.layout.align ≡ 0
-    → let i = info_of k.args.layout.size_info in
+passed : (k : Start) {b : Bool} → b ≡ false → b ≡ is_elem_zero (info_of k.args.valid.layout.size_info) → k.args.addr + k.args.len ≤ 2 ^ 64 - 1
+    → tested k % k.args.valid.layout.align ≡ 0
+    → let i = info_of k.args.valid.layout.size_info in
     let side = side_of k.args.cast_type in
-    unless (bytes_causes 64 (layout_of k.args.layout) side k.args.addr k.args.len) (greatest_grant 64 i side k.args.len)
+    unless (bytes_causes 64 (layout_of k.args.valid.layout) side k.args.addr k.args.len) (greatest_grant 64 i side k.args.len)
     ≡ unless (too_small 64 i k.args.len ∷ []) (greatest_grant 64 i side k.args.len)
 unfolding unless
-passed k f e l z = simp (sym e ∙ f, le-ltb (2 ^ 64 - 1) (k.args.addr + k.args.len) l, eq-eqb (tested k % k.args.layout.align) 0 z)
+passed k f e l z = simp (sym e ∙ f, le-ltb (2 ^ 64 - 1) (k.args.addr + k.args.len) l, eq-eqb (tested k % k.args.valid.layout.align) 0 z)
 
 -- what is left to say of a size
 abbrev says : Start → SizeInfo ℕ → Outcome Grant
@@ -60,26 +60,30 @@ returns-then-addr-len c =
     simp (sym c.elem_size_zero.ensures ∙ c.if-elem_size_zero.false, lt-ltb (2 ^ 64 - 1) (c.args.addr + c.args.len) (omega arith))
 
 pub overflow_sub-layout : goal.overflow_sub-layout
-overflow_sub-layout c = positive (aligned c.before.before.before.before.before)
+overflow_sub-layout c = positive (aligned c.before.before.before.before.before.before)
 
 pub returns-then-tested_address-layout-ne0 : goal.returns-then-tested_address-layout-ne0
 unfolding unless
 returns-then-tested_address-layout-ne0 c =
-    let n : tested c.before.before.before.before.before.before % c.args.layout.align ≡ 0 → ⊥ = λ z. c.if-tested_address-layout-ne0.true (mask_mod c.tested_address.result (aligned c.before.before.before.before.before.before) ∙ ap (λ (x : ℕ). x % c.args.layout.align) c.tested_address.ensures ∙ z) in
-    simp (sym c.elem_size_zero.ensures ∙ c.if-elem_size_zero.false, le-ltb (2 ^ 64 - 1) (c.args.addr + c.args.len) (omega arith), ne_eqb (tested c.before.before.before.before.before.before % c.args.layout.align) 0 n)
+    let n : tested c.before.before.before.before.before.before.before % c.args.valid.layout.align ≡ 0 → ⊥ = λ z. c.if-tested_address-layout-ne0.true (mask_mod c.tested_address.result (aligned c.before.before.before.before.before.before.before) ∙ ap (λ (x : ℕ). x % c.args.valid.layout.align) c.tested_address.ensures ∙ z) in
+    simp (sym c.elem_size_zero.ensures ∙ c.if-elem_size_zero.false, le-ltb (2 ^ 64 - 1) (c.args.addr + c.args.len) (omega arith), ne_eqb (tested c.before.before.before.before.before.before.before % c.args.valid.layout.align) 0 n)
+
+pub invariant_of-fit_trailing : goal.invariant_of-fit_trailing
+invariant_of-fit_trailing c =
+    let w = subst (λ (i : SizeInfo ℕ). (no_word (info_of i)).means → ⊥) c.in-SliceDst.is c.args.valid.accepted.1.0 in
+    omega (arith, w)
 
 pub fit_trailing-requires : goal.fit_trailing-requires
 fit_trailing-requires c =
     let g = c.in-SliceDst.is in
-    let w = subst (λ (i : SizeInfo ℕ). (no_word (info_of i)).means → ⊥) g c.requires.1.0 in
-    let z = subst (λ (i : SizeInfo ℕ). (elem_zero (info_of i)).means → ⊥) g (no (elem_decided (info_of c.args.layout.size_info)) (sym c.elem_size_zero.ensures ∙ c.if-elem_size_zero.false)) in
-    (omega (arith, w), omega (arith, z))
+    let z = subst (λ (i : SizeInfo ℕ). (elem_zero (info_of i)).means → ⊥) g (no (elem_decided (info_of c.args.valid.layout.size_info)) (sym c.elem_size_zero.ensures ∙ c.if-elem_size_zero.false)) in
+    omega (arith, z)
 
 pub split_around-requires-in-SliceDst : goal.split_around-requires-in-SliceDst
 split_around-requires-in-SliceDst c =
     let g = c.in-SliceDst.is in
-    let w = subst (λ (i : SizeInfo ℕ). (no_word (info_of i)).means → ⊥) g c.requires.1.0 in
-    let z = subst (λ (i : SizeInfo ℕ). (elem_zero (info_of i)).means → ⊥) g (no (elem_decided (info_of c.args.layout.size_info)) (sym c.elem_size_zero.ensures ∙ c.if-elem_size_zero.false)) in
+    let w = subst (λ (i : SizeInfo ℕ). (no_word (info_of i)).means → ⊥) g c.args.valid.accepted.1.0 in
+    let z = subst (λ (i : SizeInfo ℕ). (elem_zero (info_of i)).means → ⊥) g (no (elem_decided (info_of c.args.valid.layout.size_info)) (sym c.elem_size_zero.ensures ∙ c.if-elem_size_zero.false)) in
     fit_within 64 (trailing (trailing_of c.in-SliceDst.tail)) c.args.len c.fit_trailing.result c.fit_trailing.ensures c.in_ok-fit-in-SliceDst.was (lit< tt) w z
 
 pub returns-then-size-len : goal.returns-then-size-len
@@ -87,14 +91,14 @@ unfolding unless
 returns-then-size-len c =
     let s = c.in-Sized.size in
     let u : refused 13 ≡ unless (too_small 64 (fixed s) c.args.len ∷ []) (greatest_grant 64 (fixed s) (side_of c.args.cast_type) c.args.len) = simp (lt-ltb c.args.len s c.if-size-len.true) (refl) in
-    u ∙ ap (says c.before.before.before.before.before.before.before.before) (sym c.in-Sized.is) ∙ sym (passed c.before.before.before.before.before.before.before.before c.if-elem_size_zero.false c.elem_size_zero.ensures (omega arith) (straight c.before.before.before.before.before.before.before.before c.tested_address.result c.tested_address.ensures c.if-tested_address-layout-ne0.false))
+    u ∙ ap (says c.before.before.before.before.before.before.before.before.before) (sym c.in-Sized.is) ∙ sym (passed c.before.before.before.before.before.before.before.before.before c.if-elem_size_zero.false c.elem_size_zero.ensures (omega arith) (straight c.before.before.before.before.before.before.before.before.before c.tested_address.result c.tested_address.ensures c.if-tested_address-layout-ne0.false))
 
 pub returns-else-size-len : goal.returns-else-size-len
 unfolding unless
 returns-else-size-len c =
     let s = c.in-Sized.size in
     let u : answered (record { count = 0; split = split_at (side_of c.args.cast_type) c.args.len s }) ≡ unless (too_small 64 (fixed s) c.args.len ∷ []) (greatest_grant 64 (fixed s) (side_of c.args.cast_type) c.args.len) = simp (le-ltb c.args.len s c.if-size-len.false) (refl) in
-    ap (λ (x : ℕ). answered (record { count = 0; split = x })) c.split_around.ensures ∙ u ∙ ap (says c.before.before.before.before.before.before.before.before.before) (sym c.in-Sized.is) ∙ sym (passed c.before.before.before.before.before.before.before.before.before c.if-elem_size_zero.false c.elem_size_zero.ensures (omega arith) (straight c.before.before.before.before.before.before.before.before.before c.tested_address.result c.tested_address.ensures c.if-tested_address-layout-ne0.false))
+    ap (λ (x : ℕ). answered (record { count = 0; split = x })) c.split_around.ensures ∙ u ∙ ap (says c.before.before.before.before.before.before.before.before.before.before) (sym c.in-Sized.is) ∙ sym (passed c.before.before.before.before.before.before.before.before.before.before c.if-elem_size_zero.false c.elem_size_zero.ensures (omega arith) (straight c.before.before.before.before.before.before.before.before.before.before c.tested_address.result c.tested_address.ensures c.if-tested_address-layout-ne0.false))
 
 pub returns-in_ok-fit-in-SliceDst : goal.returns-in_ok-fit-in-SliceDst
 returns-in_ok-fit-in-SliceDst c =
@@ -102,10 +106,10 @@ returns-in_ok-fit-in-SliceDst c =
     let f = fit_told 64 i c.args.len c.fit_trailing.result c.fit_trailing.ensures c.in_ok-fit-in-SliceDst.was in
     let ok = accepted_as (too_small 64 i c.args.len ∷ []) (greatest_grant 64 i prefix c.args.len) (greatest_grant 64 i (side_of c.args.cast_type) c.args.len) (told_by cast_says c.fit_trailing.ensures c.in_ok-fit-in-SliceDst.was) in
     ap₂ (λ (n s : ℕ). answered (record { count = n; split = s })) f.0 (c.split_around-in-SliceDst.ensures ∙ ap (split_at (side_of c.args.cast_type) c.args.len) f.1)
-    ∙ sym ok ∙ ap (says c.before.before.before.before.before.before.before.before.before.before.before) (sym c.in-SliceDst.is) ∙ sym (passed c.before.before.before.before.before.before.before.before.before.before.before c.if-elem_size_zero.false c.elem_size_zero.ensures (omega arith) (straight c.before.before.before.before.before.before.before.before.before.before.before c.tested_address.result c.tested_address.ensures c.if-tested_address-layout-ne0.false))
+    ∙ sym ok ∙ ap (says c.before.before.before.before.before.before.before.before.before.before.before.before.before) (sym c.in-SliceDst.is) ∙ sym (passed c.before.before.before.before.before.before.before.before.before.before.before.before.before c.if-elem_size_zero.false c.elem_size_zero.ensures (omega arith) (straight c.before.before.before.before.before.before.before.before.before.before.before.before.before c.tested_address.result c.tested_address.ensures c.if-tested_address-layout-ne0.false))
 
 pub returns-in_err-fit-in-SliceDst : goal.returns-in_err-fit-in-SliceDst
 returns-in_err-fit-in-SliceDst c =
     let i = trailing (trailing_of c.in-SliceDst.tail) in
     let ok = refused_as (too_small 64 i c.args.len ∷ []) (greatest_grant 64 i prefix c.args.len) (greatest_grant 64 i (side_of c.args.cast_type) c.args.len) (told_by cast_says c.fit_trailing.ensures c.in_err-fit-in-SliceDst.was) in
-    handed_on _ c.from_residual.result _ c.from_residual.ensures.1 (sym ok ∙ ap (says c.before.before.before.before.before.before.before.before.before.before.before) (sym c.in-SliceDst.is) ∙ sym (passed c.before.before.before.before.before.before.before.before.before.before.before c.if-elem_size_zero.false c.elem_size_zero.ensures (omega arith) (straight c.before.before.before.before.before.before.before.before.before.before.before c.tested_address.result c.tested_address.ensures c.if-tested_address-layout-ne0.false)))
+    handed_on _ c.from_residual.result _ c.from_residual.ensures.1 (sym ok ∙ ap (says c.before.before.before.before.before.before.before.before.before.before.before.before.before) (sym c.in-SliceDst.is) ∙ sym (passed c.before.before.before.before.before.before.before.before.before.before.before.before.before c.if-elem_size_zero.false c.elem_size_zero.ensures (omega arith) (straight c.before.before.before.before.before.before.before.before.before.before.before.before.before c.tested_address.result c.tested_address.ensures c.if-tested_address-layout-ne0.false)))

@@ -8,7 +8,7 @@ use Rattle.cast.proofs.Told.{exact_fixed}
 use Rattle.cast.proofs.exact_checked.Goals as goal
 
 pub exact_elems-requires : goal.exact_elems-requires
-exact_elems-requires c = (c.requires, subst (λ (i : SizeInfo ℕ). IsTrailing (info_of i)) (sym c.in-SliceDst.is) tt)
+exact_elems-requires c = subst (λ (i : SizeInfo ℕ). IsTrailing (info_of i)) (sym c.in-SliceDst.is) tt
 
 pub returns-in-Sized : goal.returns-in-Sized
-returns-in-Sized c = exact_fixed 64 (layout_of c.args.layout) c.args.size (ap (λ (i : SizeInfo ℕ). is_trailing (info_of i)) c.in-Sized.is)
+returns-in-Sized c = exact_fixed 64 (layout_of c.args.valid.layout) c.args.size (ap (λ (i : SizeInfo ℕ). is_trailing (info_of i)) c.in-Sized.is)

@@ -15,21 +15,18 @@ use Rattle.cast.proofs.exact_elems.Goals as goal
 use Rattle.cast.proofs.exact_elems.Goals.{Start}
 
 -- the layout is accepted, so the answer over the bytes is that of the whole cast
-whole : (k : Start) (r : Result (Granted ℕ) Refusal) → let l = layout_of k.args.layout in
+whole : (k : Start) (r : Result (Granted ℕ) Refusal) → let l = layout_of k.args.valid.layout in
     cast_says r ≡ unless (bytes_causes 64 l prefix 0 k.args.size) (greatest_grant 64 l.info prefix k.args.size) → cast_says r ≡ cast_for 64 l prefix 0 k.args.size
-whole k r e = e ∙ sym (cast_accepted 64 (layout_of k.args.layout) prefix 0 k.args.size (omega arith) k.requires.0)
-
-pub cast_checked-requires : goal.cast_checked-requires
-cast_checked-requires c = c.requires.0
+whole k r e = e ∙ sym (cast_accepted 64 (layout_of k.args.valid.layout) prefix 0 k.args.size (omega arith) k.args.valid.accepted)
 
 pub returns-then-granted-size : goal.returns-then-granted-size
 returns-then-granted-size c =
-    exact_answered 64 (layout_of c.args.layout) c.args.size c.cast_checked.result c.requires.1 (whole c.before.before.before.before c.cast_checked.result c.cast_checked.ensures) c.in-Ok.is c.if-granted-size.true
+    exact_answered 64 (layout_of c.args.valid.layout) c.args.size c.cast_checked.result c.requires (whole c.before.before.before.before c.cast_checked.result c.cast_checked.ensures) c.in-Ok.is c.if-granted-size.true
 
 pub returns-else-granted-size : goal.returns-else-granted-size
 returns-else-granted-size c =
-    exact_other 64 (layout_of c.args.layout) c.args.size c.cast_checked.result (whole c.before.before.before.before c.cast_checked.result c.cast_checked.ensures) c.in-Ok.is c.if-granted-size.false
+    exact_other 64 (layout_of c.args.valid.layout) c.args.size c.cast_checked.result (whole c.before.before.before.before c.cast_checked.result c.cast_checked.ensures) c.in-Ok.is c.if-granted-size.false
 
 pub returns-in_default : goal.returns-in_default
 returns-in_default c =
-    exact_none 64 (layout_of c.args.layout) c.args.size c.cast_checked.result (whole c.before.before c.cast_checked.result c.cast_checked.ensures) c.in_default.is
+    exact_none 64 (layout_of c.args.valid.layout) c.args.size c.cast_checked.result (whole c.before.before c.cast_checked.result c.cast_checked.ensures) c.in_default.is

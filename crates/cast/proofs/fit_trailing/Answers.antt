@@ -16,14 +16,14 @@ use Rattle.cast.proofs.fit_trailing.Goals as goal
 pub returns-in_default : goal.returns-in_default
 unfolding unless
 returns-in_default c =
-    let t = trailing_of c.args.tail in
-    let none = room_refused 64 t c.args.len c.max_trailing_bytes.result c.requires.0 (omega arith) c.max_trailing_bytes.ensures.answer c.in_default.is in
+    let t = trailing_of c.args.valid.layout in
+    let none = room_refused 64 t c.args.len c.max_trailing_bytes.result c.args.valid.has_word (omega arith) c.max_trailing_bytes.ensures.answer c.in_default.is in
     simp (lt-ltb c.args.len (size_at 64 t 0) (omega (arith, none (0 * t.elem))))
 
 pub fit_elems-requires : goal.fit_elems-requires
 fit_elems-requires c =
-    let t = trailing_of c.args.tail in (
-      c.requires.1,
+    let t = trailing_of c.args.valid.layout in (
+      c.requires,
       align_told c.align.result c.align.ensures.meaning c.in_ok-size_align.was,
       room_told 64 t c.args.len c.max_trailing_bytes.result (omega arith) c.max_trailing_bytes.ensures.answer c.in-Ok.is,
     )
@@ -31,7 +31,7 @@ fit_elems-requires c =
 pub returns : goal.returns
 unfolding unless
 returns c =
-    let t = trailing_of c.args.tail in
+    let t = trailing_of c.args.valid.layout in
     let g = room_told 64 t c.args.len c.max_trailing_bytes.result (omega arith) c.max_trailing_bytes.ensures.answer c.in-Ok.is in
     c.fit_elems.ensures
     ∙ simp (le-ltb c.args.len (size_at 64 t 0) (omega (arith, g.fits, size_mono t.base (A 64 t) (p 64 t) (0 * t.elem) c.in-Ok.max_slice_bytes (align_pos 64 t (lit< tt) (λ z. omega arith)) (omega arith))))

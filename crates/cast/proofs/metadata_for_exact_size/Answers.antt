@@ -14,9 +14,9 @@ use Rattle.cast_defs.proofs.Exact.{exact_meets}
 use Rattle.util_defs.proofs.Refusals.{means}
 use Rattle.cast.proofs.metadata_for_exact_size.Goals as goal
 
-pub exact_checked-requires : goal.exact_checked-requires
+pub invariant_of-exact_checked : goal.invariant_of-exact_checked
 unfolding check_for
-exact_checked-requires c = let l = layout_of c.args.layout in accepted_none (layout_causes 64 l) tt (layout_decided 64 l (omega arith)) (told_by check_says c.check.ensures.answer c.in_ok-check.was)
+invariant_of-exact_checked c = let l = layout_of c.args.layout in record { accepted = accepted_none (layout_causes 64 l) tt (layout_decided 64 l (omega arith)) (told_by check_says c.check.ensures.answer c.in_ok-check.was) }
 
 pub returns-clause-answer : goal.returns-clause-answer
 unfolding exact_for check_for

@@ -13,9 +13,9 @@ use Rattle.cast_defs.proofs.Grants.{cast_meets}
 use Rattle.util_defs.proofs.Refusals.{means}
 use Rattle.cast.proofs.validate_cast_and_convert_metadata.Goals as goal
 
-pub cast_checked-requires : goal.cast_checked-requires
+pub invariant_of-cast_checked : goal.invariant_of-cast_checked
 unfolding check_for
-cast_checked-requires c = let l = layout_of c.args.layout in accepted_none (layout_causes 64 l) tt (layout_decided 64 l (omega arith)) (told_by check_says c.check.ensures.answer c.in_ok-check.was)
+invariant_of-cast_checked c = let l = layout_of c.args.layout in record { accepted = accepted_none (layout_causes 64 l) tt (layout_decided 64 l (omega arith)) (told_by check_says c.check.ensures.answer c.in_ok-check.was) }
 
 pub returns-clause-answer : goal.returns-clause-answer
 unfolding cast_for check_for

@@ -13,11 +13,11 @@ use Rattle.convert.proofs.compute_from_unsized.Goals as goal
 
 pub compute_unsized-requires : goal.compute_unsized-requires
 compute_unsized-requires c =
-    (c.requires.0, c.requires.1, c.requires.2, ap info_of c.in-SliceDst.is)
+    (c.requires, ap info_of c.in-SliceDst.is)
 
 pub returns-in-Sized : goal.returns-in-Sized
 unfolding unless
-returns-in-Sized c = ap (λ (i : SizeInfo ℕ). by_kinds 64 (comparison_of 64 (mode_of c.args.mode)) (trailing (trailing_of c.args.src)) (layout_of c.args.dst_layout) (info_of i)) (sym c.in-Sized.is)
+returns-in-Sized c = ap (λ (i : SizeInfo ℕ). by_kinds 64 (comparison_of 64 (mode_of c.args.mode)) (trailing (trailing_of c.args.src)) (layout_of c.args.valid_dst.layout) (info_of i)) (sym c.in-Sized.is)
 
 pub returns-in-SliceDst : goal.returns-in-SliceDst
-returns-in-SliceDst c = c.compute_unsized.ensures ∙ ap (λ (i : SizeInfo ℕ). by_kinds 64 (comparison_of 64 (mode_of c.args.mode)) (trailing (trailing_of c.args.src)) (layout_of c.args.dst_layout) (info_of i)) (sym c.in-SliceDst.is)
+returns-in-SliceDst c = c.compute_unsized.ensures ∙ ap (λ (i : SizeInfo ℕ). by_kinds 64 (comparison_of 64 (mode_of c.args.mode)) (trailing (trailing_of c.args.src)) (layout_of c.args.valid_dst.layout) (info_of i)) (sym c.in-SliceDst.is)

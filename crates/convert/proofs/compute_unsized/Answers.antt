@@ -44,7 +44,7 @@ unfolding unless
 returns-in_default c =
     let s = trailing_of c.args.src in
     let t = trailing_of c.args.dst in
-    absurd (shift_kept 64 (comparison_of 64 (mode_of c.args.mode)) (layout_of c.args.src_layout) (layout_of c.args.dst_layout) s t c.offset_delta_elems.result (omega arith) (omega arith) c.requires.0 c.requires.2 c.requires.1 c.requires.3 (omega arith) c.offset_delta_elems.ensures.answer c.in_default.is)
+    absurd (shift_kept 64 (comparison_of 64 (mode_of c.args.mode)) (layout_of c.args.valid_src.layout) (layout_of c.args.valid_dst.layout) s t c.offset_delta_elems.result (omega arith) (omega arith) c.args.valid_src.accepted c.args.valid_dst.accepted c.requires.0 c.requires.1 (omega arith) c.offset_delta_elems.ensures.answer c.in_default.is)
 
 pub returns-in-Some : goal.returns-in-Some
 unfolding unless
@@ -52,7 +52,7 @@ returns-in-Some c =
     let s = trailing_of c.args.src in
     let t = trailing_of c.args.dst in
     simp (ne_eqb t.elem 0 c.if-dst_elem_size-eq0.false, le-ltb s.elem t.elem c.if-src_elem_size-dst_elem_size.false, eq-eqb (s.elem % t.elem) 0 c.if-src_elem_size-dst_elem_size-ne0.false)
-    (ap (by-shift (s.elem / t.elem)) (sym (ap shift_in c.in-Some.is) ∙ shift_told 64 (comparison_of 64 (mode_of c.args.mode)) (layout_of c.args.src_layout) (layout_of c.args.dst_layout) s t c.offset_delta_elems.result (omega arith) (omega arith) c.requires.0 c.requires.2 c.requires.1 c.requires.3 (omega arith) c.offset_delta_elems.ensures.answer c.in-Ok.is))
+    (ap (by-shift (s.elem / t.elem)) (sym (ap shift_in c.in-Some.is) ∙ shift_told 64 (comparison_of 64 (mode_of c.args.mode)) (layout_of c.args.valid_src.layout) (layout_of c.args.valid_dst.layout) s t c.offset_delta_elems.result (omega arith) (omega arith) c.args.valid_src.accepted c.args.valid_dst.accepted c.requires.0 c.requires.1 (omega arith) c.offset_delta_elems.ensures.answer c.in-Ok.is))
 
 pub returns-in-None : goal.returns-in-None
 unfolding unless
@@ -60,4 +60,4 @@ returns-in-None c =
     let s = trailing_of c.args.src in
     let t = trailing_of c.args.dst in
     simp (ne_eqb t.elem 0 c.if-dst_elem_size-eq0.false, le-ltb s.elem t.elem c.if-src_elem_size-dst_elem_size.false, eq-eqb (s.elem % t.elem) 0 c.if-src_elem_size-dst_elem_size-ne0.false)
-    (ap (by-shift (s.elem / t.elem)) (sym (ap shift_in c.in-None.is) ∙ shift_told 64 (comparison_of 64 (mode_of c.args.mode)) (layout_of c.args.src_layout) (layout_of c.args.dst_layout) s t c.offset_delta_elems.result (omega arith) (omega arith) c.requires.0 c.requires.2 c.requires.1 c.requires.3 (omega arith) c.offset_delta_elems.ensures.answer c.in-Ok.is))
+    (ap (by-shift (s.elem / t.elem)) (sym (ap shift_in c.in-None.is) ∙ shift_told 64 (comparison_of 64 (mode_of c.args.mode)) (layout_of c.args.valid_src.layout) (layout_of c.args.valid_dst.layout) s t c.offset_delta_elems.result (omega arith) (omega arith) c.args.valid_src.accepted c.args.valid_dst.accepted c.requires.0 c.requires.1 (omega arith) c.offset_delta_elems.ensures.answer c.in-Ok.is))

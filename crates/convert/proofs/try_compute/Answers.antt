@@ -17,14 +17,17 @@ use Rattle.convert_defs.proofs.Conversions.{compute_meets}
 use Rattle.util_defs.proofs.Refusals.{means}
 use Rattle.convert.proofs.try_compute.Goals as goal
 
-pub compute-requires : goal.compute-requires
+pub invariant_of-src : goal.invariant_of-src
 unfolding check_for
-compute-requires c =
+invariant_of-src c =
     let s = layout_of c.args.src_layout in
-    let t = layout_of c.args.dst_layout in (
-      accepted_none (layout_causes 64 s) tt (layout_decided 64 s (omega arith)) (told_by check_says c.check.ensures.answer c.in_ok-check.was),
-      accepted_none (layout_causes 64 t) tt (layout_decided 64 t (omega arith)) (told_by check_says c.check-2.ensures.answer c.in_ok-check-2.was),
-    )
+    record { accepted = accepted_none (layout_causes 64 s) tt (layout_decided 64 s (omega arith)) (told_by check_says c.check.ensures.answer c.in_ok-check.was) }
+
+pub invariant_of-dst : goal.invariant_of-dst
+unfolding check_for
+invariant_of-dst c =
+    let t = layout_of c.args.dst_layout in
+    record { accepted = accepted_none (layout_causes 64 t) tt (layout_decided 64 t (omega arith)) (told_by check_says c.check-2.ensures.answer c.in_ok-check-2.was) }
 
 pub returns-clause-answer : goal.returns-clause-answer
 unfolding compute_for check_for

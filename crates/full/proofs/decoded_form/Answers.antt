@@ -13,7 +13,7 @@ use Rattle.full.proofs.decoded_form.Goals as goal
 pub form_at_zero-requires : goal.form_at_zero-requires
 form_at_zero-requires c =
     let t = trailing_of c.args.decoded.layout in
-    (not_zero c.args.decoded.is_word, form_whole 64 t c.args.decoded.is_word (omega arith) (sym (mask_mod t.elem c.args.decoded.is_word.power) ∙ c.if-elem-align-eq0.true))
+    form_whole 64 t c.args.decoded.is_word (omega arith) (sym (mask_mod t.elem c.args.decoded.is_word.power) ∙ c.if-elem-align-eq0.true)
 
 pub seen_phase-requires : goal.seen_phase-requires
 seen_phase-requires c =
@@ -22,10 +22,8 @@ seen_phase-requires c =
 
 pub form_at_zero-requires-then-seen_phase-eq0 : goal.form_at_zero-requires-then-seen_phase-eq0
 form_at_zero-requires-then-seen_phase-eq0 c =
-    let t = trailing_of c.args.decoded.layout in (
-      not_zero c.args.decoded.is_word,
-      form_zero 64 t c.args.decoded.is_word (omega arith) (λ e. c.if-elem-align-eq0.false (mask_mod t.elem c.args.decoded.is_word.power ∙ e)) (sym c.seen_phase.ensures ∙ c.if-seen_phase-eq0.true),
-    )
+    let t = trailing_of c.args.decoded.layout in
+    form_zero 64 t c.args.decoded.is_word (omega arith) (λ e. c.if-elem-align-eq0.false (mask_mod t.elem c.args.decoded.is_word.power ∙ e)) (sym c.seen_phase.ensures ∙ c.if-seen_phase-eq0.true)
 
 pub least_word-requires : goal.least_word-requires
 least_word-requires c =

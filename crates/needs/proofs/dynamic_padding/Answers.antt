@@ -8,10 +8,10 @@ use Rattle.layout.specs.declared.SizeInfo.{SizeInfo}
 use Rattle.layout.specs.declared.SizeInfo.TheVariants.{SliceDst}
 use Rattle.needs.proofs.dynamic_padding.Goals as goal
 
-pub trailing_padding-requires : goal.trailing_padding-requires
-trailing_padding-requires c =
-    let n : (no_word (info_of (SliceDst c.in-SliceDst.tail))).means → ⊥ = subst (λ (i : SizeInfo ℕ). (no_word (info_of i)).means → ⊥) c.in-SliceDst.is c.requires in
-    omega (arith, n)
+pub invariant_of-trailing_padding : goal.invariant_of-trailing_padding
+invariant_of-trailing_padding c =
+    let n : (no_word (info_of (SliceDst c.in-SliceDst.tail))).means → ⊥ = subst (λ (i : SizeInfo ℕ). (no_word (info_of i)).means → ⊥) c.in-SliceDst.is c.args.valid.accepted.1.0 in
+    record { has_word = omega (arith, n) }
 
 pub returns-in-Sized : goal.returns-in-Sized
 returns-in-Sized c = simp c.in-Sized.is

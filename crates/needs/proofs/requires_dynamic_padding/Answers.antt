@@ -11,11 +11,11 @@ use Rattle.padding_defs.proofs.Marks.{dynamic_meets}
 use Rattle.util_defs.proofs.Refusals.{means}
 use Rattle.needs.proofs.requires_dynamic_padding.Goals as goal
 
-pub dynamic_padding-requires : goal.dynamic_padding-requires
+pub invariant_of-dynamic_padding : goal.invariant_of-dynamic_padding
 unfolding check_for
-dynamic_padding-requires c =
+invariant_of-dynamic_padding c =
     let l = layout_of c.args.layout in
-    (accepted_none (layout_causes 64 l) tt (layout_decided 64 l (omega arith)) (told_by check_says c.check.ensures.answer c.in_ok-check.was)).1.0
+    record { accepted = accepted_none (layout_causes 64 l) tt (layout_decided 64 l (omega arith)) (told_by check_says c.check.ensures.answer c.in_ok-check.was) }
 
 pub returns-clause-answer : goal.returns-clause-answer
 unfolding dynamic_for check_for

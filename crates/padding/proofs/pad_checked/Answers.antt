@@ -22,64 +22,67 @@ use Rattle.padding_defs.specs.Pad.{padded_info, padded_mark, padded_tail, padded
 use Rattle.padding.proofs.pad_checked.Goals as goal
 use Rattle.padding.proofs.pad_checked.Goals.{Start}
 
-aligned : (k : Start) → PowerOfTwo k.args.layout.align
-aligned k = power 64 k.args.layout.align (omega arith) k.requires.0
+aligned : (k : Start) → PowerOfTwo k.args.valid.layout.align
+aligned k = power 64 k.args.valid.layout.align (omega arith) k.args.valid.accepted.0
 
 -- the padded layout, and what padding says of it, of a size
 abbrev made : Start → Info → Layout
-made k i = record { align = k.args.layout.align; info = padded_info 64 k.args.layout.align i; mark = padded_mark k.args.layout.align i k.args.layout.statically_shallow_unpadded; modifier = k.args.layout.align_modifier }
+made k i = record { align = k.args.valid.layout.align; info = padded_info 64 k.args.valid.layout.align i; mark = padded_mark k.args.valid.layout.align i k.args.valid.layout.statically_shallow_unpadded; modifier = k.args.valid.layout.align_modifier }
 
 abbrev says : Start → SizeInfo ℕ → Outcome Layout
-says k i = unless (rounding_passes 64 (padding_needs 64 k.args.layout.align (info_of i)) ∷ []) (made k (info_of i))
+says k i = unless (rounding_passes 64 (padding_needs 64 k.args.valid.layout.align (info_of i)) ∷ []) (made k (info_of i))
 
 pub pad_mark-unpadded-requires : goal.pad_mark-unpadded-requires
-pad_mark-unpadded-requires c = aligned c
+pad_mark-unpadded-requires c = aligned c.before
 
 pub pad_trailing-requires : goal.pad_trailing-requires
-pad_trailing-requires c =
-    let n : (no_word (info_of (SliceDst c.in-SliceDst.tail))).means → ⊥ = subst (λ (i : SizeInfo ℕ). (no_word (info_of i)).means → ⊥) c.in-SliceDst.is c.requires.1.0 in
-    (aligned c.before.before, omega (arith, n))
+pad_trailing-requires c = aligned c.before.before.before.before
+
+pub invariant_of-pad_trailing : goal.invariant_of-pad_trailing
+invariant_of-pad_trailing c =
+    let n : (no_word (info_of (SliceDst c.in-SliceDst.tail))).means → ⊥ = subst (λ (i : SizeInfo ℕ). (no_word (info_of i)).means → ⊥) c.in-SliceDst.is c.args.valid.accepted.1.0 in
+    record { has_word = omega (arith, n) }
 
 pub returns-in_ok-padded-in-Sized : goal.returns-in_ok-padded-in-Sized
 unfolding padded
 returns-in_ok-padded-in-Sized c =
-    let a = c.args.layout.align in
+    let a = c.args.valid.layout.align in
     let g = c.in-Sized.is in
     let s = c.in-Sized.size in
     let cs = rounding_passes 64 (up s a) ∷ [] in
-    let e = told_by number_says (c.round_up.ensures.answer ∙ round_power 64 s (aligned c.before.before.before.before.before) (omega arith)) c.in_ok-padded-in-Sized.was in
-    ap₂ (λ (n : ℕ) (m : Bool). answered (record { align = a; info = fixed n; mark = m; modifier = c.args.layout.align_modifier })) (answer_is cs (up s a) e) (c.pad_mark-unpadded.ensures ∙ ap (λ (i : SizeInfo ℕ). padded_mark a (info_of i) c.args.layout.statically_shallow_unpadded) g)
-    ∙ sym (accepted_as cs (up s a) (made c.before.before.before.before.before (fixed s)) e)
-    ∙ ap (says c.before.before.before.before.before) (sym g)
+    let e = told_by number_says (c.round_up.ensures.answer ∙ round_power 64 s (aligned c.before.before.before.before.before.before) (omega arith)) c.in_ok-padded-in-Sized.was in
+    ap₂ (λ (n : ℕ) (m : Bool). answered (record { align = a; info = fixed n; mark = m; modifier = c.args.valid.layout.align_modifier })) (answer_is cs (up s a) e) (c.pad_mark-unpadded.ensures ∙ ap (λ (i : SizeInfo ℕ). padded_mark a (info_of i) c.args.valid.layout.statically_shallow_unpadded) g)
+    ∙ sym (accepted_as cs (up s a) (made c.before.before.before.before.before.before (fixed s)) e)
+    ∙ ap (says c.before.before.before.before.before.before) (sym g)
 
 pub returns-in_err-padded-in-Sized : goal.returns-in_err-padded-in-Sized
 unfolding padded
 returns-in_err-padded-in-Sized c =
-    let a = c.args.layout.align in
+    let a = c.args.valid.layout.align in
     let g = c.in-Sized.is in
     let s = c.in-Sized.size in
     let cs = rounding_passes 64 (up s a) ∷ [] in
-    let e = told_by number_says (c.round_up.ensures.answer ∙ round_power 64 s (aligned c.before.before.before.before.before.before) (omega arith)) c.in_err-padded-in-Sized.was in
-    handed_on _ c.from_residual.result _ c.from_residual.ensures.1 (sym (refused_as cs (up s a) (made c.before.before.before.before.before.before (fixed s)) e) ∙ ap (says c.before.before.before.before.before.before) (sym g))
+    let e = told_by number_says (c.round_up.ensures.answer ∙ round_power 64 s (aligned c.before.before.before.before.before.before.before) (omega arith)) c.in_err-padded-in-Sized.was in
+    handed_on _ c.from_residual.result _ c.from_residual.ensures.1 (sym (refused_as cs (up s a) (made c.before.before.before.before.before.before.before (fixed s)) e) ∙ ap (says c.before.before.before.before.before.before.before) (sym g))
 
 pub returns-in_ok-padded_info-in-SliceDst : goal.returns-in_ok-padded_info-in-SliceDst
 unfolding padded
 returns-in_ok-padded_info-in-SliceDst c =
-    let a = c.args.layout.align in
+    let a = c.args.valid.layout.align in
     let g = c.in-SliceDst.is in
     let t = trailing_of c.in-SliceDst.tail in
     let cs = rounding_passes 64 (padding_needs 64 a (trailing t)) ∷ [] in
     let e = told_by info_says c.pad_trailing.ensures c.in_ok-padded_info-in-SliceDst.was in
-    ap₂ (λ (i : Info) (m : Bool). answered (record { align = a; info = i; mark = m; modifier = c.args.layout.align_modifier })) (answer_is cs (trailing (padded_tail 64 a t)) e) (c.pad_mark-unpadded.ensures ∙ ap (λ (i : SizeInfo ℕ). padded_mark a (info_of i) c.args.layout.statically_shallow_unpadded) g)
-    ∙ sym (accepted_as cs (trailing (padded_tail 64 a t)) (made c.before.before.before.before.before (trailing t)) e)
-    ∙ ap (says c.before.before.before.before.before) (sym g)
+    ap₂ (λ (i : Info) (m : Bool). answered (record { align = a; info = i; mark = m; modifier = c.args.valid.layout.align_modifier })) (answer_is cs (trailing (padded_tail 64 a t)) e) (c.pad_mark-unpadded.ensures ∙ ap (λ (i : SizeInfo ℕ). padded_mark a (info_of i) c.args.valid.layout.statically_shallow_unpadded) g)
+    ∙ sym (accepted_as cs (trailing (padded_tail 64 a t)) (made c.before.before.before.before.before.before.before (trailing t)) e)
+    ∙ ap (says c.before.before.before.before.before.before.before) (sym g)
 
 pub returns-in_err-padded_info-in-SliceDst : goal.returns-in_err-padded_info-in-SliceDst
 unfolding padded
 returns-in_err-padded_info-in-SliceDst c =
-    let a = c.args.layout.align in
+    let a = c.args.valid.layout.align in
     let g = c.in-SliceDst.is in
     let t = trailing_of c.in-SliceDst.tail in
     let cs = rounding_passes 64 (padding_needs 64 a (trailing t)) ∷ [] in
     let e = told_by info_says c.pad_trailing.ensures c.in_err-padded_info-in-SliceDst.was in
-    handed_on _ c.from_residual-in_err-padded_info-in-SliceDst.result _ c.from_residual-in_err-padded_info-in-SliceDst.ensures.1 (sym (refused_as cs (trailing (padded_tail 64 a t)) (made c.before.before.before.before.before.before (trailing t)) e) ∙ ap (says c.before.before.before.before.before.before) (sym g))
+    handed_on _ c.from_residual-in_err-padded_info-in-SliceDst.result _ c.from_residual-in_err-padded_info-in-SliceDst.ensures.1 (sym (refused_as cs (trailing (padded_tail 64 a t)) (made c.before.before.before.before.before.before.before.before (trailing t)) e) ∙ ap (says c.before.before.before.before.before.before.before.before) (sym g))

@@ -13,11 +13,11 @@ use Rattle.padding_defs.proofs.Padding.{pad_meets}
 use Rattle.util_defs.proofs.Refusals.{means}
 use Rattle.padding.proofs.pad_to_align.Goals as goal
 
-pub pad_checked-requires : goal.pad_checked-requires
+pub invariant_of-pad_checked : goal.invariant_of-pad_checked
 unfolding check_for
-pad_checked-requires c =
+invariant_of-pad_checked c =
     let l = layout_of c.args.layout in
-    accepted_none (layout_causes 64 l) tt (layout_decided 64 l (omega arith)) (told_by check_says c.check.ensures.answer c.in_ok-check.was)
+    record { accepted = accepted_none (layout_causes 64 l) tt (layout_decided 64 l (omega arith)) (told_by check_says c.check.ensures.answer c.in_ok-check.was) }
 
 pub returns-clause-answer : goal.returns-clause-answer
 unfolding pad_for check_for

@@ -3,7 +3,7 @@ use mathlib.Core.Path.{sym, ◌∙◌}
 use native.Mathlib.Omega.{arith}
 use borrow.Author.Tests.{eq-eqb, ne_eqb}
 use Rattle.util_defs.proofs.Powers.{double}
-use Rattle.rounding.proofs.Words.{not_zero, at_parts}
+use Rattle.rounding.proofs.Words.{at_parts}
 use Rattle.trailing_defs.specs.Size.{A, p}
 use Rattle.trailing_defs.specs.Sequence.{same_stride, same_sequence}
 use Rattle.trailing.specs.View.{trailing_of}
@@ -12,9 +12,6 @@ use Rattle.sequence.proofs.same_sequence.Goals as goal
 pub returns-then-elem-other : goal.returns-then-elem-other
 unfolding same_sequence
 returns-then-elem-other c = simp (ne_eqb c.args.first.layout.elem_size c.args.other.layout.elem_size c.if-elem-other.true)
-
-pub same_start-requires : goal.same_start-requires
-same_start-requires c = (not_zero c.args.first.is_word, not_zero c.args.other.is_word)
 
 pub same_stride-requires : goal.same_stride-requires
 same_stride-requires c = (c.args.first.is_word.power, c.args.other.is_word.power)

@@ -2,46 +2,25 @@
 use mathlib.Core.Path.{sym, ap, ◌∙◌}
 use Rattle.trailing.specs.View.{trailing_of}
 use Rattle.layout.specs.View.{layout_of}
-use Rattle.shift_defs.specs.Match.{match_test}
-use Rattle.shift_defs.specs.Mode.{comparison_of}
 use Rattle.shift_defs.specs.Shift.{by_size, matched_shift}
 use Rattle.shift_defs.proofs.Shifts.{matched_yes, matched_no}
-use Rattle.shift.specs.declared.Mode.{Mode}
-use Rattle.shift.specs.View.{mode_of, shift_in}
+use Rattle.shift.specs.View.{shift_in}
 use Rattle.shift.proofs.matching_size.Goals as goal
 
-pub returns-then-sequences_match : goal.returns-then-sequences_match
-returns-then-sequences_match c =
-    let s = trailing_of c.args.src in
-    let t = trailing_of c.args.dst in
-    let d = c.in-Some.count in
-    matched_yes 64 (comparison_of 64 (mode_of c.args.mode)) s t (by_size 64 s (layout_of c.args.dst_layout)) d (sym (ap shift_in c.in-Some.is) ∙ c.offset_delta_by_size.ensures)
-    (ap (λ (m : Mode). match_test 64 (comparison_of 64 (mode_of m)) s t d) c.in-Ported.is ∙ sym c.sequences_match.ensures ∙ c.if-sequences_match.true)
+pub returns-then-matches : goal.returns-then-matches
+returns-then-matches g c =
+    let s = trailing_of c.args.src.layout in
+    let t = trailing_of c.args.dst.layout in
+    matched_yes 64 g.C.Compares.comparison s t (by_size 64 s (layout_of c.args.dst_layout)) c.in_ok-count.count (sym (ap shift_in c.in_ok-count.was) ∙ c.offset_delta_by_size.ensures) (sym c.matches.ensures ∙ c.if-matches.true)
 
-pub returns-else-sequences_match : goal.returns-else-sequences_match
-returns-else-sequences_match c =
-    let s = trailing_of c.args.src in
-    let t = trailing_of c.args.dst in
-    let d = c.in-Some.count in
-    matched_no 64 (comparison_of 64 (mode_of c.args.mode)) s t (by_size 64 s (layout_of c.args.dst_layout)) d (sym (ap shift_in c.in-Some.is) ∙ c.offset_delta_by_size.ensures)
-    (ap (λ (m : Mode). match_test 64 (comparison_of 64 (mode_of m)) s t d) c.in-Ported.is ∙ sym c.sequences_match.ensures ∙ c.if-sequences_match.false)
+pub returns-else-matches : goal.returns-else-matches
+returns-else-matches g c =
+    let s = trailing_of c.args.src.layout in
+    let t = trailing_of c.args.dst.layout in
+    matched_no 64 g.C.Compares.comparison s t (by_size 64 s (layout_of c.args.dst_layout)) c.in_ok-count.count (sym (ap shift_in c.in_ok-count.was) ∙ c.offset_delta_by_size.ensures) (sym c.matches.ensures ∙ c.if-matches.false)
 
-pub returns-then-sizes_match : goal.returns-then-sizes_match
-returns-then-sizes_match c =
-    let s = trailing_of c.args.src in
-    let t = trailing_of c.args.dst in
-    let d = c.in-Some.count in
-    matched_yes 64 (comparison_of 64 (mode_of c.args.mode)) s t (by_size 64 s (layout_of c.args.dst_layout)) d (sym (ap shift_in c.in-Some.is) ∙ c.offset_delta_by_size.ensures)
-    (ap (λ (m : Mode). match_test 64 (comparison_of 64 (mode_of m)) s t d) c.in-Full.is ∙ sym c.sizes_match.ensures ∙ c.if-sizes_match.true)
-
-pub returns-else-sizes_match : goal.returns-else-sizes_match
-returns-else-sizes_match c =
-    let s = trailing_of c.args.src in
-    let t = trailing_of c.args.dst in
-    let d = c.in-Some.count in
-    matched_no 64 (comparison_of 64 (mode_of c.args.mode)) s t (by_size 64 s (layout_of c.args.dst_layout)) d (sym (ap shift_in c.in-Some.is) ∙ c.offset_delta_by_size.ensures)
-    (ap (λ (m : Mode). match_test 64 (comparison_of 64 (mode_of m)) s t d) c.in-Full.is ∙ sym c.sizes_match.ensures ∙ c.if-sizes_match.false)
-
-pub returns-in-None : goal.returns-in-None
-returns-in-None c =
-    ap (matched_shift 64 (comparison_of 64 (mode_of c.args.mode)) (trailing_of c.args.src) (trailing_of c.args.dst)) (sym (ap shift_in c.in-None.is) ∙ c.offset_delta_by_size.ensures)
+pub returns-in_err-count : goal.returns-in_err-count
+returns-in_err-count g c =
+    let s = trailing_of c.args.src.layout in
+    let t = trailing_of c.args.dst.layout in
+    ap shift_in c.from_residual.ensures ∙ ap (matched_shift 64 g.C.Compares.comparison s t) (sym (ap shift_in c.in_err-count.was) ∙ c.offset_delta_by_size.ensures)

@@ -15,14 +15,17 @@ use Rattle.shift.specs.View.{mode_of}
 use Rattle.util_defs.proofs.Refusals.{means}
 use Rattle.shift.proofs.offset_delta_elems.Goals as goal
 
-pub checked_delta_elems-requires : goal.checked_delta_elems-requires
+pub invariant_of-src : goal.invariant_of-src
 unfolding check_for
-checked_delta_elems-requires c =
+invariant_of-src c =
     let s = layout_of c.args.src_layout in
-    let t = layout_of c.args.dst_layout in (
-      (accepted_none (layout_causes 64 s) tt (layout_decided 64 s (omega arith)) (told_by check_says c.check.ensures.answer c.in_ok-check.was)).1.0,
-      (accepted_none (layout_causes 64 t) tt (layout_decided 64 t (omega arith)) (told_by check_says c.check-2.ensures.answer c.in_ok-check-2.was)).1.0,
-    )
+    record { accepted = accepted_none (layout_causes 64 s) tt (layout_decided 64 s (omega arith)) (told_by check_says c.check.ensures.answer c.in_ok-check.was) }
+
+pub invariant_of-dst : goal.invariant_of-dst
+unfolding check_for
+invariant_of-dst c =
+    let t = layout_of c.args.dst_layout in
+    record { accepted = accepted_none (layout_causes 64 t) tt (layout_decided 64 t (omega arith)) (told_by check_says c.check-2.ensures.answer c.in_ok-check-2.was) }
 
 pub returns-clause-answer : goal.returns-clause-answer
 unfolding shift_for check_for

@@ -42,7 +42,7 @@ unfolding match_for unless
 returns-in-Ported-clause-answer c =
     let s = trailing_of c.args.src in
     let t = trailing_of c.args.dst in
-    let d = c.args.dst_base in ap answered (c.sequences_match.ensures ∙ ap (λ (m : Mode). match_test 64 (comparison_of 64 (mode_of m)) s t d) (sym c.in-Ported.is))
+    let d = c.args.dst_base in ap answered (c.matches.ensures ∙ ap (λ (m : Mode). match_test 64 (comparison_of 64 (mode_of m)) s t d) (sym c.in-Ported.is))
     ∙ simp (ne_eqb s.word 0 c.if-src_word-eq0.false, ne_eqb t.word 0 c.if-dst_word-eq0.false)
 
 pub returns-in-Ported-clause-meaning : goal.returns-in-Ported-clause-meaning
@@ -56,7 +56,7 @@ unfolding match_for unless
 returns-in-Full-clause-answer c =
     let s = trailing_of c.args.src in
     let t = trailing_of c.args.dst in
-    let d = c.args.dst_base in ap answered (c.sizes_match.ensures ∙ ap (λ (m : Mode). match_test 64 (comparison_of 64 (mode_of m)) s t d) (sym c.in-Full.is))
+    let d = c.args.dst_base in ap answered (c.matches-in-Full.ensures ∙ ap (λ (m : Mode). match_test 64 (comparison_of 64 (mode_of m)) s t d) (sym c.in-Full.is))
     ∙ simp (ne_eqb s.word 0 c.if-src_word-eq0.false, ne_eqb t.word 0 c.if-dst_word-eq0.false)
 
 pub returns-in-Full-clause-meaning : goal.returns-in-Full-clause-meaning

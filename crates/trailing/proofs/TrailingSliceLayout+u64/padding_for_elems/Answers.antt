@@ -1,8 +1,8 @@
 -- `trailing::TrailingSliceLayout::padding_for_elems` meets its contract. Assumes nothing.
 use Rattle.util.proofs.Told.{handed_on}
-use Rattle.std.proofs.Common.{arith}
+use Rattle.std.proofs.Common.{ap, ◌∙◌, arith}
 use Rattle.rounding.proofs.Words.{word_stop}
-use Rattle.rounding.proofs.Told.{parts_refused}
+use Rattle.trailing.proofs.Told.{decoded_told, decoded_refused}
 use Rattle.trailing_defs.specs.Calls.{padding_for_elems}
 use Rattle.trailing.specs.View.{trailing_of}
 use Rattle.trailing_defs.proofs.Calls.{padding_meets}
@@ -10,14 +10,14 @@ use Rattle.util_defs.proofs.Refusals.{means}
 use Rattle.trailing.proofs.TrailingSliceLayout+u64.padding_for_elems.Goals as goal
 
 pub returns-clause-answer : goal.returns-clause-answer
-returns-clause-answer c = c.padding_for_elems.ensures
+returns-clause-answer c = c.padding_for_elems.ensures ∙ ap (λ l. padding_for_elems 64 (trailing_of l) c.args.elems) (decoded_told c.decoded.result c.decoded.ensures c.in_ok-decoded.was)
 
 pub returns-clause-meaning : goal.returns-clause-meaning
 returns-clause-meaning c = means (padding_meets 64 (trailing_of c.args.self) c.args.elems (omega arith)) (returns-clause-answer c)
 
-pub returns-in_err-parts-clause-answer : goal.returns-in_err-parts-clause-answer
+pub returns-in_err-decoded-clause-answer : goal.returns-in_err-decoded-clause-answer
 unfolding padding_for_elems
-returns-in_err-parts-clause-answer c = handed_on _ c.from_residual.result _ c.from_residual.ensures.1 (word_stop _ _ (parts_refused c.components.result c.components.ensures.meaning c.in_err-parts.was))
+returns-in_err-decoded-clause-answer c = handed_on _ c.from_residual.result _ c.from_residual.ensures.1 (word_stop _ _ (decoded_refused c.decoded.result c.decoded.ensures c.in_err-decoded.was))
 
-pub returns-in_err-parts-clause-meaning : goal.returns-in_err-parts-clause-meaning
-returns-in_err-parts-clause-meaning c = means (padding_meets 64 (trailing_of c.args.self) c.args.elems (omega arith)) (returns-in_err-parts-clause-answer c)
+pub returns-in_err-decoded-clause-meaning : goal.returns-in_err-decoded-clause-meaning
+returns-in_err-decoded-clause-meaning c = means (padding_meets 64 (trailing_of c.args.self) c.args.elems (omega arith)) (returns-in_err-decoded-clause-answer c)
