@@ -94,7 +94,7 @@ pub fn padding_of_counts(
     share_of_sums(sums::sums_of_counts(layout, counts), counts.len() as u64)
 }
 
-// A share narrowed to 32 bits, which hold it. No TryFrom, as `low_word`.
+// A share narrowed to 32 bits, which hold it. No TryFrom, as `numbers32::low_word`.
 fn low_share(share: Share<u64>) -> Share<u32>
     ensures { share_is result ≡ low_share 32 (share_is share) }
 {
@@ -114,12 +114,11 @@ fn low_share(share: Share<u64>) -> Share<u32>
     }
 }
 
-// The same of an answer. No TryFrom, as `low_word`.
+// The same of an answer. No TryFrom, as `numbers32::low_word`.
 fn low_answer(answer: Result<Share<u64>, RefusedAt<u64>>) -> Result<Share<u32>, RefusedAt<u64>>
     ensures { share_says result ≡ go_on (share_says answer) (λ x. reached (low_share 32 x)) }
 {
-    let share = answer?;
-    Ok(low_share(share))
+    answer.map(low_share)
 }
 
 // The same at 32 bits.

@@ -3,7 +3,7 @@ use Rattle.std.specs.Prelude.{Ok}
 use mathlib.Core.Path.{◌≡◌, refl, sym, ap, ap₂, ◌∙◌}
 use mathlib.Core.Bool.{Bool, true, false, cond}
 use mathlib.Core.List.{List}
-use Prim.Native.Nat.{ℕ, ◌-◌, ◌^◌, ◌≤◌, ◌<◌}
+use Prim.Native.Nat.{ℕ, ◌^◌, ◌≤◌, ◌<◌}
 use native.Mathlib.Omega.{arith}
 use lib.Dec.{eqb}
 use lib.ListN.{length}
@@ -16,8 +16,9 @@ use Rattle.widths_defs.proofs.Sizes.{room_same}
 use Rattle.share_defs.specs.Totals.{no_totals, totals_from}
 use Rattle.share_defs.specs.Share.{sums_for}
 use Rattle.share_defs.proofs.Told.{sums_folded}
-use Rattle.sums.specs.declared.Tested.{Tested}
-use Rattle.sums.specs.View.{bits_to, TestMeans}
+use Rattle.sums.specs.declared.tested.Tested.{Tested}
+use Rattle.sums.specs.Bits.{bits_to}
+use Rattle.sums.specs.View.{TestMeans}
 
 pub most_bits : (max : ℕ) → bits_to max ≤ 64
 unfolding bits_to
@@ -40,8 +41,8 @@ pub room_at : (max : ℕ) (t : Trailing) → max ≡ M (bits_to max) → t.word 
 room_at max t e h = sym (room_same (bits_to max) 64 t max (most_bits max) h) ∙ ap (max_trailing_for (bits_to max) t) e
 
 -- the sums of a layout that was tested are those of the layout
-pub tested_sums : {l : Tested} (w max : ℕ) (t : Trailing) (ns : List ℕ) → TestMeans t max (length ns) (Ok l) → bits_to max ≡ w
-    → totals_from (bits_to l.max) (trailing_of l.layout) 0 ns no_totals ≡ sums_for w t ns
-tested_sums {l} w max t ns m e =
-    sym (sums_folded (bits_to l.max) (trailing_of l.layout) ns (not_zero m.0.1.0) m.1.1.1)
-    ∙ ap₂ (λ (v : ℕ) (s : Trailing). sums_for v s ns) (ap bits_to m.1.1.0 ∙ e) m.1.0
+pub tested_sums : (l : Tested) (w max : ℕ) (t : Trailing) (ns : List ℕ) → TestMeans t max (length ns) (Ok l) → bits_to max ≡ w
+    → totals_from (bits_to l.max) (trailing_of l.decoded.layout) 0 ns no_totals ≡ sums_for w t ns
+tested_sums l w max t ns m e =
+    sym (sums_folded (bits_to l.max) (trailing_of l.decoded.layout) ns (not_zero l.decoded.is_word) m.1.1)
+    ∙ ap₂ (λ (v : ℕ) (s : Trailing). sums_for v s ns) (ap bits_to m.1.0 ∙ e) m.0

@@ -3,42 +3,28 @@ use Rattle.std.specs.Prelude.{Result, Ok, Err}
 use Rattle.util.specs.View.{number_of, says, placed_says}
 use Rattle.util.specs.declared.refusal.Refusal.{Refusal}
 use Rattle.util.specs.declared.refusal.RefusedAt.{RefusedAt}
-use Rattle.std.specs.Prelude.{◌≡◌, cond, List, ℕ, ◌^◌, ◌<◌, eqb, length}
-use Rattle.util_defs.specs.Width.{M}
-use Rattle.util_defs.specs.Refusal.{Outcome, answered, refused}
-use Rattle.util_defs.specs.Placed.{Placed, reached, stopped}
-use Rattle.rounding.specs.Word.{IsWord}
+use Rattle.std.specs.Prelude.{◌≡◌, List, ℕ, ◌<◌, length}
+use Rattle.util_defs.specs.Refusal.{Outcome}
+use Rattle.util_defs.specs.Placed.{Placed, stopped}
 use Rattle.trailing_defs.specs.Size.{Trailing}
-use Rattle.trailing_defs.specs.Calls.{GreatestIn}
 use Rattle.trailing.specs.View.{trailing_of}
 use Rattle.share_defs.specs.Totals.{Totals}
 use Rattle.share_defs.specs.Share.{sums_for}
-use Rattle.sums.specs.declared.Sums.{Sums}
-use Rattle.sums.specs.declared.Tested.{Tested}
+use Rattle.sums.specs.Bits.{bits_to}
+use Rattle.sums.specs.declared.tested.Sums.{Sums}
+use Rattle.sums.specs.declared.tested.Tested.{Tested}
 
 abbrev pub sums_of : Sums → Totals
 sums_of x = record { sizes = x.sizes; paddings = x.paddings; greatest = x.greatest; index = x.index }
 
--- the width whose greatest number is max, of the two widths that there are
-unfoldable pub bits_to : ℕ → ℕ
-bits_to max = cond (eqb max (M 32)) 32 64
-
 abbrev pub bits_of : Tested → ℕ
 bits_of l = bits_to l.max
-
--- a layout that was tested: its greatest number is that of a width, which holds its word; it has the parts of its word beside it,
--- and the greatest number of trailing bytes that has a size at that width
-abbrev pub IsTested : Tested → Type 0
-IsTested l =
-    ((l.max ≡ M (bits_of l)) × ((trailing_of l.layout).word < 2 ^ bits_of l))
-    × (IsWord (trailing_of l.layout).word l.align l.phase
-    × GreatestIn (bits_of l) (trailing_of l.layout) (M (bits_of l)) l.most)
 
 -- what is tested of a layout before its counts, of which there are so many: it is that layout, and there are some; or whatever
 -- the counts are, they are refused
 abbrev pub TestMeans : Trailing → (max count : ℕ) → Result Tested Refusal → Type 0
 TestMeans t max count (Ok l) =
-    IsTested l × ((trailing_of l.layout ≡ t) × ((l.max ≡ max) × (0 < count)))
+    (trailing_of l.decoded.layout ≡ t) × ((l.max ≡ max) × (0 < count))
 TestMeans t max count (Err r) =
     (ns : List ℕ) → length ns ≡ count → stopped (number_of r) 0 ≡ sums_for (bits_to max) t ns
 

@@ -1,51 +1,57 @@
 // The sums of the sizes and the paddings of a trailing layout at a list of counts (document 02, request 12), at 64 bits and at
 // 32: one pass over the counts, which divides nowhere. Both widths go by the same functions: the greatest number stands beside
-// the layout that was tested. Only the loop over the counts stands twice: a slice of counts is of one
-// type, and a clause over a type parameter could not speak of the counts as numbers.
+// the layout that was tested, and a count is a number of either width.
 #![tactic(auto)]
 
-ghost use Rattle.std.specs.Prelude.{◌≡◌, [], ◌∷◌, ℕ, ◌+◌, ◌*◌, ◌^◌, ◌≤◌, ◌<◌};
+ghost use Rattle.std.specs.Prelude.{◌≡◌, map, [], ◌∷◌, ℕ, ◌+◌, ◌*◌, ◌^◌, ◌≤◌, ◌<◌};
 ghost use Rattle.util_defs.specs.Width.{M};
 ghost use Rattle.util_defs.specs.Refusal.{unless};
-ghost use Rattle.rounding.specs.Word.{IsWord};
 ghost use Rattle.trailing_defs.specs.Size.{size_at};
 ghost use Rattle.trailing.specs.View.{trailing_of};
 ghost use Rattle.share_defs.specs.Totals.{sum_passes, no_totals, with_count, add_count, totals_from};
 ghost use Rattle.share_defs.specs.Share.{sums_for};
-ghost use Rattle.sums.specs.View.{sums_of, bits_to, bits_of, IsTested, TestMeans, add_says, sums_says};
+ghost use Rattle.sums.specs.Bits.{bits_to};
+ghost use Rattle.sums.specs.View.{sums_of, bits_of, TestMeans, add_says, sums_says};
 
-use rounding::Components;
-use trailing::TrailingSliceLayout;
+use trailing::{Decoded, TrailingSliceLayout};
 use util::{Refusal, RefusedAt};
 
-// The sums over the counts so far, the greatest padding and its first index.
-#[derive(Clone, Copy)]
-pub struct Sums {
-    pub sizes: u64,
-    pub paddings: u64,
-    pub greatest: u64,
-    pub index: u64,
+mod tested;
+
+pub use tested::Sums;
+use tested::Tested;
+
+// A count, of either width.
+trait Count: Copy {
+    ghost number: { Self → ℕ };
+
+    fn wide(self) -> u64
+        ensures { result ≡ number self };
 }
 
-// A layout whose word was tested, with what each count needs of it and is worked out once: the alignment and the phase of the
-// word, the greatest number of the width, and the greatest number of trailing bytes that has a size at that width.
-#[derive(Clone, Copy)]
-struct Tested {
-    layout: TrailingSliceLayout<u64>,
-    align: u64,
-    phase: u64,
-    max: u64,
-    most: u64,
+impl Count for u64 {
+    ghost number = { λ n. n };
+
+    fn wide(self) -> u64 {
+        self
+    }
 }
 
-// The sums with the size and the padding of the count at i. A padding is no more than its size, so that the sum of the paddings
-// passes nothing that the sum of the sizes does not.
-fn add_sized(x: Sums, i: u64, size: u64, padding: u64, max: u64) -> Result<Sums, Refusal>
-    requires { (max ≡ M (bits_to max)) × ((x.paddings ≤ x.sizes) × ((padding ≤ size) × (size ≤ max))) }
-    ensures { add_says result ≡ unless (sum_passes (bits_to max) (x.sizes + size) (x.paddings + padding) ∷ [])
+impl Count for u32 {
+    ghost number = { λ n. n };
+
+    fn wide(self) -> u64 {
+        self as u64
+    }
+}
+
+// The sums with the size and the padding of the count at i.
+fn add_sized(l: Tested, x: Sums, i: u64, size: u64, padding: u64) -> Result<Sums, Refusal>
+    requires { (padding ≤ size) × (size ≤ l.max) }
+    ensures { add_says result ≡ unless (sum_passes (bits_of l) (x.sizes + size) (x.paddings + padding) ∷ [])
         (with_count i size padding (sums_of x)) }
 {
-    if x.sizes > max - size {
+    if x.sizes > l.max - size {
         return Err(Refusal::SumPassesMax);
     }
     let sizes = x.sizes + size;
@@ -68,23 +74,23 @@ fn add_sized(x: Sums, i: u64, size: u64, padding: u64, max: u64) -> Result<Sums,
 
 // The size with so many trailing bytes.
 fn size_of(l: Tested, bytes: u64) -> u64
-    requires { IsTested l × (bytes ≤ l.most) }
-    ensures { (result ≤ l.max)
-        × ((n : ℕ) → bytes ≡ n * (trailing_of l.layout).elem → result ≡ size_at (bits_of l) (trailing_of l.layout) n) }
+    requires { bytes ≤ l.most }
+    ensures { (result ≤ l.max) × ((n : ℕ) → bytes ≡ n * (trailing_of l.decoded.layout).elem
+        → result ≡ size_at (bits_of l) (trailing_of l.decoded.layout) n) }
 {
-    let layout = l.layout;
-    let mask = l.align - 1;
-    layout.size_base + ((l.phase + bytes + mask) & !mask)
+    let Decoded { layout, parts } = l.decoded;
+    let mask = parts.align - 1;
+    layout.size_base + ((parts.phase + bytes + mask) & !mask)
 }
 
 // The sums with a count of so many trailing bytes, which have a size. The end of the elements is compared in two steps: it may
 // pass the greatest number.
 fn add_bytes(l: Tested, x: Sums, i: u64, bytes: u64) -> Result<Sums, Refusal>
-    requires { IsTested l × ((bytes ≤ l.most) × (x.paddings ≤ x.sizes)) }
-    ensures { (n : ℕ) → bytes ≡ n * (trailing_of l.layout).elem
-        → add_says result ≡ add_count (bits_of l) (trailing_of l.layout) i n (sums_of x) }
+    requires { bytes ≤ l.most }
+    ensures { (n : ℕ) → bytes ≡ n * (trailing_of l.decoded.layout).elem
+        → add_says result ≡ add_count (bits_of l) (trailing_of l.decoded.layout) i n (sums_of x) }
 {
-    let layout = l.layout;
+    let layout = l.decoded.layout;
     let size = size_of(l, bytes);
     if size < layout.offset {
         return Err(Refusal::EndAboveSize);
@@ -93,15 +99,14 @@ fn add_bytes(l: Tested, x: Sums, i: u64, bytes: u64) -> Result<Sums, Refusal>
     if past_offset < bytes {
         return Err(Refusal::EndAboveSize);
     }
-    add_sized(x, i, size, past_offset - bytes, l.max)
+    add_sized(l, x, i, size, past_offset - bytes)
 }
 
 // The sums with the count at i.
 fn add_count(l: Tested, x: Sums, i: u64, count: u64) -> Result<Sums, Refusal>
-    requires { IsTested l × (x.paddings ≤ x.sizes) }
-    ensures { add_says result ≡ add_count (bits_of l) (trailing_of l.layout) i count (sums_of x) }
+    ensures { add_says result ≡ add_count (bits_of l) (trailing_of l.decoded.layout) i count (sums_of x) }
 {
-    let layout = l.layout;
+    let layout = l.decoded.layout;
     let Some(bytes) = util::checked_mul(count, layout.elem_size) else {
         return Err(Refusal::NoSize);
     };
@@ -111,46 +116,25 @@ fn add_count(l: Tested, x: Sums, i: u64, count: u64) -> Result<Sums, Refusal>
     add_bytes(l, x, i, bytes)
 }
 
-// The sums over all counts, or the first refusal. By a match: with `map_err` and `?` a count took 32 instructions in place of 24.
-fn add_counts(l: Tested, counts: &[u64]) -> Result<Sums, RefusedAt<u64>>
-    requires { IsTested l }
-    ensures { sums_says result ≡ totals_from (bits_of l) (trailing_of l.layout) 0 counts.now no_totals }
+// The sums over no counts.
+fn no_sums() -> Sums
+    ensures { sums_of result ≡ no_totals }
 {
-    let mut x = Sums {
+    Sums {
         sizes: 0,
         paddings: 0,
         greatest: 0,
         index: 0,
-    };
-    for (i, count) in counts.iter().enumerate() {
-        match add_count(l, x, i as u64, *count) {
-            Ok(next) => {
-                x = next;
-            }
-            Err(refusal) => {
-                return Err(RefusedAt {
-                    refusal,
-                    place: i as u64,
-                });
-            }
-        }
     }
-    Ok(x)
 }
 
-// The same over counts of 32 bits, by a match too.
-fn add_counts32(l: Tested, counts: &[u32]) -> Result<Sums, RefusedAt<u64>>
-    requires { IsTested l }
-    ensures { sums_says result ≡ totals_from (bits_of l) (trailing_of l.layout) 0 counts.now no_totals }
+// The sums over all counts, or the first refusal. By a match: with `map_err` and `?` a count took 32 instructions in place of 24.
+fn add_counts<N: Count>(l: Tested, counts: &[N]) -> Result<Sums, RefusedAt<u64>>
+    ensures { sums_says result ≡ totals_from (bits_of l) (trailing_of l.decoded.layout) 0 (map N.number counts.now) no_totals }
 {
-    let mut x = Sums {
-        sizes: 0,
-        paddings: 0,
-        greatest: 0,
-        index: 0,
-    };
+    let mut x = no_sums();
     for (i, count) in counts.iter().enumerate() {
-        match add_count(l, x, i as u64, *count as u64) {
+        match add_count(l, x, i as u64, count.wide()) {
             Ok(next) => {
                 x = next;
             }
@@ -166,26 +150,15 @@ fn add_counts32(l: Tested, counts: &[u32]) -> Result<Sums, RefusedAt<u64>>
 }
 
 // A layout by the parts of its word, where it has a size at 0: else the first count is refused.
-fn test_size(
-    layout: TrailingSliceLayout<u64>,
-    parts: Components<u64>,
-    max: u64,
-    count: u64,
-) -> Result<Tested, Refusal>
-    requires { ((max ≡ M (bits_to max)) × ((trailing_of layout).word < 2 ^ bits_to max))
-        × (IsWord (trailing_of layout).word parts.align parts.phase × (0 < count)) }
-    ensures { TestMeans (trailing_of layout) max count result }
+fn test_size(decoded: Decoded, max: u64, count: u64) -> Result<Tested, Refusal>
+    requires { ((max ≡ M (bits_to max)) × ((trailing_of decoded.layout).word < 2 ^ bits_to max)) × (0 < count) }
+    ensures { TestMeans (trailing_of decoded.layout) max count result }
 {
-    let most = layout
+    let most = decoded
+        .layout
         .max_trailing_bytes(max)
         .map_err(|_| Refusal::NoSizeAtZero)?;
-    Ok(Tested {
-        layout,
-        align: parts.align,
-        phase: parts.phase,
-        max,
-        most,
-    })
+    Ok(Tested { decoded, max, most })
 }
 
 // What refuses before any count: the layout, so many counts, and no size at 0.
@@ -193,12 +166,11 @@ fn test(layout: TrailingSliceLayout<u64>, max: u64, count: u64) -> Result<Tested
     requires { (max ≡ M (bits_to max)) × ((trailing_of layout).word < 2 ^ bits_to max) }
     ensures { TestMeans (trailing_of layout) max count result }
 {
-    let word = layout.size_rounding_align_and_phase;
-    let parts = word.components()?;
+    let decoded = layout.decoded()?;
     if count == 0 {
         return Err(Refusal::NoCounts);
     }
-    test_size(layout, parts, max, count)
+    test_size(decoded, max, count)
 }
 
 // The sums over the sizes at these counts.
@@ -215,7 +187,7 @@ pub fn sums_of_counts(
     add_counts(l, counts)
 }
 
-// The same at 32 bits.
+// The same at 32 bits. A function of its own: it widens the layout, which at 64 bits there is no need of.
 pub fn sums_of_counts32(
     layout: TrailingSliceLayout<u32>,
     counts: &[u32],
@@ -227,5 +199,5 @@ pub fn sums_of_counts32(
         refusal,
         place: 0,
     })?;
-    add_counts32(l, counts)
+    add_counts(l, counts)
 }

@@ -1,5 +1,5 @@
 -- `share::share_of_sums` meets its contract. Assumes nothing.
-use Rattle.sums.specs.declared.Sums.{Sums}
+use Rattle.sums.specs.declared.tested.Sums.{Sums}
 use Prim.Native.Nat.{ℕ}
 use Rattle.util.specs.declared.refusal.RefusedAt.{RefusedAt}
 use Rattle.std.specs.Prelude.{Result}

@@ -4,6 +4,9 @@ use Prim.Native.Nat.{ℕ, ◌^◌, ◌<◌}
 use native.Mathlib.Omega.{arith}
 use lib.ListN.{length}
 use Rattle.std.proofs.Common.{rules}
+use Rattle.std.proofs.lemmas.List.{map-id}
+use Rattle.share_defs.specs.Totals.{no_totals, totals_from}
+use Rattle.sums.specs.Bits.{bits_to}
 use Rattle.util_defs.proofs.Mapped.{mapped_ok, mapped_err}
 use Rattle.util.specs.View.{number_of}
 use Rattle.util.proofs.Told.{handed_on_at}
@@ -18,15 +21,13 @@ use Rattle.sums.proofs.sums_of_counts.Goals as goal
 pub test-requires : goal.test-requires
 test-requires c = (ap M (sym bits_64), subst (λ (w : ℕ). (trailing_of c.args.layout).word < 2 ^ w) (sym bits_64) (omega arith))
 
-pub add_counts-requires : goal.add_counts-requires
-add_counts-requires c = (subst (TestMeans (trailing_of c.args.layout) (M 64) (length c.args.counts.now)) (mapped_ok c.test.result _ _ c.map_err.ensures.cases c.in_ok-l.was) c.test.ensures).0
-
 pub returns : goal.returns
 returns c =
     let t = trailing_of c.args.layout in
     let s = c.args.counts.now in
     let m = subst (TestMeans t (M 64) (length s)) (mapped_ok c.test.result _ _ c.map_err.ensures.cases c.in_ok-l.was) c.test.ensures in
-    c.add_counts.ensures ∙ tested_sums 64 (M 64) t s m bits_64
+    c.add_counts.ensures
+    ∙ ap (λ ns. totals_from (bits_to c.in_ok-l.l.max) (trailing_of c.in_ok-l.l.decoded.layout) 0 ns no_totals) (map-id s) ∙ tested_sums c.in_ok-l.l 64 (M 64) t s m bits_64
 
 pub returns-in_err-l : goal.returns-in_err-l
 returns-in_err-l c =

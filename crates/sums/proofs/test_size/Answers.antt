@@ -12,24 +12,33 @@ use Rattle.rounding.proofs.Words.{not_zero}
 use Rattle.trailing.specs.View.{trailing_of}
 use Rattle.trailing_defs.proofs.Told.{room_told, room_refused}
 use Rattle.share_defs.proofs.Told.{sums_none}
-use Rattle.sums.specs.View.{bits_to, TestMeans}
+use Rattle.sums.specs.Bits.{bits_to}
+use Rattle.sums.specs.View.{TestMeans}
 use Rattle.sums.proofs.Widths.{room_at}
 use Rattle.sums.proofs.test_size.Goals as goal
 
-pub returns : goal.returns
-returns c =
-    let t = trailing_of c.args.layout in
-    let h = c.requires in
+pub invariant_of-result : goal.invariant_of-result
+invariant_of-result c =
+    let t = trailing_of c.args.decoded.layout in
+    let h = c.requires.0 in
     let w = bits_to c.args.max in
-    ((h.0, (h.1.0, room_told w t (M w) c.max_trailing_bytes.result h.0.1 (c.max_trailing_bytes.ensures.answer ∙ room_at c.args.max t h.0.0 h.0.1) (mapped_ok c.max_trailing_bytes.result _ _ c.map_err.ensures.cases c.in_ok-most.was))), (refl, (refl, h.1.1)))
+    record {
+      is_width = h.0;
+      holds = h.1;
+      room = room_told w t (M w) c.max_trailing_bytes.result h.1 (c.max_trailing_bytes.ensures.answer ∙ room_at c.args.max t h.0 h.1) (mapped_ok c.max_trailing_bytes.result _ _ c.map_err.ensures.cases c.in_ok-most.was);
+    }
+
+pub returns : goal.returns
+returns c = (refl, (refl, c.requires.1))
 
 pub returns-in_err-most : goal.returns-in_err-most
 returns-in_err-most c =
     let m = mapped_err c.max_trailing_bytes.result _ _ (λ e. Refusal.NoSizeAtZero) (λ e q. search rules) c.map_err.ensures.cases c.in_err-most.was in
     let p = err_from_is_err_and c.from_residual.result c.from_residual.ensures.1 in
-    subst (TestMeans (trailing_of c.args.layout) c.args.max c.args.count) (sym (p.1 ∙ ap Err (p.2 ∙ m.2))) (λ ns e.
-    let t = trailing_of c.args.layout in
-    let h = c.requires in
+    subst (TestMeans (trailing_of c.args.decoded.layout) c.args.max c.args.count) (sym (p.1 ∙ ap Err (p.2 ∙ m.2))) (λ ns e.
+    let t = trailing_of c.args.decoded.layout in
+    let h = c.requires.0 in
     let w = bits_to c.args.max in
-    let none = room_refused w t (M w) c.max_trailing_bytes.result (not_zero h.1.0) h.0.1 (c.max_trailing_bytes.ensures.answer ∙ room_at c.args.max t h.0.0 h.0.1) m.1 in
-    sym (sums_none w t ns (not_zero h.1.0) (omega (arith, e, h.1.1)) (omega (arith, none (0 * t.elem)))))
+    let z = not_zero c.args.decoded.is_word in
+    let none = room_refused w t (M w) c.max_trailing_bytes.result z h.1 (c.max_trailing_bytes.ensures.answer ∙ room_at c.args.max t h.0 h.1) m.1 in
+    sym (sums_none w t ns z (omega (arith, e, c.requires.1)) (omega (arith, none (0 * t.elem)))))
