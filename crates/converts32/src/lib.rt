@@ -1,16 +1,16 @@
-// Conversions at 32 bits, by those at 64, in every mode. Each is a function of its own, and no instance of a generic one: it is
-// the widening, a call and the narrowing, which at 64 bits there is nothing of.
+// Conversions at 32 bits, by those at 64, in every mode. Each is a function of its own, and no instance of a generic one: it
+// widens, calls that of 64 bits, and narrows or refuses what comes back, and at 64 bits there would be none of these steps.
 #![tactic(auto)]
 
 ghost use Rattle.layout.specs.View.{layout_of};
 ghost use Rattle.std.specs.Prelude.{◌≡◌};
 ghost use Rattle.util_defs.specs.Width.{M};
-ghost use Rattle.util_defs.specs.Refusal.{answered, Meets};
+ghost use Rattle.util_defs.specs.Refusal.{Meets};
 ghost use Rattle.util.specs.View.{number_says};
 ghost use Rattle.layout_defs.specs.Layout.{FitsWidth};
 ghost use Rattle.shift_defs.specs.Mode.{comparison_of};
 ghost use Rattle.shift.specs.View.{mode_of};
-ghost use Rattle.convert_defs.specs.Convert.{Params, Converts, compute_causes, compute_for};
+ghost use Rattle.convert_defs.specs.Convert.{Converts, compute_causes, compute_for};
 ghost use Rattle.convert_defs.specs.Convert.{converted, metadata_causes, metadata_for};
 ghost use Rattle.convert.specs.View.{params_in, compute_says};
 ghost use Rattle.widths_defs.specs.Low.{mapped};
@@ -22,7 +22,7 @@ use layout::DstLayout;
 use shift::Mode;
 use util::Refusal;
 
-// A conversion of 64 bits narrowed. No TryFrom, as `low_word`.
+// A conversion of 64 bits narrowed. No TryFrom, as `numbers32::low_word`.
 fn low_params(params: CastParamsInner<u64>) -> CastParamsInner<u32>
     ensures { params_in result ≡ low_params 32 (params_in params) }
 {

@@ -1,5 +1,6 @@
 // Nested type descriptions at 32 bits: the reader of both widths, whose layouts 32 bits then hold. Each is a function of its
-// own, and no instance of a generic one: it is the widening, a call and the narrowing, which at 64 bits there is nothing of.
+// own, and no instance of a generic one: it widens, calls that of 64 bits, and narrows or refuses what comes back, and at 64
+// bits there would be none of these steps.
 #![tactic(auto)]
 
 ghost use Rattle.std.specs.Prelude.{◌≡◌};
@@ -13,27 +14,25 @@ use describe::ReadPart;
 use layout::{DstLayout, SizeInfo};
 use util::RefusedAt;
 
-// A part of 64 bits narrowed. No TryFrom, as `low_word`.
+// A part of 64 bits narrowed. No TryFrom, as `numbers32::low_word`.
 pub fn low_part(
     answer: Result<ReadPart<u64>, RefusedAt<usize>>,
 ) -> Result<ReadPart<u32>, RefusedAt<usize>>
     ensures { part_says result ≡ low_part 32 (part_says answer) }
 {
-    let read = answer?;
-    Ok(ReadPart {
+    answer.map(|read| ReadPart {
         layout: layouts32::low_layout(read.layout),
         next: read.next,
     })
 }
 
-// A description of 64 bits narrowed. No TryFrom, as `low_word`.
+// A description of 64 bits narrowed. No TryFrom, as `numbers32::low_word`.
 fn low_read(
     answer: Result<DstLayout<u64>, RefusedAt<u64>>,
 ) -> Result<DstLayout<u32>, RefusedAt<u64>>
     ensures { read_says result ≡ low_read 32 (read_says answer) }
 {
-    let layout = answer?;
-    Ok(layouts32::low_layout(layout))
+    answer.map(layouts32::low_layout)
 }
 
 // The part at at, with depth parts more that may be open.

@@ -1,5 +1,5 @@
-// Arrays and slices of a layout at 32 bits, by those at 64. Each is a function of its own, and no instance of a generic one: it
-// is the widening, a call and the narrowing, which at 64 bits there is nothing of.
+// Arrays and slices of a layout at 32 bits, by those at 64. Each is a function of its own, and no instance of a generic one:
+// it widens, calls that of 64 bits, and narrows or refuses what comes back, and at 64 bits there would be none of these steps.
 #![tactic(auto)]
 
 ghost use Rattle.std.specs.Prelude.{◌≡◌};

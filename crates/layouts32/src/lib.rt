@@ -1,5 +1,6 @@
 // Whole layouts at 32 bits, by those at 64: made of numbers, checked, and asked for their padding. Each is a function of its
-// own, and no instance of a generic one: it is the widening, a call and the narrowing, which at 64 bits there is nothing of.
+// own, and no instance of a generic one: it widens, calls that of 64 bits, and narrows or refuses what comes back, and at 64
+// bits there would be none of these steps.
 #![tactic(auto)]
 
 ghost use Rattle.std.specs.Prelude.{◌≡◌, true, false};
@@ -27,7 +28,7 @@ fn wide_info(size_info: SizeInfo<u32>) -> SizeInfo<u64>
     }
 }
 
-// A size of 64 bits narrowed. No TryFrom, as `low_word`.
+// A size of 64 bits narrowed. No TryFrom, as `numbers32::low_word`.
 fn low_info(size_info: SizeInfo<u64>) -> SizeInfo<u32>
     ensures { info_of result ≡ low_info 32 (info_of size_info) }
 {
@@ -53,7 +54,7 @@ pub fn wide_layout(layout: DstLayout<u32>) -> DstLayout<u64>
     }
 }
 
-// A layout of 64 bits narrowed. No TryFrom, as `low_word`.
+// A layout of 64 bits narrowed. No TryFrom, as `numbers32::low_word`.
 pub fn low_layout(layout: DstLayout<u64>) -> DstLayout<u32>
     ensures { layout_of result ≡ low_layout 32 (layout_of layout) }
 {
@@ -66,12 +67,11 @@ pub fn low_layout(layout: DstLayout<u64>) -> DstLayout<u32>
     }
 }
 
-// An answer of 64 bits narrowed. No TryFrom, as `low_word`.
+// An answer of 64 bits narrowed. No TryFrom, as `numbers32::low_word`.
 pub fn low_answer(answer: Result<DstLayout<u64>, Refusal>) -> Result<DstLayout<u32>, Refusal>
     ensures { layout_says result ≡ mapped (low_layout 32) (layout_says answer) }
 {
-    let layout = answer?;
-    Ok(low_layout(layout))
+    answer.map(low_layout)
 }
 
 // Whether the layout is one: its alignment is a power of two and its rounding word, if it has one, is not 0.

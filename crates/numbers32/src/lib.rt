@@ -1,6 +1,6 @@
 // Rounding helpers and rounding words at 32 bits, by those at 64: the numbers are widened, and the lower half of what comes
-// back is the answer, since 32 bits hold it. Each is a function of its own, and no instance of a generic one: it is the
-// widening, a call and the narrowing, which at 64 bits there is nothing of.
+// back is the answer, since 32 bits hold it. Each is a function of its own, and no instance of a generic one: it widens, calls
+// that of 64 bits, and narrows or refuses what comes back, and at 64 bits there would be none of these steps.
 #![tactic(auto)]
 
 ghost use Rattle.std.specs.Prelude.{◌≡◌};
@@ -31,8 +31,7 @@ pub fn low_word(x: u64) -> u32
 pub fn low_number(answer: Result<u64, Refusal>) -> Result<u32, Refusal>
     ensures { number_says result ≡ mapped (low 32) (number_says answer) }
 {
-    let n = answer?;
-    Ok(low_word(n))
+    answer.map(low_word)
 }
 
 // A word that was made, narrowed. No TryFrom, as `low_word`.
@@ -41,16 +40,14 @@ fn low_new(
 ) -> Result<RoundingAlignAndPhase<u32>, Refusal>
     ensures { new_says result ≡ mapped (low 32) (new_says answer) }
 {
-    let word = answer?;
-    Ok(RoundingAlignAndPhase(low_word(word.0)))
+    answer.map(|word| RoundingAlignAndPhase(low_word(word.0)))
 }
 
 // The parts of a word narrowed. No TryFrom, as `low_word`.
 fn low_components(answer: Result<Components<u64>, Refusal>) -> Result<Components<u32>, Refusal>
     ensures { components_says result ≡ mapped (low_parts 32) (components_says answer) }
 {
-    let parts = answer?;
-    Ok(Components {
+    answer.map(|parts| Components {
         align: low_word(parts.align),
         phase: low_word(parts.phase),
     })

@@ -1,6 +1,6 @@
-// Records of layouts at 32 bits, by those at 64: a record keeps 64-bit fields, and a number that 32 bits do not hold is refused
-// after the record's own tests. Each is a function of its own, and no instance of a generic one: it is the widening, a call and
-// the narrowing, which at 64 bits there is nothing of.
+// Records of layouts at 32 bits, by those at 64: a record keeps 64-bit fields, and a number that 32 bits do not hold is
+// refused after the record's own tests. Each is a function of its own, and no instance of a generic one: it widens, calls that
+// of 64 bits, and narrows or refuses what comes back, and at 64 bits there would be none of these steps.
 #![tactic(auto)]
 
 ghost use Rattle.std.specs.Prelude.{◌≡◌, length};

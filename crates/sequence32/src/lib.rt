@@ -1,5 +1,6 @@
-// The sizes of two trailing layouts compared, and the normal form of one, at 32 bits, by those at 64. Each is a function of its
-// own, and no instance of a generic one: it is the widening, a call and the narrowing, which at 64 bits there is nothing of.
+// The sizes of two trailing layouts compared, and the normal form of one, at 32 bits, by those at 64. Each is a function of
+// its own, and no instance of a generic one: it widens, calls that of 64 bits, and narrows or refuses what comes back, and at
+// 64 bits there would be none of these steps.
 #![tactic(auto)]
 
 ghost use Rattle.trailing.specs.View.{trailing_of};
@@ -7,7 +8,6 @@ ghost use Rattle.std.specs.Prelude.{◌≡◌};
 ghost use Rattle.util_defs.specs.Width.{M};
 ghost use Rattle.util_defs.specs.Refusal.{Meets};
 ghost use Rattle.util.specs.View.{decision_says};
-ghost use Rattle.trailing_defs.specs.Size.{size_at};
 ghost use Rattle.trailing_defs.specs.Calls.{same_causes, same_for, FoundSame};
 ghost use Rattle.full_defs.specs.Full.{agree_for, FoundEqual};
 ghost use Rattle.full_defs.specs.Form.{IsNormal, form_causes, form_for};
@@ -17,18 +17,14 @@ ghost use Rattle.widths_defs.specs.Within.{has_start, same_within, form_within};
 
 use full::NormalForm;
 use rounding::RoundingAlignAndPhase;
-use trailing::{SizeRefusal, TrailingSliceLayout};
+use trailing::TrailingSliceLayout;
 use util::Refusal;
 
 // Whether 32 bits hold a size at 0.
 pub fn has_start(tail: TrailingSliceLayout<u32>) -> bool
     ensures { result ≡ has_start 32 (trailing_of tail) }
 {
-    match trailing32::size_for_elems(tail, 0) {
-        Ok(_) => true,
-        Err(SizeRefusal::NoSize { greatest: _ }) => false,
-        Err(SizeRefusal::Refused(_)) => false,
-    }
+    trailing32::size_for_elems(tail, 0).is_ok()
 }
 
 // A yes stays one where the first layout has a size at 0.
@@ -66,7 +62,7 @@ pub fn sizes_agree(
     full::sizes_agree(trailing32::wide_tail(first), trailing32::wide_tail(other))
 }
 
-// A form of 64 bits narrowed. No TryFrom, as `low_word`.
+// A form of 64 bits narrowed. No TryFrom, as `numbers32::low_word`.
 fn low_form(form: NormalForm<u64>) -> NormalForm<u32>
     ensures { form_in result ≡ low_form 32 (form_in form) }
 {

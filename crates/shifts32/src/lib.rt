@@ -1,5 +1,5 @@
-// The shift of a conversion at 32 bits, by that at 64. Each is a function of its own, and no instance of a generic one: it is
-// the widening, a call and the narrowing, which at 64 bits there is nothing of.
+// The shift of a conversion at 32 bits, by that at 64. Each is a function of its own, and no instance of a generic one: it
+// widens, calls that of 64 bits, and narrows or refuses what comes back, and at 64 bits there would be none of these steps.
 #![tactic(auto)]
 
 ghost use Rattle.layout.specs.View.{info_of, layout_of};
@@ -51,7 +51,7 @@ pub fn size_sequences_match(
     )
 }
 
-// A shift of 64 bits narrowed. No TryFrom, as `low_word`.
+// A shift of 64 bits narrowed. No TryFrom, as `numbers32::low_word`.
 fn low_shift(shift: Option<u64>) -> Option<u32>
     ensures { shift_in result ≡ low_shift 32 (shift_in shift) }
 {

@@ -1,6 +1,6 @@
 // Trailing layouts at 32 bits, by those at 64. Where 32 bits do not hold what comes back it is refused, by the number that the
-// papers give it. Each is a function of its own, and no instance of a generic one: it is the widening, a call and the
-// narrowing, which at 64 bits there is nothing of.
+// papers give it. Each is a function of its own, and no instance of a generic one: it widens, calls that of 64 bits, and
+// narrows or refuses what comes back, and at 64 bits there would be none of these steps.
 #![tactic(auto)]
 
 ghost use Rattle.util.specs.View.{number_says};
@@ -34,7 +34,7 @@ pub fn wide_tail(tail: TrailingSliceLayout<u32>) -> TrailingSliceLayout<u64>
     }
 }
 
-// A layout of 64 bits narrowed. No TryFrom, as `low_word`.
+// A layout of 64 bits narrowed. No TryFrom, as `numbers32::low_word`.
 pub fn low_tail(tail: TrailingSliceLayout<u64>) -> TrailingSliceLayout<u32>
     ensures { trailing_of result ≡ low_tail 32 (trailing_of tail) }
 {

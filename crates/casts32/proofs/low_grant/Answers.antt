@@ -1,10 +1,9 @@
 -- `casts32::low_grant` meets its contract. Assumes nothing.
-
-use Rattle.util.proofs.Told.{handed_on}
+use Rattle.std.proofs.Common.{rules}
+use Rattle.cast.specs.View.{grant_of}
+use Rattle.widths_casts_defs.specs.Low.{low_grant}
+use Rattle.numbers32.proofs.Narrowed.{narrowed}
 use Rattle.casts32.proofs.low_grant.Goals as goal
 
 pub returns : goal.returns
-returns c = simp (c.in_ok-granted.was, c.low_word.ensures, c.low_word-2.ensures)
-
-pub returns-in_err-granted : goal.returns-in_err-granted
-returns-in_err-granted c = handed_on _ c.from_residual.result _ c.from_residual.ensures.1 (simp c.in_err-granted.was)
+returns c = narrowed grant_of grant_of (low_grant 32) c.args.answer c.map.result _ (λ x y q. search rules) c.map.ensures.cases

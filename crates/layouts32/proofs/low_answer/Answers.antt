@@ -1,10 +1,9 @@
 -- `layouts32::low_answer` meets its contract. Assumes nothing.
-
-use Rattle.util.proofs.Told.{handed_on}
+use Rattle.std.proofs.Common.{rules}
+use Rattle.layout.specs.View.{layout_of}
+use Rattle.widths_layouts_defs.specs.Low.{low_layout}
+use Rattle.numbers32.proofs.Narrowed.{narrowed}
 use Rattle.layouts32.proofs.low_answer.Goals as goal
 
 pub returns : goal.returns
-returns c = simp (c.in_ok-layout.was, c.low_layout.ensures)
-
-pub returns-in_err-layout : goal.returns-in_err-layout
-returns-in_err-layout c = handed_on _ c.from_residual.result _ c.from_residual.ensures.1 (simp c.in_err-layout.was)
+returns c = narrowed layout_of layout_of (low_layout 32) c.args.answer c.map.result _ (λ x y q. search rules) c.map.ensures.cases

@@ -2,11 +2,10 @@
 use Rattle.rounding.specs.View.{word_of}
 use mathlib.Core.Path.{sym, ap, ◌∙◌}
 use native.Mathlib.Omega.{arith}
-use Rattle.util_defs.proofs.Refusals.{means, told}
+use Rattle.util_defs.proofs.Refusals.{means}
 use Rattle.rounding.proofs.Words.{align_meets}
 use Rattle.widths_defs.specs.Low.{mapped, low}
 use Rattle.widths_defs.proofs.Words.{align_low}
-use borrow.Author.Rules.{rules}
 use Rattle.numbers32.proofs.align.Goals as goal
 
 pub returns-clause-answer : goal.returns-clause-answer

@@ -2,11 +2,10 @@
 use Rattle.rounding.specs.View.{word_of}
 use mathlib.Core.Path.{sym, ap, ◌∙◌}
 use native.Mathlib.Omega.{arith}
-use Rattle.util_defs.proofs.Refusals.{means, told}
+use Rattle.util_defs.proofs.Refusals.{means}
 use Rattle.rounding.proofs.Words.{components_meets}
 use Rattle.widths_defs.specs.Low.{mapped, low_parts}
 use Rattle.widths_defs.proofs.Words.{components_low}
-use borrow.Author.Rules.{rules}
 use Rattle.numbers32.proofs.components.Goals as goal
 
 pub returns-clause-answer : goal.returns-clause-answer

@@ -2,7 +2,6 @@
 use mathlib.Core.Path.{sym, ◌∙◌}
 use native.Mathlib.Omega.{arith}
 use Rattle.widths_defs.proofs.Widths.{same_power}
-use borrow.Author.Rules.{rules}
 use Rattle.numbers32.proofs.is_power_of_two.Goals as goal
 
 pub returns-clause-answer : goal.returns-clause-answer

@@ -1,11 +1,10 @@
 -- `numbers32::max` meets its contract. Assumes nothing.
 use mathlib.Core.Path.{sym, ap, ◌∙◌}
 use native.Mathlib.Omega.{arith}
-use Rattle.util_defs.proofs.Refusals.{means, told}
+use Rattle.util_defs.proofs.Refusals.{means}
 use Rattle.util_defs.proofs.Helpers.{max_meets}
 use Rattle.widths_defs.specs.Low.{mapped, low}
 use Rattle.widths_defs.proofs.Helpers.{max_low}
-use borrow.Author.Rules.{rules}
 use Rattle.numbers32.proofs.max.Goals as goal
 
 pub returns-clause-answer : goal.returns-clause-answer

@@ -1,11 +1,10 @@
 -- `numbers32::new` meets its contract. Assumes nothing.
 use mathlib.Core.Path.{sym, ap, ◌∙◌}
 use native.Mathlib.Omega.{arith}
-use Rattle.util_defs.proofs.Refusals.{means, told}
+use Rattle.util_defs.proofs.Refusals.{means}
 use Rattle.rounding.proofs.Words.{new_meets}
 use Rattle.widths_defs.specs.Low.{mapped, low}
 use Rattle.widths_defs.proofs.Words.{new_low}
-use borrow.Author.Rules.{rules}
 use Rattle.numbers32.proofs.new.Goals as goal
 
 pub returns-clause-answer : goal.returns-clause-answer

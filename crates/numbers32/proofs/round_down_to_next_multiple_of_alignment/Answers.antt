@@ -1,11 +1,10 @@
 -- `numbers32::round_down_to_next_multiple_of_alignment` meets its contract. Assumes nothing.
 use mathlib.Core.Path.{sym, ap, ◌∙◌}
 use native.Mathlib.Omega.{arith}
-use Rattle.util_defs.proofs.Refusals.{means, told}
+use Rattle.util_defs.proofs.Refusals.{means}
 use Rattle.util_defs.proofs.Helpers.{down_meets}
 use Rattle.widths_defs.specs.Low.{mapped, low}
 use Rattle.widths_defs.proofs.Helpers.{down_low}
-use borrow.Author.Rules.{rules}
 use Rattle.numbers32.proofs.round_down_to_next_multiple_of_alignment.Goals as goal
 
 pub returns-clause-answer : goal.returns-clause-answer
