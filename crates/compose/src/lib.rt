@@ -1,20 +1,23 @@
 // The composition of a list of member records, after zerocopy's for_repr_c_struct, and a strict one beside it. Both are one: the
-// strict one heeds alignment modifiers. What the ported one is called with, false, the compiler carries into its loop.
+// strict one heeds alignment modifiers. What the ported one is called with, false, the compiler carries into its loop. One text
+// serves both widths; at 64 bits the loop keeps in registers what a member with a size needs.
 #![tactic(auto)]
 
 ghost use Rattle.std.specs.Prelude.{◌≡◌, true, ◌&&◌, ◌/◌, length};
 ghost use Rattle.util_defs.specs.Power.{power_of_two};
 ghost use Rattle.util_defs.specs.Refusal.{answered};
+ghost use Rattle.util.specs.View.{says};
 ghost use Rattle.layout.specs.View.{layout_of, sized_of, layout_says};
 ghost use Rattle.padding_defs.specs.Pad.{pad_for};
 ghost use Rattle.record_defs.specs.Record.{decode_for};
 ghost use Rattle.compose_defs.specs.Compose.{composed, and_then, begin_for, member_step, add_members, members_of, members_from};
-ghost use Rattle.compose_defs.specs.Compose.{ported, strict, compose_for, struct_for};
+ghost use Rattle.compose_defs.specs.Compose.{ported, strict, compose_members, compose_for, struct_for};
 ghost use Rattle.compose_defs.specs.Strict.{StrictList};
-ghost use Rattle.compose.specs.View.{compose_says};
+ghost use Rattle.compose.specs.View.{composed_says, compose_says};
 
 use layout::{DstLayout, SizeInfo, SizedLayout};
 use record::RECORD_BYTES;
+use steps::Steps;
 use util::{Refusal, RefusedAt};
 
 // Whether one modifier is refused beside the other.
@@ -29,11 +32,11 @@ pub fn at_odds(heed: bool, aligned: bool, packed: bool) -> bool
 }
 
 // The empty layout that a composition begins with.
-fn begin(heed: bool, repr_align: u64, repr_packed: u64) -> Result<DstLayout<u64>, Refusal>
-    ensures { layout_says result ≡ begin_for 64 heed repr_align repr_packed }
+fn begin<W: Steps>(heed: bool, repr_align: W, repr_packed: W) -> Result<DstLayout<W>, Refusal>
+    ensures { says W.layout result ≡ begin_for W.bits heed (W.number repr_align) (W.number repr_packed) }
 {
-    let empty = make::new_zst(repr_align)?;
-    if at_odds(heed, repr_align != 0, repr_packed != 0) {
+    let empty = W::new_zst(repr_align)?;
+    if at_odds(heed, repr_align.wide() != 0, repr_packed.wide() != 0) {
         Err(Refusal::AlignAndPacked)
     } else {
         Ok(empty)
@@ -41,19 +44,20 @@ fn begin(heed: bool, repr_align: u64, repr_packed: u64) -> Result<DstLayout<u64>
 }
 
 // The layout with one member more, whose record is given.
-fn member_step(
-    l: DstLayout<u64>,
+fn member_step<W: Steps>(
+    l: DstLayout<W>,
     heed: bool,
-    repr_packed: u64,
+    repr_packed: W,
     member: &[u8],
-) -> Result<DstLayout<u64>, Refusal>
-    ensures { layout_says result ≡ member_step 64 heed repr_packed (layout_of l) (decode_for 64 member.now) }
+) -> Result<DstLayout<W>, Refusal>
+    ensures { says W.layout result
+        ≡ member_step W.bits heed (W.number repr_packed) (W.layout l) (decode_for W.bits member.now) }
 {
-    let field = record::decode(member)?;
-    if at_odds(heed, repr_packed != 0, field.align_modifier) {
+    let field = W::decode(member)?;
+    if at_odds(heed, repr_packed.wide() != 0, field.align_modifier) {
         Err(Refusal::AlignModifierInPacked)
     } else {
-        extend::extend(l, field, repr_packed)
+        W::extend(l, field, repr_packed)
     }
 }
 
@@ -111,18 +115,19 @@ fn sized_step(
 
 // Each member in turn from the one at from on, at the end of the layout. This goes on behind a trailing member, where the next
 // one is refused.
-fn add_members(
-    start: DstLayout<u64>,
+fn add_members<W: Steps>(
+    start: DstLayout<W>,
     heed: bool,
-    repr_packed: u64,
+    repr_packed: W,
     members: &[u8],
     from: usize,
-) -> Result<DstLayout<u64>, RefusedAt<u64>>
-    ensures { compose_says result ≡ add_members (member_step 64 heed repr_packed) from (layout_of start)
-        (members_from 64 from members.now) }
+) -> Result<DstLayout<W>, RefusedAt<u64>>
+    ensures { composed_says W.layout result ≡ add_members (member_step W.bits heed (W.number repr_packed)) from
+        (W.layout start) (members_from W.bits from members.now) }
 {
     let count = members.len() / RECORD_BYTES;
     let mut l = start;
+    // By an index: it begins at a place, and a refusal tells it. `chunks_exact`, `enumerate` and `skip` say no more.
     for place in from..count {
         let at = place * RECORD_BYTES;
         l = member_step(l, heed, repr_packed, &members[at..at + RECORD_BYTES]).map_err(
@@ -149,6 +154,7 @@ fn add_to_sized(
 {
     let count = members.len() / RECORD_BYTES;
     let mut own = start;
+    // By an index: the loop that takes over goes on from it.
     for i in 0..count {
         let at = i * RECORD_BYTES;
         let next = sized_step(own, heed, repr_packed, &members[at..at + RECORD_BYTES]).map_err(
@@ -180,16 +186,38 @@ fn add_to_sized(
     })
 }
 
-// The members of a list one after the other, without padding after the last.
-fn compose_list(
-    heed: bool,
-    repr_align: u64,
-    repr_packed: u64,
-    members: &[u8],
-) -> Result<DstLayout<u64>, RefusedAt<u64>>
-    ensures { compose_says result ≡ compose_for 64 heed repr_align repr_packed members.now }
-{
-    if members.len() % RECORD_BYTES == 0 {
+// The members of whole records at a width, one after the other.
+pub trait Lists: Steps {
+    fn compose_records(
+        heed: bool,
+        repr_align: Self,
+        repr_packed: Self,
+        members: &[u8],
+    ) -> Result<DstLayout<Self>, RefusedAt<u64>>
+        ensures { composed_says Self.layout result ≡ compose_members Self.bits heed (Self.number repr_align)
+            (Self.number repr_packed) (members_of Self.bits (length members.now / 48) members.now) }
+    {
+        let empty = begin(heed, repr_align, repr_packed).map_err(|refusal| RefusedAt {
+            refusal,
+            place: 0,
+        })?;
+        add_members(empty, heed, repr_packed, members, 0)
+    }
+}
+
+impl Lists for u32 {}
+
+// The loop that keeps four words.
+impl Lists for u64 {
+    fn compose_records(
+        heed: bool,
+        repr_align: u64,
+        repr_packed: u64,
+        members: &[u8],
+    ) -> Result<DstLayout<u64>, RefusedAt<u64>>
+        ensures { compose_says result ≡ compose_members 64 heed repr_align repr_packed
+            (members_of 64 (length members.now / 48) members.now) }
+    {
         let empty = begin(heed, repr_align, repr_packed).map_err(|refusal| RefusedAt {
             refusal,
             place: 0,
@@ -201,6 +229,21 @@ fn compose_list(
             align_modifier: empty.align_modifier,
         };
         add_to_sized(start, heed, repr_packed, members)
+    }
+}
+
+// The members of a list one after the other, without padding after the last.
+fn compose_list<W: Lists>(
+    heed: bool,
+    repr_align: W,
+    repr_packed: W,
+    members: &[u8],
+) -> Result<DstLayout<W>, RefusedAt<u64>>
+    ensures { composed_says W.layout result
+        ≡ compose_for W.bits heed (W.number repr_align) (W.number repr_packed) members.now }
+{
+    if members.len() % RECORD_BYTES == 0 {
+        W::compose_records(heed, repr_align, repr_packed, members)
     } else {
         Err(RefusedAt {
             refusal: Refusal::RecordLength,
@@ -210,23 +253,24 @@ fn compose_list(
 }
 
 // The padding after the last of count members; a refusal of it is placed at their count.
-fn pad_composed(l: DstLayout<u64>, count: u64) -> Result<DstLayout<u64>, RefusedAt<u64>>
-    ensures { compose_says result ≡ and_then (pad_for 64 (layout_of l)) count composed }
+fn pad_composed<W: Steps>(l: DstLayout<W>, count: u64) -> Result<DstLayout<W>, RefusedAt<u64>>
+    ensures { composed_says W.layout result ≡ and_then (pad_for W.bits (W.layout l)) count composed }
 {
-    padding::pad_to_align(l).map_err(|refusal| RefusedAt {
+    W::pad_to_align(l).map_err(|refusal| RefusedAt {
         refusal,
         place: count,
     })
 }
 
 // The same with it.
-fn struct_of_list(
+fn struct_of_list<W: Lists>(
     heed: bool,
-    repr_align: u64,
-    repr_packed: u64,
+    repr_align: W,
+    repr_packed: W,
     members: &[u8],
-) -> Result<DstLayout<u64>, RefusedAt<u64>>
-    ensures { compose_says result ≡ struct_for 64 heed repr_align repr_packed members.now }
+) -> Result<DstLayout<W>, RefusedAt<u64>>
+    ensures { composed_says W.layout result
+        ≡ struct_for W.bits heed (W.number repr_align) (W.number repr_packed) members.now }
 {
     let l = compose_list(heed, repr_align, repr_packed, members)?;
     let count = members.len() / RECORD_BYTES;
@@ -234,35 +278,39 @@ fn struct_of_list(
 }
 
 // The members of a list one after the other, without padding after the last.
-pub fn compose(
-    repr_align: u64,
-    repr_packed: u64,
+pub fn compose<W: Lists>(
+    repr_align: W,
+    repr_packed: W,
     members: &[u8],
-) -> Result<DstLayout<u64>, RefusedAt<u64>>
-    ensures { compose_says result ≡ compose_for 64 ported repr_align repr_packed members.now }
+) -> Result<DstLayout<W>, RefusedAt<u64>>
+    ensures { composed_says W.layout result
+        ≡ compose_for W.bits ported (W.number repr_align) (W.number repr_packed) members.now }
 {
     compose_list(false, repr_align, repr_packed, members)
 }
 
 // The layout of a repr(C) struct with these members.
-pub fn for_repr_c_struct(
-    repr_align: u64,
-    repr_packed: u64,
+pub fn for_repr_c_struct<W: Lists>(
+    repr_align: W,
+    repr_packed: W,
     members: &[u8],
-) -> Result<DstLayout<u64>, RefusedAt<u64>>
-    ensures { compose_says result ≡ struct_for 64 ported repr_align repr_packed members.now }
+) -> Result<DstLayout<W>, RefusedAt<u64>>
+    ensures { composed_says W.layout result
+        ≡ struct_for W.bits ported (W.number repr_align) (W.number repr_packed) members.now }
 {
     struct_of_list(false, repr_align, repr_packed, members)
 }
 
 // The same where the Reference allows it: no alignment modifier together with a packed one, nor inside a packed type.
-pub fn for_repr_c_struct_strict(
-    repr_align: u64,
-    repr_packed: u64,
+pub fn for_repr_c_struct_strict<W: Lists>(
+    repr_align: W,
+    repr_packed: W,
     members: &[u8],
-) -> Result<DstLayout<u64>, RefusedAt<u64>>
-    ensures answer { compose_says result ≡ struct_for 64 strict repr_align repr_packed members.now }
-    ensures meaning { StrictList 64 repr_align repr_packed members.now (compose_says result) }
+) -> Result<DstLayout<W>, RefusedAt<u64>>
+    ensures answer { composed_says W.layout result
+        ≡ struct_for W.bits strict (W.number repr_align) (W.number repr_packed) members.now }
+    ensures meaning { StrictList W.bits (W.number repr_align) (W.number repr_packed) members.now
+        (composed_says W.layout result) }
 {
     struct_of_list(true, repr_align, repr_packed, members)
 }

@@ -108,15 +108,18 @@ empty_sized w heed a p e =
     let q = answer_is (begin_causes w heed a p) (empty_layout a) e in
     e ∙ ap answered (q ∙ sym (ap (λ (x : Layout). record { align = x.align; info = fixed 0; mark = true; modifier = x.modifier }) q))
 
--- a list of whole records composes to what its members do, onto the empty layout
-pub compose_on : (w : ℕ) (heed : Bool) (a p : ℕ) (s : List ℕ) {l : Layout} → length s % 48 ≡ 0 → begin_for w heed a p ≡ answered l
-    → compose_for w heed a p s ≡ add_members (member_step w heed p) 0 l (members_of w (length s / 48) s)
-unfolding compose_for
-compose_on w heed a p s h e = rw (eq-eqb (length s % 48) 0 h, e)
+-- members compose to what they add up to, onto the empty layout
+pub members_on : (w : ℕ) (heed : Bool) (a p : ℕ) (ms : List Member) {l : Layout} → begin_for w heed a p ≡ answered l
+    → compose_members w heed a p ms ≡ add_members (member_step w heed p) 0 l ms
+members_on w heed a p ms e = rw e
 
-pub compose_off : (w : ℕ) (heed : Bool) (a p : ℕ) (s : List ℕ) {k : ℕ} → length s % 48 ≡ 0 → begin_for w heed a p ≡ refused k → compose_for w heed a p s ≡ refused_at k 0
+pub members_off : (w : ℕ) (heed : Bool) (a p : ℕ) (ms : List Member) {k : ℕ} → begin_for w heed a p ≡ refused k → compose_members w heed a p ms ≡ refused_at k 0
+members_off w heed a p ms e = rw e
+
+-- a list of whole records composes to what its members do
+pub compose_whole : (w : ℕ) (heed : Bool) (a p : ℕ) (s : List ℕ) → length s % 48 ≡ 0 → compose_for w heed a p s ≡ compose_members w heed a p (members_of w (length s / 48) s)
 unfolding compose_for
-compose_off w heed a p s h e = rw (eq-eqb (length s % 48) 0 h, e)
+compose_whole w heed a p s h = rw (eq-eqb (length s % 48) 0 h)
 
 pub compose_length : (w : ℕ) (heed : Bool) (a p : ℕ) (s : List ℕ) → (length s % 48 ≡ 0 → ⊥) → compose_for w heed a p s ≡ refused_at 20 0
 unfolding compose_for

@@ -1,7 +1,8 @@
 -- The composition of a member list (document 01, `for_repr_c_struct`; the Reference's rule
 -- layout.repr.c.struct.size-field-offset), and a strict one beside it (document 02, request 11; its rule
 -- layout.repr.alignment.constraint-exclusive). Assumes nothing.
-use Rattle.std.specs.Prelude.{◌≡◌, Bool, true, false, cond, not, ◌&&◌, List, [], ◌∷◌, ◌++◌, ℕ, zero, suc, ◌-◌, ◌*◌, ◌/◌, ◌%◌, eqb, length, take, drop}
+use Rattle.std.specs.Prelude.{◌≡◌, Bool, true, false, cond, not, ◌&&◌, List, [], ◌∷◌, ◌++◌, ℕ, zero, suc, ◌-◌, ◌*◌, ◌/◌, ◌%◌}
+use Rattle.std.specs.Prelude.{eqb, length, take, drop}
 use Rattle.util_defs.specs.Refusal.{Outcome, answered, refused, Cause, unless}
 use Rattle.util_defs.specs.Helpers.{align_causes}
 use Rattle.layout_defs.specs.Layout.{Layout}

@@ -1,14 +1,19 @@
-// A page read in place: the front part of the map where its prefix cast is granted, else of the spare copy where that one's is
-// (document 02, request 13). Both are only read, and no byte is copied.
+// A page read in place, at either width: the front part of the map where its prefix cast is granted, else of the spare copy where
+// that one's is (document 02, request 13). Both are only read, and no byte is copied.
 #![tactic(auto)]
 
-ghost use Rattle.std.specs.Prelude.{◌≡◌, length};
+ghost use Rattle.std.specs.Prelude.{◌≡◌, ◌<◌, ◌^◌};
+ghost use Rattle.std.proofs.Common.{rules};
+ghost use Rattle.util.specs.View.{says};
 ghost use Rattle.layout.specs.View.{layout_of};
+ghost use Rattle.cast_defs.specs.Cast.{cast_for};
+ghost use Rattle.cast.specs.View.{side_of, cast_says};
 ghost use Rattle.front_defs.specs.Front.{serving_for, Serves, front_for, FrontMeans};
-ghost use Rattle.front.specs.View.{serving_says};
+ghost use Rattle.front.specs.View.{granted_at, serving_at};
 
 use cast::{CastType, Granted};
 use layout::DstLayout;
+use steps::Steps;
 use util::Refusal;
 
 // Which of two buffers serves, and what its cast granted; beside it the number of each cast that was refused before.
@@ -29,30 +34,78 @@ pub enum Serving<N> {
     },
 }
 
+// The cast of a width. A buffer may have more bytes than the width numbers: its cast is refused, and its length never cut off.
+pub trait Casts: Steps {
+    fn cast_bytes(
+        layout: DstLayout<Self>,
+        addr: Self,
+        bytes_len: u64,
+        cast_type: CastType,
+    ) -> Result<Granted<Self>, Refusal>
+        ensures answer { says (granted_at Self.number) result
+            ≡ cast_for Self.bits (Self.layout layout) (side_of cast_type) (Self.number addr) bytes_len }
+        ensures fits { (Self.layout layout).align < 2 ^ Self.bits };
+
+    ghost some: { 0 < Self.bits };
+}
+
+impl Casts for u64 {
+    fn cast_bytes(
+        layout: DstLayout<u64>,
+        addr: u64,
+        bytes_len: u64,
+        cast_type: CastType,
+    ) -> Result<Granted<u64>, Refusal>
+        ensures answer { cast_says result ≡ cast_for 64 (layout_of layout) (side_of cast_type) addr bytes_len }
+        ensures fits { layout.align < 2 ^ 64 }
+    {
+        cast::validate_cast_and_convert_metadata(layout, addr, bytes_len, cast_type)
+    }
+
+    ghost some = { Prim.search rules };
+}
+
+impl Casts for u32 {
+    fn cast_bytes(
+        layout: DstLayout<u32>,
+        addr: u32,
+        bytes_len: u64,
+        cast_type: CastType,
+    ) -> Result<Granted<u32>, Refusal>
+        ensures answer { cast_says result ≡ cast_for 32 (layout_of layout) (side_of cast_type) addr bytes_len }
+        ensures fits { layout.align < 2 ^ 32 }
+    {
+        casts32::cast_bytes(layout, addr, bytes_len, cast_type)
+    }
+
+    ghost some = { Prim.search rules };
+}
+
 // Which of a map and a spare serves. The spare is not looked at where the map does.
-pub fn which_serves(
-    layout: DstLayout<u64>,
-    map_addr: u64,
+pub fn which_serves<W: Casts>(
+    layout: DstLayout<W>,
+    map_addr: W,
     map_len: u64,
-    spare_addr: u64,
+    spare_addr: W,
     spare_len: u64,
-) -> Serving<u64>
-    ensures answer { serving_says result ≡ serving_for 64 (layout_of layout) map_addr map_len spare_addr spare_len }
-    ensures meaning { Serves 64 (layout_of layout) map_addr map_len spare_addr spare_len (serving_says result) }
+) -> Serving<W>
+    ensures answer { serving_at W.number result
+        ≡ serving_for W.bits (W.layout layout) (W.number map_addr) map_len (W.number spare_addr) spare_len }
+    ensures meaning { Serves W.bits (W.layout layout) (W.number map_addr) map_len (W.number spare_addr) spare_len
+        (serving_at W.number result) }
+    ensures fits { (W.layout layout).align < 2 ^ W.bits }
 {
-    match cast::validate_cast_and_convert_metadata(layout, map_addr, map_len, CastType::Prefix) {
-        Ok(Granted { elems, split_at }) => Serving::Map { elems, split_at },
+    match W::cast_bytes(layout, map_addr, map_len, CastType::Prefix) {
+        Ok(of_map) => Serving::Map {
+            elems: of_map.elems,
+            split_at: of_map.split_at,
+        },
         Err(map_refusal) => {
-            match cast::validate_cast_and_convert_metadata(
-                layout,
-                spare_addr,
-                spare_len,
-                CastType::Prefix,
-            ) {
-                Ok(Granted { elems, split_at }) => Serving::Spare {
+            match W::cast_bytes(layout, spare_addr, spare_len, CastType::Prefix) {
+                Ok(of_spare) => Serving::Spare {
                     map_refusal,
-                    elems,
-                    split_at,
+                    elems: of_spare.elems,
+                    split_at: of_spare.split_at,
                 },
                 Err(spare_refusal) => Serving::Neither {
                     map_refusal,
@@ -65,15 +118,17 @@ pub fn which_serves(
 
 // The front part of whichever serves, as long as its granted split; an empty part of the map where neither does. The map stands
 // at map_addr, the spare at spare_addr.
-pub fn front<'a>(
-    layout: DstLayout<u64>,
-    map_addr: u64,
+pub fn front<'a, W: Casts>(
+    layout: DstLayout<W>,
+    map_addr: W,
     map: &'a [u8],
-    spare_addr: u64,
+    spare_addr: W,
     spare: &'a [u8],
 ) -> &'a [u8]
-    ensures answer { result.now ≡ front_for 64 (layout_of layout) map_addr map.now spare_addr spare.now }
-    ensures meaning { FrontMeans 64 (layout_of layout) map_addr map.now spare_addr spare.now result.now }
+    ensures answer { result.now
+        ≡ front_for W.bits (W.layout layout) (W.number map_addr) map.now (W.number spare_addr) spare.now }
+    ensures meaning { FrontMeans W.bits (W.layout layout) (W.number map_addr) map.now (W.number spare_addr) spare.now
+        result.now }
 {
     match which_serves(
         layout,
@@ -82,12 +137,12 @@ pub fn front<'a>(
         spare_addr,
         spare.len() as u64,
     ) {
-        Serving::Map { elems: _, split_at } => &map[..split_at as usize],
+        Serving::Map { elems: _, split_at } => &map[..split_at.wide() as usize],
         Serving::Spare {
             map_refusal: _,
             elems: _,
             split_at,
-        } => &spare[..split_at as usize],
+        } => &spare[..split_at.wide() as usize],
         Serving::Neither {
             map_refusal: _,
             spare_refusal: _,

@@ -1,5 +1,5 @@
-// The conversion guarantee at 32 bits, of what the calls of a conversion and of the casts after it return. A function of its
-// own, and no instance of a generic one: each call in it is another function than at 64 bits, and nothing else is in it.
+// The conversion guarantee at 32 bits, of what the calls of a conversion and of the casts after it return.
+// No trait of a width: of the two conversions it needs six heads and three views, more lines than these two functions have.
 #![tactic(auto)]
 
 ghost use Rattle.guarantee.specs.View.{answers_in};

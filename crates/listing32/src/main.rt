@@ -10,6 +10,7 @@ const INPUT_BYTES: usize = 65536;
 const LINE_BYTES: usize = 4096;
 
 // Where the input or the output fails, a line on standard error says so, and no layout is printed.
+// The programs of the two widths have one text but for that: a function of both would be public, with nothing to promise.
 fn main(rt: HostRuntime) -> io::Result<()> {
     let mut list = [0u8; INPUT_BYTES];
     let n = match reading::read_full(&mut rt.stdin(), &mut list) {

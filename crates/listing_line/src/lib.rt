@@ -113,9 +113,9 @@ fn compose_at(narrow: bool, list: &[u8]) -> Result<DstLayout<u64>, RefusedAt<u64
     ensures { compose_says result ≡ struct_for (bits_of narrow) ported 0 0 list.now }
 {
     if narrow {
-        wide_composed(compose32::for_repr_c_struct(0, 0, list))
+        wide_composed(compose::for_repr_c_struct::<u32>(0, 0, list))
     } else {
-        compose::for_repr_c_struct(0, 0, list)
+        compose::for_repr_c_struct::<u64>(0, 0, list)
     }
 }
 

@@ -1,28 +1,31 @@
-// The composition of a list of member records that also writes where each member landed. The members are composed first, so that
-// nothing is written where they are refused; then their places are worked out once more, in the same order.
+// The composition of a list of member records, at either width, that also writes where each member landed. The members are
+// composed first, so that nothing is written where they are refused; then their places are worked out once more, in the same
+// order.
 #![tactic(auto)]
 
 ghost use Rattle.std.specs.Prelude.{◌≡◌, ◌/◌, ◌%◌, ◌&&◌, length, ◌==◌};
 ghost use Rattle.util_defs.specs.Refusal.{answered};
 ghost use Rattle.layout_defs.specs.Layout.{Layout};
 ghost use Rattle.layout_defs.specs.Extend.{member_align};
-ghost use Rattle.layout.specs.View.{info_of, layout_of};
 ghost use Rattle.make.specs.Make.{empty_layout};
 ghost use Rattle.record_defs.specs.Record.{decode_for};
 ghost use Rattle.compose_defs.specs.Compose.{ported, compose_struct};
 ghost use Rattle.compose_defs.specs.Places.{listed, places_of, gaps_of, places_for, written};
-ghost use Rattle.compose_defs.specs.Places.{end_of, Lands, Composes, ListPlacesMean};
-ghost use Rattle.compose.specs.View.{compose_says};
+ghost use Rattle.compose_defs.specs.Places.{Lands, Composes, ListPlacesMean};
+ghost use Rattle.steps.specs.End.{end_in};
+ghost use Rattle.compose.specs.View.{composed_says};
 
+use compose::Lists;
 use layout::{DstLayout, SizeInfo};
 use record::RECORD_BYTES;
+use steps::Steps;
 use util::{Refusal, RefusedAt};
 
-// Where a member lands, the gap before it, and where it ends.
+// Where a member lands, the gap before it, and where it ends, which is worked out at 64 bits.
 #[derive(Clone, Copy)]
-struct Spot {
-    place: u64,
-    gap: u64,
+struct Spot<W> {
+    place: W,
+    gap: W,
     end: u64,
 }
 
@@ -41,8 +44,8 @@ fn packed_align(align: u64, repr_packed: u64) -> u64
 }
 
 // Where a member ends that stands at 0: a trailing one at its base, and none comes after it.
-fn end_of(size_info: SizeInfo<u64>) -> u64
-    ensures { result ≡ end_of (info_of size_info) }
+fn end_of<N: Copy>(size_info: SizeInfo<N>) -> N
+    ensures { result ≡ end_in size_info }
 {
     match size_info {
         SizeInfo::Sized { size } => size,
@@ -50,58 +53,60 @@ fn end_of(size_info: SizeInfo<u64>) -> u64
     }
 }
 
-// Where a member lands behind an end. Of members that compose nothing wraps.
-fn land(end: u64, repr_packed: u64, field: DstLayout<u64>) -> Spot
-    ensures { Lands 64 repr_packed end (layout_of field) result.place result.gap result.end }
+// Where a member lands behind an end. Of members that compose nothing wraps, and no low bits are other than the number.
+fn land<W: Steps>(end: u64, repr_packed: u64, field: DstLayout<W>) -> Spot<W>
+    ensures { Lands W.bits repr_packed end (W.layout field) (W.number result.place) (W.number result.gap) result.end }
 {
     let size_info = field.size_info;
-    match layout::round_up(end, packed_align(field.align, repr_packed)) {
+    match layout::round_up(end, packed_align(field.align.wide(), repr_packed)) {
         Ok(place) => Spot {
-            place,
-            gap: place - end,
-            end: std::num::wrapping_add_u64(place, end_of(size_info)),
+            place: W::low(place),
+            gap: W::low(place - end),
+            end: std::num::wrapping_add_u64(place, end_of(size_info).wide()),
         },
         Err(_) => Spot {
-            place: end,
-            gap: 0,
+            place: W::low(end),
+            gap: W::low(0),
             end,
         },
     }
 }
 
 // The same of its record.
-fn land_record(end: u64, repr_packed: u64, member: &[u8]) -> Spot
-    ensures { (m : Layout) → decode_for 64 member.now ≡ answered m
-        → Lands 64 repr_packed end m result.place result.gap result.end }
+fn land_record<W: Steps>(end: u64, repr_packed: u64, member: &[u8]) -> Spot<W>
+    ensures { (m : Layout) → decode_for W.bits member.now ≡ answered m
+        → Lands W.bits repr_packed end m (W.number result.place) (W.number result.gap) result.end }
 {
-    match record::decode(member) {
+    match W::decode(member) {
         Ok(field) => land(end, repr_packed, field),
         Err(_) => Spot {
-            place: end,
-            gap: 0,
+            place: W::low(end),
+            gap: W::low(0),
             end,
         },
     }
 }
 
 // Writes the place of each member and the gap before it, of members that compose.
-fn write_places(
-    repr_align: u64,
-    repr_packed: u64,
+fn write_places<W: Steps>(
+    repr_align: W,
+    repr_packed: W,
     members: &[u8],
-    places: &mut [u64],
-    gaps: &mut [u64],
+    places: &mut [W],
+    gaps: &mut [W],
 )
-    requires { Composes 64 repr_align repr_packed (listed 64 members.now)
+    requires { Composes W.bits (W.number repr_align) (W.number repr_packed) (listed W.bits members.now)
         × ((length places.old ≡ length members.now / 48) × (length gaps.old ≡ length members.now / 48)) }
-    ensures places_after { places.new ≡ places_of repr_packed (empty_layout repr_align) (listed 64 members.now) }
-    ensures gaps_after { gaps.new ≡ gaps_of repr_packed (empty_layout repr_align) (listed 64 members.now) }
+    ensures places_after { W.numbers places.new
+        ≡ places_of (W.number repr_packed) (empty_layout (W.number repr_align)) (listed W.bits members.now) }
+    ensures gaps_after { W.numbers gaps.new
+        ≡ gaps_of (W.number repr_packed) (empty_layout (W.number repr_align)) (listed W.bits members.now) }
 {
     let count = members.len() / RECORD_BYTES;
     let mut end = 0;
     for i in 0..count {
         let at = i * RECORD_BYTES;
-        let spot = land_record(end, repr_packed, &members[at..at + RECORD_BYTES]);
+        let spot = land_record(end, repr_packed.wide(), &members[at..at + RECORD_BYTES]);
         places[i] = spot.place;
         gaps[i] = spot.gap;
         end = spot.end;
@@ -120,20 +125,23 @@ pub fn both_are(places: usize, gaps: usize, count: usize) -> bool
 }
 
 // The composition of whole records, of which slices of the right lengths are lent.
-fn compose_and_write(
-    repr_align: u64,
-    repr_packed: u64,
+fn compose_and_write<W: Lists>(
+    repr_align: W,
+    repr_packed: W,
     members: &[u8],
-    places: &mut [u64],
-    gaps: &mut [u64],
-) -> Result<DstLayout<u64>, RefusedAt<u64>>
+    places: &mut [W],
+    gaps: &mut [W],
+) -> Result<DstLayout<W>, RefusedAt<u64>>
     requires { (length members.now % 48 ≡ 0)
         × ((length places.old ≡ length members.now / 48) × (length gaps.old ≡ length members.now / 48)) }
-    ensures result_value { compose_says result ≡ compose_struct 64 ported repr_align repr_packed (listed 64 members.now) }
-    ensures places_after { places.new ≡ written (compose_says result)
-        (places_of repr_packed (empty_layout repr_align) (listed 64 members.now)) places.old }
-    ensures gaps_after { gaps.new ≡ written (compose_says result)
-        (gaps_of repr_packed (empty_layout repr_align) (listed 64 members.now)) gaps.old }
+    ensures result_value { composed_says W.layout result
+        ≡ compose_struct W.bits ported (W.number repr_align) (W.number repr_packed) (listed W.bits members.now) }
+    ensures places_after { W.numbers places.new ≡ written (composed_says W.layout result)
+        (places_of (W.number repr_packed) (empty_layout (W.number repr_align)) (listed W.bits members.now))
+        (W.numbers places.old) }
+    ensures gaps_after { W.numbers gaps.new ≡ written (composed_says W.layout result)
+        (gaps_of (W.number repr_packed) (empty_layout (W.number repr_align)) (listed W.bits members.now))
+        (W.numbers gaps.old) }
 {
     let l = compose::for_repr_c_struct(repr_align, repr_packed, members)?;
     write_places(repr_align, repr_packed, members, places, gaps);
@@ -142,20 +150,23 @@ fn compose_and_write(
 
 // The layout of a repr(C) struct with these members, and where each of them landed: its place and the gap before it, in two lent
 // slices, one number a member. On a refusal nothing is written.
-pub fn for_repr_c_struct_places(
-    repr_align: u64,
-    repr_packed: u64,
+pub fn for_repr_c_struct_places<W: Lists>(
+    repr_align: W,
+    repr_packed: W,
     members: &[u8],
-    places: &mut [u64],
-    gaps: &mut [u64],
-) -> Result<DstLayout<u64>, RefusedAt<u64>>
-    ensures answer { compose_says result ≡ places_for 64 repr_align repr_packed members.now
-        (length places.old) (length gaps.old) }
-    ensures places { places.new ≡ written (compose_says result)
-        (places_of repr_packed (empty_layout repr_align) (listed 64 members.now)) places.old }
-    ensures gaps { gaps.new ≡ written (compose_says result)
-        (gaps_of repr_packed (empty_layout repr_align) (listed 64 members.now)) gaps.old }
-    ensures meaning { ListPlacesMean 64 repr_packed members.now places.new gaps.new (compose_says result) }
+    places: &mut [W],
+    gaps: &mut [W],
+) -> Result<DstLayout<W>, RefusedAt<u64>>
+    ensures answer { composed_says W.layout result ≡ places_for W.bits (W.number repr_align) (W.number repr_packed)
+        members.now (length places.old) (length gaps.old) }
+    ensures places { W.numbers places.new ≡ written (composed_says W.layout result)
+        (places_of (W.number repr_packed) (empty_layout (W.number repr_align)) (listed W.bits members.now))
+        (W.numbers places.old) }
+    ensures gaps { W.numbers gaps.new ≡ written (composed_says W.layout result)
+        (gaps_of (W.number repr_packed) (empty_layout (W.number repr_align)) (listed W.bits members.now))
+        (W.numbers gaps.old) }
+    ensures meaning { ListPlacesMean W.bits (W.number repr_packed) members.now (W.numbers places.new)
+        (W.numbers gaps.new) (composed_says W.layout result) }
 {
     if members.len() % RECORD_BYTES == 0 {
         if both_are(places.len(), gaps.len(), members.len() / RECORD_BYTES) {

@@ -1,11 +1,12 @@
-// The member step and final padding at 32 bits, by those at 64. Each is a function of its own, and no instance of a generic
-// one: it is the widening, a call and the narrowing, which at 64 bits there is nothing of.
+// The member step, rounding up and final padding at 32 bits, by those at 64. Each is a function of its own, and no instance of a
+// generic one: it widens, calls that of 64 bits, and narrows or refuses what comes back, and at 64 bits there would be none of
+// these steps.
 #![tactic(auto)]
 
 ghost use Rattle.std.specs.Prelude.{◌≡◌};
-ghost use Rattle.util_defs.specs.Width.{M};
 ghost use Rattle.util_defs.specs.Refusal.{Meets};
-ghost use Rattle.layout_defs.specs.Extend.{extend_causes, extend_for, Extended};
+ghost use Rattle.util.specs.View.{number_says};
+ghost use Rattle.layout_defs.specs.Extend.{extend_causes, extend_for, Extended, round_up_causes, round_up_for, LeastPlace};
 ghost use Rattle.layout.specs.View.{info_of, layout_of, layout_says};
 ghost use Rattle.padding_defs.specs.Pad.{pad_causes, pad_for, Padded};
 ghost use Rattle.widths_layouts_defs.specs.Within.{start_of, info_within, placed_within, step_within, closed_within, pad_within};
@@ -119,4 +120,17 @@ pub fn pad_to_align(layout: DstLayout<u32>) -> Result<DstLayout<u32>, Refusal>
     ensures meaning { Meets (pad_causes 32 (layout_of layout)) (Padded 32 (layout_of layout)) (layout_says result) }
 {
     layouts32::low_answer(pad_within(layouts32::wide_layout(layout), numbers32::MAX))
+}
+
+// The least multiple of align that is at least len.
+pub fn round_up(len: u32, align: u32) -> Result<u32, Refusal>
+    ensures answer { number_says result ≡ round_up_for 32 len align }
+    ensures meaning { Meets (round_up_causes 32 len align) (LeastPlace len align) (number_says result) }
+{
+    let rounded = layout::round_up(len as u64, align as u64)?;
+    if rounded <= numbers32::MAX {
+        Ok(numbers32::low_word(rounded))
+    } else {
+        Err(Refusal::RoundingPassesMax)
+    }
 }

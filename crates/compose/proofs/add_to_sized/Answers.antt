@@ -31,7 +31,7 @@ returns-in-SliceDst c = let s = c.args.members.now in
 pub returns-in_err-next : goal.returns-in_err-next
 returns-in_err-next c = let s = c.args.members.now in
     let m = mapped_err c.sized_step.result _ _ (λ e. record { refusal = e; place = c.loop-i.i-counter }) (λ e q. search rules) c.map_err.ensures.cases c.in_err-next.was in
-    composed_on c.from_residual.result _ c.from_residual.ensures.1
+    composed_on _ c.from_residual.result _ c.from_residual.ensures.1
     (ap (λ k. refused_at (number_of k.refusal) k.place) m.2 ∙ sym (turn_off 64 (member_step 64 c.args.heed c.args.repr_packed) (length s / 48) c.loop-i.i-counter s (sized_of c.loop-i.own) c.loop-i-test.true (told_by layout_says c.sized_step.ensures m.1)) ∙ c.loop-i.invariant.1)
 
 pub loop-i-preserved : goal.loop-i-preserved

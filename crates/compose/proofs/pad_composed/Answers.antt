@@ -8,8 +8,8 @@ use Rattle.compose.proofs.Told.{placed_on}
 use Rattle.compose.proofs.pad_composed.Goals as goal
 
 pub returns : goal.returns
-returns c =
+returns g c =
     let r = c.pad_to_align.result in
     let n = c.args.count in
-    placed_on r _ n (mapped r _ _ (λ e. record { refusal = e; place = n }) (λ e k q. search rules) c.map_err.ensures.cases)
-    ∙ ap (λ (o : Outcome Layout). and_then o n composed) c.pad_to_align.ensures.answer
+    placed_on _ r _ n (mapped r _ _ (λ e. record { refusal = e; place = n }) (λ e k q. search rules) c.map_err.ensures.cases)
+    ∙ ap (λ (o : Outcome Layout). and_then o n composed) c.pad_to_align.ensures

@@ -1,23 +1,21 @@
 -- `front::which_serves` meets its contract. Assumes nothing.
 use mathlib.Core.Path.{refl}
-use lib.Dec.{lit<}
-use native.Mathlib.Omega.{arith}
 use Rattle.util_defs.proofs.Tables.{told_by}
-use Rattle.cast.specs.View.{cast_says}
-use Rattle.layout.specs.View.{layout_of}
+use Rattle.util.specs.View.{says}
+use Rattle.front.specs.View.{granted_at}
 use Rattle.front_defs.proofs.Fronts.{serves_as}
 use Rattle.front.proofs.which_serves.Goals as goal
 
 pub returns-in-Ok : goal.returns-in-Ok
-returns-in-Ok c = let told_here = serves_as 64 (layout_of c.args.layout) c.args.map_addr c.args.map_len c.args.spare_addr c.args.spare_len (omega arith) (lit< tt) _ _
-    (told_by cast_says c.validate_cast_and_convert_metadata.ensures.answer c.in-Ok.is) refl in record { answer = told_here.0; meaning = told_here.1 }
+returns-in-Ok g c = let told_here = serves_as g.W.Steps.bits (g.W.Steps.layout c.args.layout) (g.W.Steps.number c.args.map_addr) c.args.map_len (g.W.Steps.number c.args.spare_addr) c.args.spare_len c.cast_bytes.ensures.fits g.met.W.Casts.some _ _
+    (told_by (says (granted_at g.W.Steps.number)) c.cast_bytes.ensures.answer c.in-Ok.is) refl in record { answer = told_here.0; meaning = told_here.1; fits = c.cast_bytes.ensures.fits }
 
-pub returns-in-Ok-validate_cast_and_convert_metadata : goal.returns-in-Ok-validate_cast_and_convert_metadata
-returns-in-Ok-validate_cast_and_convert_metadata c = let told_here = serves_as 64 (layout_of c.args.layout) c.args.map_addr c.args.map_len c.args.spare_addr c.args.spare_len (omega arith) (lit< tt) _ _
-    (told_by cast_says c.validate_cast_and_convert_metadata.ensures.answer c.in-Err.is)
-    (told_by cast_says c.validate_cast_and_convert_metadata-in-Err.ensures.answer c.in-Ok-validate_cast_and_convert_metadata.is) in record { answer = told_here.0; meaning = told_here.1 }
+pub returns-in-Ok-cast_bytes : goal.returns-in-Ok-cast_bytes
+returns-in-Ok-cast_bytes g c = let told_here = serves_as g.W.Steps.bits (g.W.Steps.layout c.args.layout) (g.W.Steps.number c.args.map_addr) c.args.map_len (g.W.Steps.number c.args.spare_addr) c.args.spare_len c.cast_bytes.ensures.fits g.met.W.Casts.some _ _
+    (told_by (says (granted_at g.W.Steps.number)) c.cast_bytes.ensures.answer c.in-Err.is)
+    (told_by (says (granted_at g.W.Steps.number)) c.cast_bytes-in-Err.ensures.answer c.in-Ok-cast_bytes.is) in record { answer = told_here.0; meaning = told_here.1; fits = c.cast_bytes.ensures.fits }
 
-pub returns-in-Err-validate_cast_and_convert_metadata : goal.returns-in-Err-validate_cast_and_convert_metadata
-returns-in-Err-validate_cast_and_convert_metadata c = let told_here = serves_as 64 (layout_of c.args.layout) c.args.map_addr c.args.map_len c.args.spare_addr c.args.spare_len (omega arith) (lit< tt) _ _
-    (told_by cast_says c.validate_cast_and_convert_metadata.ensures.answer c.in-Err.is)
-    (told_by cast_says c.validate_cast_and_convert_metadata-in-Err.ensures.answer c.in-Err-validate_cast_and_convert_metadata.is) in record { answer = told_here.0; meaning = told_here.1 }
+pub returns-in-Err-cast_bytes : goal.returns-in-Err-cast_bytes
+returns-in-Err-cast_bytes g c = let told_here = serves_as g.W.Steps.bits (g.W.Steps.layout c.args.layout) (g.W.Steps.number c.args.map_addr) c.args.map_len (g.W.Steps.number c.args.spare_addr) c.args.spare_len c.cast_bytes.ensures.fits g.met.W.Casts.some _ _
+    (told_by (says (granted_at g.W.Steps.number)) c.cast_bytes.ensures.answer c.in-Err.is)
+    (told_by (says (granted_at g.W.Steps.number)) c.cast_bytes-in-Err.ensures.answer c.in-Err-cast_bytes.is) in record { answer = told_here.0; meaning = told_here.1; fits = c.cast_bytes.ensures.fits }

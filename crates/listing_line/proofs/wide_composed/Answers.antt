@@ -9,4 +9,4 @@ pub returns : goal.returns
 returns c = ap composed c.wide_layout.ensures.0 ∙ sym (ap compose_says c.in_ok-l.was)
 
 pub returns-in_err-l : goal.returns-in_err-l
-returns-in_err-l c = composed_on c.from_residual.result _ c.from_residual.ensures.1 (sym (ap compose_says c.in_err-l.was))
+returns-in_err-l c = composed_on _ c.from_residual.result _ c.from_residual.ensures.1 (sym (ap compose_says c.in_err-l.was))

@@ -7,6 +7,6 @@ use Rattle.compose_defs.proofs.Written.{Going}
 use Rattle.places.proofs.write_places.Given as goal
 
 abbrev pub invariant-loop-i : goal.invariant-loop-i
-invariant-loop-i l =
+invariant-loop-i g l =
     (length l.places ≡ length l.initial.places) × ((length l.gaps ≡ length l.initial.gaps)
-    × Going 64 l.repr_packed l.count l.i l.members (places_of l.repr_packed (empty_layout l.repr_align) (members_of 64 l.count l.members)) (gaps_of l.repr_packed (empty_layout l.repr_align) (members_of 64 l.count l.members)) l.end l.places l.gaps)
+    × Going g.W.Steps.bits (g.W.Steps.number l.repr_packed) l.count l.i l.members (places_of (g.W.Steps.number l.repr_packed) (empty_layout (g.W.Steps.number l.fn.repr_align)) (members_of g.W.Steps.bits l.count l.members)) (gaps_of (g.W.Steps.number l.repr_packed) (empty_layout (g.W.Steps.number l.fn.repr_align)) (members_of g.W.Steps.bits l.count l.members)) l.end (g.W.Steps.numbers l.places) (g.W.Steps.numbers l.gaps))

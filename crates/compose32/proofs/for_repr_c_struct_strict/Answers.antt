@@ -1,9 +1,0 @@
--- `compose32::for_repr_c_struct_strict` meets its contract. Assumes nothing.
-use Rattle.compose_defs.proofs.Strict.{list_means}
-use Rattle.compose32.proofs.for_repr_c_struct_strict.Goals as goal
-
-pub returns-clause-answer : goal.returns-clause-answer
-returns-clause-answer c = c.struct_of_list.ensures
-
-pub returns-clause-meaning : goal.returns-clause-meaning
-returns-clause-meaning c = list_means 32 c.args.repr_align c.args.repr_packed c.args.members.now c.struct_of_list.ensures
