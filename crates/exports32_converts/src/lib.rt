@@ -7,7 +7,7 @@ ghost use Rattle.std.specs.Prelude.{◌≡◌};
 ghost use Rattle.trailing_defs.specs.Sequence.{same_sequence};
 ghost use Rattle.cast_defs.specs.Cast.{cast_for};
 ghost use Rattle.cast_defs.specs.Exact.{exact_for};
-ghost use Rattle.cast.specs.View.{side_of, cast_says};
+ghost use Rattle.cast.specs.View.{cast_says};
 ghost use Rattle.shift_defs.specs.Mode.{comparison_of};
 ghost use Rattle.shift.specs.View.{mode_of};
 ghost use Rattle.convert_defs.specs.Convert.{compute_for, metadata_for};
@@ -17,10 +17,11 @@ ghost use Rattle.exports32_layouts.specs.Layouts.{with_layout32};
 ghost use Rattle.exports32_converts.specs.Converts.{cast_out32, params_given32, params_numbers32, no_params32};
 ghost use Rattle.exports32_converts.specs.Converts.{params_out32};
 
-use cast::{CastType, Granted};
+use cast::Granted;
 use convert::CastParamsInner;
 use exports32_layouts::Layout32;
 use exports32_numbers::Number32;
+use layout::DstLayout;
 use shift::Mode;
 use util::Refusal;
 
@@ -52,45 +53,49 @@ pub struct CastParamsOut32 {
 }
 
 // A granted cast, or the refusal.
-#[inline(always)]
-pub fn cast_out(a: Result<Granted<u32>, Refusal>) -> CastOut32
-    ensures { result ≡ cast_out32 (cast_says a) }
-{
-    match a {
-        Ok(Granted { elems, split_at }) => CastOut32 {
-            refusal: 0,
-            count: elems,
-            split: split_at,
-        },
-        Err(refusal) => CastOut32 {
-            refusal: refusal.number(),
-            count: 0,
-            split: 0,
-        },
+impl From<Result<Granted<u32>, Refusal>> for CastOut32 {
+    ghost from_gives = { λ a out. out ≡ cast_out32 (cast_says a) };
+
+    #[inline(always)]
+    fn from(a: Result<Granted<u32>, Refusal>) -> CastOut32 {
+        match a {
+            Ok(Granted { elems, split_at }) => CastOut32 {
+                refusal: 0,
+                count: elems,
+                split: split_at,
+            },
+            Err(refusal) => CastOut32 {
+                refusal: refusal.number(),
+                count: 0,
+                split: 0,
+            },
+        }
     }
 }
 
 // The parameters of a conversion, by their kind.
-fn params_given(params: CastParamsInner<u32>) -> CastParams32
-    ensures { result ≡ params_numbers32 (params_in params) }
-{
-    match params {
-        CastParamsInner::UnsizedToUnsized {
-            offset_delta_elems,
-            elem_multiple,
-        } => CastParams32 {
-            kind: 2,
-            offset_delta_elems,
-            elem_multiple,
-            dst_meta: 0,
-        },
-        CastParamsInner::SizedToUnsized { dst_meta } => CastParams32 {
-            kind: 1,
-            offset_delta_elems: 0,
-            elem_multiple: 0,
-            dst_meta,
-        },
-        CastParamsInner::SizedToSized => no_params(),
+impl From<CastParamsInner<u32>> for CastParams32 {
+    ghost from_gives = { λ params given. given ≡ params_numbers32 (params_in params) };
+
+    fn from(params: CastParamsInner<u32>) -> CastParams32 {
+        match params {
+            CastParamsInner::UnsizedToUnsized {
+                offset_delta_elems,
+                elem_multiple,
+            } => CastParams32 {
+                kind: 2,
+                offset_delta_elems,
+                elem_multiple,
+                dst_meta: 0,
+            },
+            CastParamsInner::SizedToUnsized { dst_meta } => CastParams32 {
+                kind: 1,
+                offset_delta_elems: 0,
+                elem_multiple: 0,
+                dst_meta,
+            },
+            CastParamsInner::SizedToSized => no_params(),
+        }
     }
 }
 
@@ -107,46 +112,41 @@ fn no_params() -> CastParams32
 }
 
 // The parameters of a conversion, or the refusal.
-#[inline(always)]
-pub fn params_out(a: Result<CastParamsInner<u32>, Refusal>) -> CastParamsOut32
-    ensures { result ≡ params_out32 (compute_says a) }
-{
-    match a {
-        Ok(params) => CastParamsOut32 {
-            refusal: 0,
-            params: params_given(params),
-        },
-        Err(refusal) => CastParamsOut32 {
-            refusal: refusal.number(),
-            params: no_params(),
-        },
+impl From<Result<CastParamsInner<u32>, Refusal>> for CastParamsOut32 {
+    ghost from_gives = { λ a out. out ≡ params_out32 (compute_says a) };
+
+    #[inline(always)]
+    fn from(a: Result<CastParamsInner<u32>, Refusal>) -> CastParamsOut32 {
+        match a {
+            Ok(params) => CastParamsOut32 {
+                refusal: 0,
+                params: CastParams32::from(params),
+            },
+            Err(refusal) => CastParamsOut32 {
+                refusal: refusal.number(),
+                params: no_params(),
+            },
+        }
     }
 }
 
-fn params_in(q: CastParams32) -> CastParamsInner<u32>
-    ensures { params_in result ≡ params_given32 q }
-{
-    if q.kind == 0 {
-        return CastParamsInner::SizedToSized;
-    }
-    if q.kind == 1 {
-        return CastParamsInner::SizedToUnsized {
-            dst_meta: q.dst_meta,
-        };
-    }
-    CastParamsInner::UnsizedToUnsized {
-        offset_delta_elems: q.offset_delta_elems,
-        elem_multiple: q.elem_multiple,
-    }
-}
+// Parameters that were handed over.
+impl From<CastParams32> for CastParamsInner<u32> {
+    ghost from_gives = { λ q params. params_in params ≡ params_given32 q };
 
-fn cast_type(suffix: bool) -> CastType
-    ensures { side_of result ≡ side_given suffix }
-{
-    if suffix {
-        CastType::Suffix
-    } else {
-        CastType::Prefix
+    fn from(q: CastParams32) -> CastParamsInner<u32> {
+        if q.kind == 0 {
+            return CastParamsInner::SizedToSized;
+        }
+        if q.kind == 1 {
+            return CastParamsInner::SizedToUnsized {
+                dst_meta: q.dst_meta,
+            };
+        }
+        CastParamsInner::UnsizedToUnsized {
+            offset_delta_elems: q.offset_delta_elems,
+            elem_multiple: q.elem_multiple,
+        }
     }
 }
 
@@ -160,11 +160,10 @@ pub extern "C" fn lukaripe32_validate_cast_and_convert_metadata(
 ) -> CastOut32
     ensures { result ≡ cast_out32 (with_layout32 32 layout (λ l. cast_for 32 l (side_given suffix) addr bytes_len)) }
 {
-    let side = cast_type(suffix);
-    match exports32_layouts::layout_in(layout) {
-        Ok(l) => cast_out(casts32::validate_cast_and_convert_metadata(l, addr, bytes_len, side)),
-        Err(refusal) => cast_out(Err(refusal)),
-    }
+    let side = exports_converts::cast_type(suffix);
+    DstLayout::try_from(layout)
+        .and_then(|l| casts32::validate_cast_and_convert_metadata(l, addr, bytes_len, side))
+        .into()
 }
 
 // The greatest count of exactly this size.
@@ -172,10 +171,9 @@ pub extern "C" fn lukaripe32_validate_cast_and_convert_metadata(
 pub extern "C" fn lukaripe32_metadata_for_exact_size(layout: Layout32, size: u32) -> Number32
     ensures { result ≡ number_out32 (with_layout32 32 layout (λ l. exact_for 32 l size)) }
 {
-    match exports32_layouts::layout_in(layout) {
-        Ok(l) => exports32_numbers::number_out(casts32::metadata_for_exact_size(l, size)),
-        Err(refusal) => exports32_numbers::number_out(Err(refusal)),
-    }
+    DstLayout::try_from(layout)
+        .and_then(|l| casts32::metadata_for_exact_size(l, size))
+        .into()
 }
 
 // The conversion in a mode. An export has its mode as a constant, which the compiler then drops.
@@ -183,13 +181,9 @@ pub fn compute_out(src: Layout32, dst: Layout32, mode: Mode) -> CastParamsOut32
     ensures { result ≡ params_out32 (with_layout32 32 src (λ l. with_layout32 32 dst
         (λ m. compute_for 32 (comparison_of 32 (mode_of mode)) l m))) }
 {
-    match exports32_layouts::layout_in(src) {
-        Ok(l) => match exports32_layouts::layout_in(dst) {
-            Ok(m) => params_out(converts32::try_compute(l, m, mode)),
-            Err(refusal) => params_out(Err(refusal)),
-        },
-        Err(refusal) => params_out(Err(refusal)),
-    }
+    DstLayout::try_from(src)
+        .and_then(|l| DstLayout::try_from(dst).and_then(|m| converts32::try_compute(l, m, mode)))
+        .into()
 }
 
 // How counts of one layout are converted to another.
@@ -206,5 +200,5 @@ pub extern "C" fn lukaripe32_try_compute(src: Layout32, dst: Layout32) -> CastPa
 pub extern "C" fn lukaripe32_cast_metadata(params: CastParams32, src_meta: u32) -> Number32
     ensures { result ≡ number_out32 (metadata_for 32 (params_given32 params) src_meta) }
 {
-    exports32_numbers::number_out(converts32::cast_metadata(params_in(params), src_meta))
+    Number32::from(converts32::cast_metadata(CastParamsInner::from(params), src_meta))
 }

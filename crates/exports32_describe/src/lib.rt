@@ -18,7 +18,7 @@ use exports32_lists::ComposedOut32;
 pub extern "C" fn lukaripe32_read(description: &[u8]) -> ComposedOut32
     ensures { result ≡ composed_out32 (as_composed (described_for 32 target32 description.now)) }
 {
-    exports32_lists::composed_out(describe32::read(description))
+    ComposedOut32::from(describe32::read(description))
 }
 
 // The description with each member count in two bytes, into the front of out.
@@ -29,7 +29,7 @@ pub extern "C" fn lukaripe32_lengthen_counts(description: &[u8], out: &mut [u8])
         out.old }
 {
     let answer = rewrite::lengthen_counts(true, description, out);
-    exports_rewrite::rewritten_out(answer)
+    MovedOut::from(answer)
 }
 
 // The description with each member count in one byte.
@@ -40,5 +40,5 @@ pub extern "C" fn lukaripe32_shorten_counts(description: &[u8], out: &mut [u8]) 
         out.old }
 {
     let answer = rewrite::shorten_counts(true, description, out);
-    exports_rewrite::rewritten_out(answer)
+    MovedOut::from(answer)
 }

@@ -8,16 +8,14 @@ ghost use Rattle.describe_defs.specs.Elements.{array_for, slice_of_for};
 ghost use Rattle.exports32_layouts.specs.Layouts.{layout_out32, with_layout32};
 
 use exports32_layouts::{Layout32, LayoutOut32};
+use layout::DstLayout;
 
 // The layout of an array of count elements.
 #[unsafe(no_mangle)]
 pub extern "C" fn lukaripe32_for_array(elem: Layout32, count: u32) -> LayoutOut32
     ensures { result ≡ layout_out32 (with_layout32 32 elem (λ l. array_for 32 l count)) }
 {
-    match exports32_layouts::layout_in(elem) {
-        Ok(l) => exports32_layouts::layout_out(elements32::for_array(l, count)),
-        Err(refusal) => exports32_layouts::layout_out(Err(refusal)),
-    }
+    LayoutOut32::from(DstLayout::try_from(elem).and_then(|l| elements32::for_array(l, count)))
 }
 
 // The layout of a slice of such elements.
@@ -25,8 +23,5 @@ pub extern "C" fn lukaripe32_for_array(elem: Layout32, count: u32) -> LayoutOut3
 pub extern "C" fn lukaripe32_for_slice_of(elem: Layout32) -> LayoutOut32
     ensures { result ≡ layout_out32 (with_layout32 32 elem (λ l. slice_of_for 32 l)) }
 {
-    match exports32_layouts::layout_in(elem) {
-        Ok(l) => exports32_layouts::layout_out(elements32::for_slice_of(l)),
-        Err(cause) => exports32_layouts::layout_out(Err(cause)),
-    }
+    LayoutOut32::from(DstLayout::try_from(elem).and_then(elements32::for_slice_of))
 }

@@ -12,6 +12,7 @@ ghost use Rattle.exports32_front.specs.Serving.{serving_out32, serving_out_of32}
 
 use exports32_layouts::Layout32;
 use front::Serving;
+use layout::DstLayout;
 
 // C has it by value and by name, so that it is no enum and has no type parameter.
 #[repr(C)]
@@ -24,39 +25,41 @@ pub struct ServingOut32 {
     pub split: u32,
 }
 
-#[inline(always)]
-fn serving_out(a: Serving<u32>) -> ServingOut32
-    ensures { result ≡ serving_out32 (serving_says a) }
-{
-    match a {
-        Serving::Map { elems, split_at } => ServingOut32 {
-            map_refusal: 0,
-            spare_refusal: 0,
-            serves: 1,
-            count: elems,
-            split: split_at,
-        },
-        Serving::Spare {
-            map_refusal,
-            elems,
-            split_at,
-        } => ServingOut32 {
-            map_refusal: map_refusal.number(),
-            spare_refusal: 0,
-            serves: 2,
-            count: elems,
-            split: split_at,
-        },
-        Serving::Neither {
-            map_refusal,
-            spare_refusal,
-        } => ServingOut32 {
-            map_refusal: map_refusal.number(),
-            spare_refusal: spare_refusal.number(),
-            serves: 0,
-            count: 0,
-            split: 0,
-        },
+impl From<Serving<u32>> for ServingOut32 {
+    ghost from_gives = { λ a out. out ≡ serving_out32 (serving_says a) };
+
+    #[inline(always)]
+    fn from(a: Serving<u32>) -> ServingOut32 {
+        match a {
+            Serving::Map { elems, split_at } => ServingOut32 {
+                map_refusal: 0,
+                spare_refusal: 0,
+                serves: 1,
+                count: elems,
+                split: split_at,
+            },
+            Serving::Spare {
+                map_refusal,
+                elems,
+                split_at,
+            } => ServingOut32 {
+                map_refusal: map_refusal.number(),
+                spare_refusal: 0,
+                serves: 2,
+                count: elems,
+                split: split_at,
+            },
+            Serving::Neither {
+                map_refusal,
+                spare_refusal,
+            } => ServingOut32 {
+                map_refusal: map_refusal.number(),
+                spare_refusal: spare_refusal.number(),
+                serves: 0,
+                count: 0,
+                split: 0,
+            },
+        }
     }
 }
 
@@ -72,11 +75,12 @@ pub extern "C" fn lukaripe32_which_serves(
     ensures { result ≡ serving_out_of32 (with_layout32 32 layout (λ l.
         answered (serving_for 32 l map_addr map_len spare_addr spare_len))) }
 {
-    match exports32_layouts::layout_in(layout) {
-        Ok(l) => { serving_out(front32::which_serves(l, map_addr, map_len, spare_addr, spare_len)) }
-        Err(refusal) => serving_out(Serving::Neither {
+    ServingOut32::from(match DstLayout::try_from(layout) {
+        Ok(l) => front::which_serves(l, map_addr, map_len, spare_addr, spare_len),
+        // Serving is no Result by which to hand it on: it refuses both buffers.
+        Err(refusal) => Serving::Neither {
             map_refusal: refusal,
             spare_refusal: refusal,
-        }),
-    }
+        },
+    })
 }

@@ -11,6 +11,7 @@ ghost use Rattle.exports32_full.specs.Forms.{form_out32};
 
 use exports32_numbers::{Number32, Trailing32};
 use full::NormalForm;
+use trailing::TrailingSliceLayout;
 use util::Refusal;
 
 // A normal form has no offset and no alignment. C has it by value and by name, so that it is no Result and has no type
@@ -25,25 +26,27 @@ pub struct NormalFormOut32 {
 }
 
 // A normal form, or the refusal.
-fn form_out(a: Result<NormalForm<u32>, Refusal>) -> NormalFormOut32
-    ensures { result ≡ form_out32 (form_says a) }
-{
-    match a {
-        Ok(form) => {
-            let word = form.size_rounding_align_and_phase;
-            NormalFormOut32 {
-                refusal: 0,
-                size_base: form.size_base,
-                elem_size: form.elem_size,
-                word: word.0,
+impl From<Result<NormalForm<u32>, Refusal>> for NormalFormOut32 {
+    ghost from_gives = { λ a out. out ≡ form_out32 (form_says a) };
+
+    fn from(a: Result<NormalForm<u32>, Refusal>) -> NormalFormOut32 {
+        match a {
+            Ok(form) => {
+                let word = form.size_rounding_align_and_phase;
+                NormalFormOut32 {
+                    refusal: 0,
+                    size_base: form.size_base,
+                    elem_size: form.elem_size,
+                    word: word.0,
+                }
             }
+            Err(refusal) => NormalFormOut32 {
+                refusal: refusal.number(),
+                size_base: 0,
+                elem_size: 0,
+                word: 0,
+            },
         }
-        Err(refusal) => NormalFormOut32 {
-            refusal: refusal.number(),
-            size_base: 0,
-            elem_size: 0,
-            word: 0,
-        },
     }
 }
 
@@ -52,9 +55,9 @@ fn form_out(a: Result<NormalForm<u32>, Refusal>) -> NormalFormOut32
 pub extern "C" fn lukaripe32_sizes_agree(first: Trailing32, second: Trailing32) -> Number32
     ensures { result ≡ decision_out32 (agree_for 32 (trailing_in32 first) (trailing_in32 second)) }
 {
-    exports32_numbers::decision_out(sequence32::sizes_agree(
-        exports32_numbers::trailing_in(first),
-        exports32_numbers::trailing_in(second),
+    Number32::from(sequence32::sizes_agree(
+        TrailingSliceLayout::from(first),
+        TrailingSliceLayout::from(second),
     ))
 }
 
@@ -63,5 +66,5 @@ pub extern "C" fn lukaripe32_sizes_agree(first: Trailing32, second: Trailing32) 
 pub extern "C" fn lukaripe32_normal_form(layout: Trailing32) -> NormalFormOut32
     ensures { result ≡ form_out32 (form_for 32 (trailing_in32 layout)) }
 {
-    form_out(sequence32::normal_form(exports32_numbers::trailing_in(layout)))
+    NormalFormOut32::from(sequence32::normal_form(TrailingSliceLayout::from(layout)))
 }

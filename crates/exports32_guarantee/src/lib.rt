@@ -5,8 +5,8 @@
 
 ghost use Rattle.guarantee.specs.View.{answers_in};
 ghost use Rattle.std.specs.Prelude.{◌≡◌};
-ghost use Rattle.util.specs.View.{number_of};
-ghost use Rattle.util_defs.specs.Refusal.{answered, refused};
+ghost use Rattle.util.specs.View.{says};
+ghost use Rattle.util_defs.specs.Refusal.{answered};
 ghost use Rattle.trailing_defs.specs.Sequence.{same_sequence};
 ghost use Rattle.shift_defs.specs.Mode.{comparison_of};
 ghost use Rattle.shift.specs.View.{mode_of};
@@ -18,6 +18,7 @@ use exports32_converts::{CastOut32, CastParamsOut32};
 use exports32_layouts::Layout32;
 use exports32_numbers::Number32;
 use guarantee::Carried;
+use layout::DstLayout;
 use shift::Mode;
 use util::Refusal;
 
@@ -31,36 +32,31 @@ pub struct CarriedOut32 {
     pub second: CastOut32,
 }
 
-// What the four calls of a conversion and of two casts gave.
-fn carried_out(r: Carried<u32>) -> CarriedOut32
-    ensures { result ≡ carried_out32 (answered (answers_in r)) }
-{
-    let computed = r.computed;
-    let count = r.count;
-    let first = r.first;
-    let second = r.second;
-    CarriedOut32 {
-        computed: exports32_converts::params_out(computed),
-        count: exports32_numbers::number_out(count),
-        first: exports32_converts::cast_out(first),
-        second: exports32_converts::cast_out(second),
+// What the four calls of a conversion and of two casts gave; a layout that is refused refuses all four.
+impl From<Result<Carried<u32>, Refusal>> for CarriedOut32 {
+    ghost from_gives = { λ a out. out ≡ carried_out32 (says answers_in a) };
+
+    fn from(a: Result<Carried<u32>, Refusal>) -> CarriedOut32 {
+        let carried = match a {
+            Ok(carried) => carried,
+            Err(refusal) => Carried {
+                computed: Err(refusal),
+                count: Err(refusal),
+                first: Err(refusal),
+                second: Err(refusal),
+            },
+        };
+        CarriedOut32 {
+            computed: CastParamsOut32::from(carried.computed),
+            count: Number32::from(carried.count),
+            first: CastOut32::from(carried.first),
+            second: CastOut32::from(carried.second),
+        }
     }
 }
 
-// A layout that is refused refuses all four.
-fn none_carried(refusal: Refusal) -> CarriedOut32
-    ensures { result ≡ carried_out32 (refused (number_of refusal)) }
-{
-    CarriedOut32 {
-        computed: exports32_converts::params_out(Err(refusal)),
-        count: exports32_numbers::number_out(Err(refusal)),
-        first: exports32_converts::cast_out(Err(refusal)),
-        second: exports32_converts::cast_out(Err(refusal)),
-    }
-}
-
-// Those in a mode. An export has its mode as a constant, which the compiler then drops.
-pub fn convert_and_cast_out(
+// Those calls in a mode. An export has its mode as a constant, which the compiler then drops.
+pub fn convert_and_cast(
     src: Layout32,
     dst: Layout32,
     src_meta: u32,
@@ -68,21 +64,13 @@ pub fn convert_and_cast_out(
     bytes_len: u32,
     more_len: u32,
     mode: Mode,
-) -> CarriedOut32
-    ensures { result ≡ carried_out32 (with_layout32 32 src (λ l. with_layout32 32 dst (λ m.
-        answered (answers_of 32 (comparison_of 32 (mode_of mode)) l m src_meta addr bytes_len more_len)))) }
+) -> Result<Carried<u32>, Refusal>
+    ensures { says answers_in result ≡ with_layout32 32 src (λ l. with_layout32 32 dst (λ m.
+        answered (answers_of 32 (comparison_of 32 (mode_of mode)) l m src_meta addr bytes_len more_len))) }
 {
-    match exports32_layouts::layout_in(src) {
-        Ok(l) => match exports32_layouts::layout_in(dst) {
-            Ok(m) => {
-                carried_out(guarantee32::convert_and_cast(
-                    l, m, src_meta, addr, bytes_len, more_len, mode,
-                ))
-            }
-            Err(refusal) => none_carried(refusal),
-        },
-        Err(refusal) => none_carried(refusal),
-    }
+    let l = DstLayout::try_from(src)?;
+    let m = DstLayout::try_from(dst)?;
+    Ok(guarantee32::convert_and_cast(l, m, src_meta, addr, bytes_len, more_len, mode))
 }
 
 // Converts src_meta elements, and casts bytes at addr to the target over two lengths.
@@ -98,5 +86,5 @@ pub extern "C" fn lukaripe32_convert_and_cast(
     ensures { result ≡ carried_out32 (with_layout32 32 src (λ l. with_layout32 32 dst (λ m.
         answered (answers_of 32 (same_sequence 32) l m src_meta addr bytes_len more_len)))) }
 {
-    convert_and_cast_out(src, dst, src_meta, addr, bytes_len, more_len, Mode::Ported)
+    convert_and_cast(src, dst, src_meta, addr, bytes_len, more_len, Mode::Ported).into()
 }

@@ -27,7 +27,7 @@ pub extern "C" fn lukaripe32_convert_and_cast_full(
     ensures { result ≡ carried_out32 (with_layout32 32 src (λ l. with_layout32 32 dst (λ m.
         answered (answers_of 32 (sizes_agree 32) l m src_meta addr bytes_len more_len)))) }
 {
-    exports32_guarantee::convert_and_cast_out(
+    exports32_guarantee::convert_and_cast(
         src,
         dst,
         src_meta,
@@ -35,5 +35,5 @@ pub extern "C" fn lukaripe32_convert_and_cast_full(
         bytes_len,
         more_len,
         Mode::Full,
-    )
+    ).into()
 }

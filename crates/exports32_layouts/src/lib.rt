@@ -58,13 +58,17 @@ impl From<Layout32> for Words {
 }
 
 // A layout that was handed over: its words are tested as a record's are.
-pub fn layout_in(l: Layout32) -> Result<DstLayout<u32>, Refusal>
-    ensures { layout_says result ≡ words_for 32 (words_given32 l) }
-{
-    layouts32::low_answer(record::layout_from_words(Words::from(l)))
+impl TryFrom<Layout32> for DstLayout<u32> {
+    type Error = Refusal;
+
+    ghost try_from_gives = { λ given a. layout_says a ≡ words_for 32 (words_given32 given) };
+
+    fn try_from(l: Layout32) -> Result<DstLayout<u32>, Refusal> {
+        layouts32::low_answer(record::layout_from_words(Words::from(l)))
+    }
 }
 
-// Words of 64 bits narrowed. No TryFrom, as `low_word`.
+// Words of 64 bits narrowed. No TryFrom, as `numbers32::low_word`.
 fn low_words(words: Words) -> Layout32
     ensures { result ≡ words_out32 (low_words 32 (words_in words)) }
 {
@@ -78,11 +82,13 @@ fn low_words(words: Words) -> Layout32
     }
 }
 
-// The words of a layout, which 32 bits hold.
-pub fn words_out(l: DstLayout<u32>) -> Layout32
-    ensures { result ≡ words_out32 (words_of (layout_of l)) }
-{
-    low_words(record::words_from_layout(layouts32::wide_layout(l)))
+// A layout that comes back: its words, which 32 bits hold.
+impl From<DstLayout<u32>> for Layout32 {
+    ghost from_gives = { λ l given. given ≡ words_out32 (words_of (layout_of l)) };
+
+    fn from(l: DstLayout<u32>) -> Layout32 {
+        low_words(record::words_from_layout(layouts32::wide_layout(l)))
+    }
 }
 
 // What stands in place of a layout beside a refusal.
@@ -100,19 +106,21 @@ pub fn no_layout() -> Layout32
 }
 
 // A layout as it crosses to C.
-#[inline(always)]
-pub fn layout_out(a: Result<DstLayout<u32>, Refusal>) -> LayoutOut32
-    ensures { result ≡ layout_out32 (layout_says a) }
-{
-    match a {
-        Ok(l) => LayoutOut32 {
-            refusal: 0,
-            layout: words_out(l),
-        },
-        Err(refusal) => LayoutOut32 {
-            refusal: refusal.number(),
-            layout: no_layout(),
-        },
+impl From<Result<DstLayout<u32>, Refusal>> for LayoutOut32 {
+    ghost from_gives = { λ a out. out ≡ layout_out32 (layout_says a) };
+
+    #[inline(always)]
+    fn from(a: Result<DstLayout<u32>, Refusal>) -> LayoutOut32 {
+        match a {
+            Ok(l) => LayoutOut32 {
+                refusal: 0,
+                layout: Layout32::from(l),
+            },
+            Err(refusal) => LayoutOut32 {
+                refusal: refusal.number(),
+                layout: no_layout(),
+            },
+        }
     }
 }
 
@@ -121,7 +129,7 @@ pub fn layout_out(a: Result<DstLayout<u32>, Refusal>) -> LayoutOut32
 pub extern "C" fn lukaripe32_new_zst(repr_align: u32) -> LayoutOut32
     ensures { result ≡ layout_out32 (new_zst_for 32 repr_align) }
 {
-    layout_out(layouts32::new_zst(repr_align))
+    LayoutOut32::from(layouts32::new_zst(repr_align))
 }
 
 // The layout of a type, its padding not known.
@@ -129,7 +137,7 @@ pub extern "C" fn lukaripe32_new_zst(repr_align: u32) -> LayoutOut32
 pub extern "C" fn lukaripe32_for_type(size: u32, align: u32) -> LayoutOut32
     ensures { result ≡ layout_out32 (type_for 32 false size align) }
 {
-    layout_out(layouts32::for_type(size, align))
+    LayoutOut32::from(layouts32::for_type(size, align))
 }
 
 // The layout of a type without padding.
@@ -137,7 +145,7 @@ pub extern "C" fn lukaripe32_for_type(size: u32, align: u32) -> LayoutOut32
 pub extern "C" fn lukaripe32_for_unpadded_type(size: u32, align: u32) -> LayoutOut32
     ensures { result ≡ layout_out32 (type_for 32 true size align) }
 {
-    layout_out(layouts32::for_unpadded_type(size, align))
+    LayoutOut32::from(layouts32::for_unpadded_type(size, align))
 }
 
 // The layout of a slice.
@@ -145,7 +153,7 @@ pub extern "C" fn lukaripe32_for_unpadded_type(size: u32, align: u32) -> LayoutO
 pub extern "C" fn lukaripe32_for_slice(size: u32, align: u32) -> LayoutOut32
     ensures { result ≡ layout_out32 (slice_for 32 size align) }
 {
-    layout_out(layouts32::for_slice(size, align))
+    LayoutOut32::from(layouts32::for_slice(size, align))
 }
 
 // The layout with one member more.
@@ -157,13 +165,9 @@ pub extern "C" fn lukaripe32_extend(
 ) -> LayoutOut32
     ensures { result ≡ layout_out32 (with_layout32 32 layout (λ l. with_layout32 32 field (λ m. extend_for 32 l m repr_packed))) }
 {
-    match layout_in(layout) {
-        Ok(l) => match layout_in(field) {
-            Ok(m) => layout_out(steps32::extend(l, m, repr_packed)),
-            Err(refusal) => layout_out(Err(refusal)),
-        },
-        Err(refusal) => layout_out(Err(refusal)),
-    }
+    DstLayout::try_from(layout)
+        .and_then(|l| DstLayout::try_from(field).and_then(|m| steps32::extend(l, m, repr_packed)))
+        .into()
 }
 
 // The layout with its closing padding.
@@ -171,10 +175,7 @@ pub extern "C" fn lukaripe32_extend(
 pub extern "C" fn lukaripe32_pad_to_align(layout: Layout32) -> LayoutOut32
     ensures { result ≡ layout_out32 (with_layout32 32 layout (λ l. pad_for 32 l)) }
 {
-    match layout_in(layout) {
-        Ok(l) => layout_out(steps32::pad_to_align(l)),
-        Err(refusal) => layout_out(Err(refusal)),
-    }
+    LayoutOut32::from(DstLayout::try_from(layout).and_then(steps32::pad_to_align))
 }
 
 // Whether padding is not known to be absent.
@@ -182,10 +183,7 @@ pub extern "C" fn lukaripe32_pad_to_align(layout: Layout32) -> LayoutOut32
 pub extern "C" fn lukaripe32_requires_static_padding(layout: Layout32) -> Number32
     ensures { result ≡ decision_out32 (with_layout32 32 layout (λ l. static_for 32 l)) }
 {
-    match layout_in(layout) {
-        Ok(l) => exports32_numbers::decision_out(layouts32::requires_static_padding(l)),
-        Err(refusal) => exports32_numbers::decision_out(Err(refusal)),
-    }
+    Number32::from(DstLayout::try_from(layout).and_then(layouts32::requires_static_padding))
 }
 
 // Whether padding depends on the count.
@@ -193,10 +191,7 @@ pub extern "C" fn lukaripe32_requires_static_padding(layout: Layout32) -> Number
 pub extern "C" fn lukaripe32_requires_dynamic_padding(layout: Layout32) -> Number32
     ensures { result ≡ decision_out32 (with_layout32 32 layout (λ l. dynamic_for 32 l)) }
 {
-    match layout_in(layout) {
-        Ok(l) => exports32_numbers::decision_out(layouts32::requires_dynamic_padding(l)),
-        Err(refusal) => exports32_numbers::decision_out(Err(refusal)),
-    }
+    Number32::from(DstLayout::try_from(layout).and_then(layouts32::requires_dynamic_padding))
 }
 
 // The layout of a scalar.
@@ -204,5 +199,5 @@ pub extern "C" fn lukaripe32_requires_dynamic_padding(layout: Layout32) -> Numbe
 pub extern "C" fn lukaripe32_scalar(code: u32) -> LayoutOut32
     ensures { result ≡ layout_out32 (scalar_for target32 code) }
 {
-    layout_out(scalar32::scalar(code))
+    LayoutOut32::from(scalar32::scalar(code))
 }

@@ -24,21 +24,23 @@ pub struct ComposedOut32 {
 }
 
 // A composition as it crosses to C.
-#[inline(always)]
-pub fn composed_out(a: Result<DstLayout<u32>, RefusedAt<u64>>) -> ComposedOut32
-    ensures { result ≡ composed_out32 (compose_says a) }
-{
-    match a {
-        Ok(l) => ComposedOut32 {
-            refusal: 0,
-            place: 0,
-            layout: exports32_layouts::words_out(l),
-        },
-        Err(RefusedAt { refusal, place }) => ComposedOut32 {
-            refusal: refusal.number(),
-            place,
-            layout: exports32_layouts::no_layout(),
-        },
+impl From<Result<DstLayout<u32>, RefusedAt<u64>>> for ComposedOut32 {
+    ghost from_gives = { λ a out. out ≡ composed_out32 (compose_says a) };
+
+    #[inline(always)]
+    fn from(a: Result<DstLayout<u32>, RefusedAt<u64>>) -> ComposedOut32 {
+        match a {
+            Ok(l) => ComposedOut32 {
+                refusal: 0,
+                place: 0,
+                layout: Layout32::from(l),
+            },
+            Err(RefusedAt { refusal, place }) => ComposedOut32 {
+                refusal: refusal.number(),
+                place,
+                layout: exports32_layouts::no_layout(),
+            },
+        }
     }
 }
 
@@ -51,7 +53,7 @@ pub extern "C" fn lukaripe32_compose(
 ) -> ComposedOut32
     ensures { result ≡ composed_out32 (compose_for 32 ported repr_align repr_packed members.now) }
 {
-    composed_out(compose32::compose(repr_align, repr_packed, members))
+    ComposedOut32::from(compose::compose(repr_align, repr_packed, members))
 }
 
 // The layout of a member list.
@@ -63,7 +65,7 @@ pub extern "C" fn lukaripe32_for_repr_c_struct(
 ) -> ComposedOut32
     ensures { result ≡ composed_out32 (struct_for 32 ported repr_align repr_packed members.now) }
 {
-    composed_out(compose32::for_repr_c_struct(repr_align, repr_packed, members))
+    ComposedOut32::from(compose::for_repr_c_struct(repr_align, repr_packed, members))
 }
 
 // The layout of a member list where the Reference allows it.
@@ -75,7 +77,7 @@ pub extern "C" fn lukaripe32_for_repr_c_struct_strict(
 ) -> ComposedOut32
     ensures { result ≡ composed_out32 (struct_for 32 strict repr_align repr_packed members.now) }
 {
-    composed_out(compose32::for_repr_c_struct_strict(repr_align, repr_packed, members))
+    ComposedOut32::from(compose::for_repr_c_struct_strict(repr_align, repr_packed, members))
 }
 
 // The layout of a member list, and the place of each member and the gap before it, in two lent slices.
@@ -96,6 +98,6 @@ pub extern "C" fn lukaripe32_for_repr_c_struct_places(
         (length places.old) (length gaps.old))
         (gaps_of repr_packed (empty_layout repr_align) (listed 32 members.now)) gaps.old }
 {
-    let answer = places32::for_repr_c_struct_places(repr_align, repr_packed, members, places, gaps);
-    composed_out(answer)
+    let answer = places::for_repr_c_struct_places(repr_align, repr_packed, members, places, gaps);
+    ComposedOut32::from(answer)
 }

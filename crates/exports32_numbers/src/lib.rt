@@ -53,67 +53,75 @@ pub struct TrailingAnswer32 {
 }
 
 // A number: an answer of a function of numbers.
-#[inline(always)]
-pub fn number_out(a: Result<u32, Refusal>) -> Number32
-    ensures { result ≡ number_out32 (number_says a) }
-{
-    match a {
-        Ok(value) => Number32 { refusal: 0, value },
-        Err(refusal) => Number32 {
-            refusal: refusal.number(),
-            value: 0,
-        },
+impl From<Result<u32, Refusal>> for Number32 {
+    ghost from_gives = { λ a number. number ≡ number_out32 (number_says a) };
+
+    #[inline(always)]
+    fn from(a: Result<u32, Refusal>) -> Number32 {
+        match a {
+            Ok(value) => Number32 { refusal: 0, value },
+            Err(refusal) => Number32 {
+                refusal: refusal.number(),
+                value: 0,
+            },
+        }
     }
 }
 
 // A yes or no as a number.
-#[inline(always)]
-pub fn decision_out(a: Result<bool, Refusal>) -> Number32
-    ensures { result ≡ decision_out32 (decision_says a) }
-{
-    match a {
-        Ok(yes) => {
-            if yes {
-                Number32 {
-                    refusal: 0,
-                    value: 1,
-                }
-            } else {
-                Number32 {
-                    refusal: 0,
-                    value: 0,
+impl From<Result<bool, Refusal>> for Number32 {
+    ghost from_gives = { λ a number. number ≡ decision_out32 (decision_says a) };
+
+    #[inline(always)]
+    fn from(a: Result<bool, Refusal>) -> Number32 {
+        match a {
+            Ok(yes) => {
+                if yes {
+                    Number32 {
+                        refusal: 0,
+                        value: 1,
+                    }
+                } else {
+                    Number32 {
+                        refusal: 0,
+                        value: 0,
+                    }
                 }
             }
+            Err(refusal) => Number32 {
+                refusal: refusal.number(),
+                value: 0,
+            },
         }
-        Err(refusal) => Number32 {
-            refusal: refusal.number(),
-            value: 0,
-        },
     }
 }
 
 // A trailing layout that was handed over.
-pub fn trailing_in(t: Trailing32) -> TrailingSliceLayout<u32>
-    ensures { trailing_of result ≡ trailing_in32 t }
-{
-    TrailingSliceLayout {
-        offset: t.offset,
-        elem_size: t.elem_size,
-        size_base: t.size_base,
-        size_rounding_align_and_phase: RoundingAlignAndPhase(t.word),
+impl From<Trailing32> for TrailingSliceLayout<u32> {
+    ghost from_gives = { λ t tail. trailing_of tail ≡ trailing_in32 t };
+
+    fn from(t: Trailing32) -> TrailingSliceLayout<u32> {
+        TrailingSliceLayout {
+            offset: t.offset,
+            elem_size: t.elem_size,
+            size_base: t.size_base,
+            size_rounding_align_and_phase: RoundingAlignAndPhase(t.word),
+        }
     }
 }
 
 // The words of a trailing layout.
-fn trailing_of(t: TrailingSliceLayout<u32>) -> Trailing32
-    ensures { result ≡ trailing_words32 (trailing_of t) }
-{
-    let word = t.size_rounding_align_and_phase;
-    Trailing32 {
-        size_base: t.size_base,
-        offset: t.offset,
-        elem_size: t.elem_size,
-        word: word.0,
+impl From<TrailingSliceLayout<u32>> for Trailing32 {
+    ghost from_gives = { λ t given. given ≡ trailing_words32 (trailing_of t) };
+
+    fn from(t: TrailingSliceLayout<u32>) -> Trailing32 {
+        let word = t.size_rounding_align_and_phase;
+        Trailing32 {
+            size_base: t.size_base,
+            offset: t.offset,
+            elem_size: t.elem_size,
+            word: word.0,
+        }
     }
 }
 
@@ -129,18 +137,20 @@ fn no_trailing() -> Trailing32
     }
 }
 
-fn trailing_out(a: Result<TrailingSliceLayout<u32>, Refusal>) -> TrailingAnswer32
-    ensures { result ≡ trailing_out32 (advance_says a) }
-{
-    match a {
-        Ok(t) => TrailingAnswer32 {
-            refusal: 0,
-            layout: trailing_of(t),
-        },
-        Err(refusal) => TrailingAnswer32 {
-            refusal: refusal.number(),
-            layout: no_trailing(),
-        },
+impl From<Result<TrailingSliceLayout<u32>, Refusal>> for TrailingAnswer32 {
+    ghost from_gives = { λ a out. out ≡ trailing_out32 (advance_says a) };
+
+    fn from(a: Result<TrailingSliceLayout<u32>, Refusal>) -> TrailingAnswer32 {
+        match a {
+            Ok(t) => TrailingAnswer32 {
+                refusal: 0,
+                layout: Trailing32::from(t),
+            },
+            Err(refusal) => TrailingAnswer32 {
+                refusal: refusal.number(),
+                layout: no_trailing(),
+            },
+        }
     }
 }
 
@@ -157,7 +167,7 @@ pub extern "C" fn lukaripe32_is_power_of_two(align: u32) -> bool
 pub extern "C" fn lukaripe32_padding_needed_for(len: u32, align: u32) -> Number32
     ensures { result ≡ number_out32 (padding_for 32 len align) }
 {
-    number_out(numbers32::padding_needed_for(len, align))
+    Number32::from(numbers32::padding_needed_for(len, align))
 }
 
 // The greatest multiple of align that is at most n.
@@ -168,7 +178,7 @@ pub extern "C" fn lukaripe32_round_down_to_next_multiple_of_alignment(
 ) -> Number32
     ensures { result ≡ number_out32 (round_down_for 32 n align) }
 {
-    number_out(numbers32::round_down_to_next_multiple_of_alignment(n, align))
+    Number32::from(numbers32::round_down_to_next_multiple_of_alignment(n, align))
 }
 
 // The larger of two alignments.
@@ -176,7 +186,7 @@ pub extern "C" fn lukaripe32_round_down_to_next_multiple_of_alignment(
 pub extern "C" fn lukaripe32_max(a: u32, b: u32) -> Number32
     ensures { result ≡ number_out32 (max_for 32 a b) }
 {
-    number_out(numbers32::max(a, b))
+    Number32::from(numbers32::max(a, b))
 }
 
 // The smaller of two alignments.
@@ -184,7 +194,7 @@ pub extern "C" fn lukaripe32_max(a: u32, b: u32) -> Number32
 pub extern "C" fn lukaripe32_min(a: u32, b: u32) -> Number32
     ensures { result ≡ number_out32 (min_for 32 a b) }
 {
-    number_out(numbers32::min(a, b))
+    Number32::from(numbers32::min(a, b))
 }
 
 // The rounding word of an alignment and a phase.
@@ -228,7 +238,7 @@ pub extern "C" fn lukaripe32_rounding_components(word: u32) -> Components32
 pub extern "C" fn lukaripe32_rounding_align(word: u32) -> Number32
     ensures { result ≡ number_out32 (align_for 32 word) }
 {
-    number_out(numbers32::align(RoundingAlignAndPhase(word)))
+    Number32::from(numbers32::align(RoundingAlignAndPhase(word)))
 }
 
 // The size offset of a trailing layout.
@@ -236,7 +246,7 @@ pub extern "C" fn lukaripe32_rounding_align(word: u32) -> Number32
 pub extern "C" fn lukaripe32_size_offset(layout: Trailing32) -> Number32
     ensures { result ≡ number_out32 (size_offset_for 32 (trailing_in32 layout)) }
 {
-    number_out(trailing32::size_offset(trailing_in(layout)))
+    Number32::from(trailing32::size_offset(TrailingSliceLayout::from(layout)))
 }
 
 // The greatest number of trailing bytes whose size is at most available_bytes.
@@ -247,7 +257,10 @@ pub extern "C" fn lukaripe32_max_trailing_bytes(
 ) -> Number32
     ensures { result ≡ number_out32 (max_trailing_for 32 (trailing_in32 layout) available_bytes) }
 {
-    number_out(trailing32::max_trailing_bytes(trailing_in(layout), available_bytes))
+    Number32::from(trailing32::max_trailing_bytes(
+        TrailingSliceLayout::from(layout),
+        available_bytes,
+    ))
 }
 
 // The padding after elems elements, modulo 2^32.
@@ -255,7 +268,7 @@ pub extern "C" fn lukaripe32_max_trailing_bytes(
 pub extern "C" fn lukaripe32_padding_for_elems(layout: Trailing32, elems: u32) -> Number32
     ensures { result ≡ number_out32 (padding_for_elems 32 (trailing_in32 layout) elems) }
 {
-    number_out(trailing32::padding_for_elems(trailing_in(layout), elems))
+    Number32::from(trailing32::padding_for_elems(TrailingSliceLayout::from(layout), elems))
 }
 
 // The size at elems elements; beside 15 the value is the greatest count that has a size.
@@ -263,7 +276,7 @@ pub extern "C" fn lukaripe32_padding_for_elems(layout: Trailing32, elems: u32) -
 pub extern "C" fn lukaripe32_size_for_elems(layout: Trailing32, elems: u32) -> Number32
     ensures { result ≡ size_out32 (size_given 32 (trailing_in32 layout) elems) }
 {
-    match trailing32::size_for_elems(trailing_in(layout), elems) {
+    match trailing32::size_for_elems(TrailingSliceLayout::from(layout), elems) {
         Ok(value) => Number32 { refusal: 0, value },
         Err(SizeRefusal::NoSize { greatest }) => Number32 {
             refusal: Refusal::NoSize.number(),
@@ -285,7 +298,7 @@ pub extern "C" fn lukaripe32_advance(
 ) -> TrailingAnswer32
     ensures { result ≡ trailing_out32 (advance_for 32 (trailing_in32 layout) bytes elem_size) }
 {
-    trailing_out(trailing32::advance(trailing_in(layout), bytes, elem_size))
+    TrailingAnswer32::from(trailing32::advance(TrailingSliceLayout::from(layout), bytes, elem_size))
 }
 
 // Whether two layouts are found to have the same size at every count.
@@ -296,5 +309,8 @@ pub extern "C" fn lukaripe32_has_same_size_sequence(
 ) -> Number32
     ensures { result ≡ decision_out32 (same_for 32 (trailing_in32 layout) (trailing_in32 other)) }
 {
-    decision_out(sequence32::has_same_size_sequence(trailing_in(layout), trailing_in(other)))
+    Number32::from(sequence32::has_same_size_sequence(
+        TrailingSliceLayout::from(layout),
+        TrailingSliceLayout::from(other),
+    ))
 }

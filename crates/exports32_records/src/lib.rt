@@ -5,7 +5,6 @@
 ghost use Rattle.std.specs.Prelude.{◌≡◌, length};
 ghost use Rattle.record_defs.specs.Record.{decode_for, fitted, encode_words_for, encoded_words_into};
 ghost use Rattle.short_defs.specs.Short.{decode_short_for, encode_short_words_for, encoded_short_words_into};
-ghost use Rattle.record.specs.View.{words_in};
 ghost use Rattle.exports_layouts.specs.Layouts.{refusal_out};
 ghost use Rattle.exports32_layouts.specs.Layouts.{words_given32, layout_out32};
 
@@ -17,7 +16,7 @@ use record::Words;
 pub extern "C" fn lukaripe32_decode(bytes: &[u8]) -> LayoutOut32
     ensures { result ≡ layout_out32 (decode_for 32 bytes.now) }
 {
-    exports32_layouts::layout_out(record32::decode(bytes))
+    LayoutOut32::from(record32::decode(bytes))
 }
 
 // The record of a layout into 48 lent bytes: the refusal number, and then no byte has changed.
@@ -37,7 +36,7 @@ pub extern "C" fn lukaripe32_encode(layout: Layout32, out: &mut [u8]) -> u64
 pub extern "C" fn lukaripe32_decode_short(bytes: &[u8]) -> LayoutOut32
     ensures { result ≡ layout_out32 (fitted 32 (decode_short_for bytes.now)) }
 {
-    exports32_layouts::layout_out(record32::fitting(short::decode_short(bytes)))
+    LayoutOut32::from(record32::fitting(short::decode_short(bytes)))
 }
 
 // The short record of a layout, into lent bytes.

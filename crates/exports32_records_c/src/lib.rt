@@ -1,5 +1,5 @@
 // What C and Rust call of exports32_records: an export for each of its functions, with the same contract, and no logic of its
-// own.
+// own. C has each function by its name, so that none is an instance of a generic one.
 #![tactic(auto)]
 
 ghost use Rattle.std.specs.Prelude.{◌≡◌, length};

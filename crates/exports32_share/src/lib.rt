@@ -11,6 +11,7 @@ ghost use Rattle.exports32_share.specs.Shares.{share_out32};
 
 use exports32_numbers::Trailing32;
 use share::Share;
+use trailing::TrailingSliceLayout;
 use util::RefusedAt;
 
 // Total padding over total size and the mean size as fractions in lowest terms, the greatest padding and its first index; or
@@ -30,34 +31,36 @@ pub struct PaddingOut32 {
 }
 
 // The padding over counts as it crosses to C.
-fn share_out(a: Result<Share<u32>, RefusedAt<u64>>) -> PaddingOut32
-    ensures { result ≡ share_out32 (share_says a) }
-{
-    match a {
-        Ok(share) => {
-            let padding = share.padding;
-            let mean = share.mean;
-            PaddingOut32 {
-                refusal: 0,
-                place: 0,
-                padding_numerator: padding.numerator,
-                padding_denominator: padding.denominator,
-                mean_numerator: mean.numerator,
-                mean_denominator: mean.denominator,
-                greatest: share.greatest,
-                index: share.index,
+impl From<Result<Share<u32>, RefusedAt<u64>>> for PaddingOut32 {
+    ghost from_gives = { λ a out. out ≡ share_out32 (share_says a) };
+
+    fn from(a: Result<Share<u32>, RefusedAt<u64>>) -> PaddingOut32 {
+        match a {
+            Ok(share) => {
+                let padding = share.padding;
+                let mean = share.mean;
+                PaddingOut32 {
+                    refusal: 0,
+                    place: 0,
+                    padding_numerator: padding.numerator,
+                    padding_denominator: padding.denominator,
+                    mean_numerator: mean.numerator,
+                    mean_denominator: mean.denominator,
+                    greatest: share.greatest,
+                    index: share.index,
+                }
             }
+            Err(RefusedAt { refusal, place }) => PaddingOut32 {
+                refusal: refusal.number(),
+                place,
+                padding_numerator: 0,
+                padding_denominator: 0,
+                mean_numerator: 0,
+                mean_denominator: 0,
+                greatest: 0,
+                index: 0,
+            },
         }
-        Err(RefusedAt { refusal, place }) => PaddingOut32 {
-            refusal: refusal.number(),
-            place,
-            padding_numerator: 0,
-            padding_denominator: 0,
-            mean_numerator: 0,
-            mean_denominator: 0,
-            greatest: 0,
-            index: 0,
-        },
     }
 }
 
@@ -66,5 +69,5 @@ fn share_out(a: Result<Share<u32>, RefusedAt<u64>>) -> PaddingOut32
 pub extern "C" fn lukaripe32_padding_of_counts(layout: Trailing32, counts: &[u32]) -> PaddingOut32
     ensures { result ≡ share_out32 (share_for 32 (trailing_in32 layout) counts.now) }
 {
-    share_out(share::padding_of_counts32(exports32_numbers::trailing_in(layout), counts))
+    PaddingOut32::from(share::padding_of_counts32(TrailingSliceLayout::from(layout), counts))
 }

@@ -12,15 +12,16 @@ ghost use Rattle.exports32_numbers.specs.Numbers.{decision_out32, trailing_in32}
 
 use exports32_numbers::{Number32, Trailing32};
 use shift::Mode;
+use trailing::TrailingSliceLayout;
 
 // The match in a mode. An export has its mode as a constant, which the compiler then drops.
 pub fn match_out(src: Trailing32, dst: Trailing32, dst_base: u32, mode: Mode) -> Number32
     ensures { result ≡ decision_out32 (match_for 32 (comparison_of 32 (mode_of mode)) (trailing_in32 src) (trailing_in32 dst)
         dst_base) }
 {
-    exports32_numbers::decision_out(shifts32::size_sequences_match(
-        exports32_numbers::trailing_in(src),
-        exports32_numbers::trailing_in(dst),
+    Number32::from(shifts32::size_sequences_match(
+        TrailingSliceLayout::from(src),
+        TrailingSliceLayout::from(dst),
         dst_base,
         mode,
     ))

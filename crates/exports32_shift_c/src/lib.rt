@@ -1,4 +1,5 @@
-// What C and Rust call of exports32_shift: an export for its function, with the same contract, and no logic of its own.
+// What C and Rust call of exports32_shift: an export for its function, with the same contract, and no logic of its own. C has
+// each function by its name, so that none is an instance of a generic one.
 #![tactic(auto)]
 
 ghost use Rattle.std.specs.Prelude.{◌≡◌};

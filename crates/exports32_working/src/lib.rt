@@ -16,46 +16,17 @@ use exports32_layouts::{Layout32, LayoutOut32};
 use layout::DstLayout;
 use util::Refusal;
 
-// What an addition gives: the refusal, or 0, and the words of the working layout after it.
-#[derive(Clone, Copy)]
-pub struct Worked32 {
-    pub refusal: u64,
-    pub layout: Layout32,
-}
-
-// An addition as it crosses: on a refusal the words are those that were lent.
-pub fn worked_out(lent: Layout32, next: Result<DstLayout<u32>, Refusal>) -> Worked32
-    ensures { result ≡ worked_out32 (layout_says next) lent }
-{
-    match next {
-        Ok(layout) => Worked32 {
-            refusal: 0,
-            layout: exports32_layouts::words_out(layout),
-        },
-        Err(refusal) => Worked32 {
-            refusal: refusal.number(),
-            layout: lent,
-        },
-    }
-}
-
 // The addition of a member by value, to words by value.
-pub fn add_words(lent: Layout32, field: Layout32, repr_packed: u32) -> Worked32
-    ensures { result ≡ worked_out32 (working_for 32 repr_packed (words_given32 lent) (words_for 32 (words_given32 field))) lent }
+pub fn add_words(
+    lent: Layout32,
+    field: Layout32,
+    repr_packed: u32,
+) -> Result<DstLayout<u32>, Refusal>
+    ensures { layout_says result ≡ working_for 32 repr_packed (words_given32 lent) (words_for 32 (words_given32 field)) }
 {
-    match exports32_layouts::layout_in(lent) {
-        Ok(own) => match exports32_layouts::layout_in(field) {
-            Ok(member) => { worked_out(lent, working32::with_member(own, member, repr_packed)) }
-            Err(refusal) => Worked32 {
-                refusal: refusal.number(),
-                layout: lent,
-            },
-        },
-        Err(refusal) => Worked32 {
-            refusal: refusal.number(),
-            layout: lent,
-        },
-    }
+    let own = DstLayout::try_from(lent)?;
+    let member = DstLayout::try_from(field)?;
+    working::with_member(own, member, repr_packed)
 }
 
 // The empty layout that a working layout begins with.
@@ -63,7 +34,7 @@ pub fn add_words(lent: Layout32, field: Layout32, repr_packed: u32) -> Worked32
 pub extern "C" fn lukaripe32_working_begin(repr_align: u32) -> LayoutOut32
     ensures { result ≡ layout_out32 (new_zst_for 32 repr_align) }
 {
-    exports32_layouts::layout_out(working32::begin(repr_align))
+    LayoutOut32::from(working::begin(repr_align))
 }
 
 // Adds a member to the lent layout; a refusal leaves it as it was.
@@ -79,7 +50,11 @@ pub extern "C" fn lukaripe32_working_add(
         ≡ (worked_out32 (working_for 32 repr_packed (words_given32 working.old) (words_for 32 (words_given32 field)))
         working.old).layout }
 {
-    let worked = add_words(*working, field, repr_packed);
-    *working = worked.layout;
-    worked.refusal
+    match add_words(*working, field, repr_packed) {
+        Ok(layout) => {
+            *working = Layout32::from(layout);
+            0
+        }
+        Err(refusal) => refusal.number(),
+    }
 }

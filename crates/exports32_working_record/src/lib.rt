@@ -3,27 +3,26 @@
 #![tactic(auto)]
 
 ghost use Rattle.std.specs.Prelude.{◌≡◌};
+ghost use Rattle.layout.specs.View.{layout_says};
 ghost use Rattle.record_defs.specs.Record.{decode_for};
 ghost use Rattle.exports_working.specs.Working.{working_for};
 ghost use Rattle.exports32_layouts.specs.Layouts.{words_given32};
 ghost use Rattle.exports32_working.specs.Working.{worked_out32};
 
 use exports32_layouts::Layout32;
-use exports32_working::Worked32;
+use layout::DstLayout;
+use util::Refusal;
 
 // The addition of a member by its record, to words by value.
-pub fn add_record_words(lent: Layout32, member: &[u8], repr_packed: u32) -> Worked32
-    ensures { result ≡ worked_out32 (working_for 32 repr_packed (words_given32 lent) (decode_for 32 member.now)) lent }
+pub fn add_record_words(
+    lent: Layout32,
+    member: &[u8],
+    repr_packed: u32,
+) -> Result<DstLayout<u32>, Refusal>
+    ensures { layout_says result ≡ working_for 32 repr_packed (words_given32 lent) (decode_for 32 member.now) }
 {
-    match exports32_layouts::layout_in(lent) {
-        Ok(own) => {
-            exports32_working::worked_out(lent, working32::with_record(own, member, repr_packed))
-        }
-        Err(refusal) => Worked32 {
-            refusal: refusal.number(),
-            layout: lent,
-        },
-    }
+    let own = DstLayout::try_from(lent)?;
+    working::with_record(own, member, repr_packed)
 }
 
 // Adds a member by its record to the lent layout; a refusal leaves it as it was.
@@ -39,7 +38,11 @@ pub extern "C" fn lukaripe32_working_add_record(
         ≡ (worked_out32 (working_for 32 repr_packed (words_given32 working.old) (decode_for 32 member.now))
         working.old).layout }
 {
-    let worked = add_record_words(*working, member, repr_packed);
-    *working = worked.layout;
-    worked.refusal
+    match add_record_words(*working, member, repr_packed) {
+        Ok(layout) => {
+            *working = Layout32::from(layout);
+            0
+        }
+        Err(refusal) => refusal.number(),
+    }
 }

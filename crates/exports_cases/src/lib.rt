@@ -14,5 +14,5 @@ pub extern "C" fn lukaripe_write_cases(longest: u64, out: &mut [u8]) -> Number
     ensures out_after { out.new ≡ filled_with (cases_for longest (length out.old)) out.old }
 {
     let answer = cases::write_cases(longest, out);
-    exports_numbers::number_out(answer)
+    Number::from(answer)
 }

@@ -19,6 +19,7 @@ use cast::{CastType, Granted};
 use convert::CastParamsInner;
 use exports_layouts::Layout;
 use exports_numbers::Number;
+use layout::DstLayout;
 use shift::Mode;
 use util::Refusal;
 
@@ -49,45 +50,49 @@ pub struct CastParamsOut {
 }
 
 // A granted cast, or the refusal.
-#[inline(always)]
-pub fn cast_out(a: Result<Granted<u64>, Refusal>) -> CastOut
-    ensures { result ≡ cast_out (cast_says a) }
-{
-    match a {
-        Ok(Granted { elems, split_at }) => CastOut {
-            refusal: 0,
-            count: elems,
-            split: split_at,
-        },
-        Err(refusal) => CastOut {
-            refusal: refusal.number(),
-            count: 0,
-            split: 0,
-        },
+impl From<Result<Granted<u64>, Refusal>> for CastOut {
+    ghost from_gives = { λ a out. out ≡ cast_out (cast_says a) };
+
+    #[inline(always)]
+    fn from(a: Result<Granted<u64>, Refusal>) -> CastOut {
+        match a {
+            Ok(Granted { elems, split_at }) => CastOut {
+                refusal: 0,
+                count: elems,
+                split: split_at,
+            },
+            Err(refusal) => CastOut {
+                refusal: refusal.number(),
+                count: 0,
+                split: 0,
+            },
+        }
     }
 }
 
 // The parameters of a conversion, by their kind.
-fn params_given(params: CastParamsInner<u64>) -> CastParams
-    ensures { result ≡ params_numbers (params_in params) }
-{
-    match params {
-        CastParamsInner::UnsizedToUnsized {
-            offset_delta_elems,
-            elem_multiple,
-        } => CastParams {
-            kind: 2,
-            offset_delta_elems,
-            elem_multiple,
-            dst_meta: 0,
-        },
-        CastParamsInner::SizedToUnsized { dst_meta } => CastParams {
-            kind: 1,
-            offset_delta_elems: 0,
-            elem_multiple: 0,
-            dst_meta,
-        },
-        CastParamsInner::SizedToSized => no_params(),
+impl From<CastParamsInner<u64>> for CastParams {
+    ghost from_gives = { λ params given. given ≡ params_numbers (params_in params) };
+
+    fn from(params: CastParamsInner<u64>) -> CastParams {
+        match params {
+            CastParamsInner::UnsizedToUnsized {
+                offset_delta_elems,
+                elem_multiple,
+            } => CastParams {
+                kind: 2,
+                offset_delta_elems,
+                elem_multiple,
+                dst_meta: 0,
+            },
+            CastParamsInner::SizedToUnsized { dst_meta } => CastParams {
+                kind: 1,
+                offset_delta_elems: 0,
+                elem_multiple: 0,
+                dst_meta,
+            },
+            CastParamsInner::SizedToSized => no_params(),
+        }
     }
 }
 
@@ -104,40 +109,46 @@ fn no_params() -> CastParams
 }
 
 // The parameters of a conversion, or the refusal.
-#[inline(always)]
-pub fn params_out(a: Result<CastParamsInner<u64>, Refusal>) -> CastParamsOut
-    ensures { result ≡ params_out (compute_says a) }
-{
-    match a {
-        Ok(params) => CastParamsOut {
-            refusal: 0,
-            params: params_given(params),
-        },
-        Err(refusal) => CastParamsOut {
-            refusal: refusal.number(),
-            params: no_params(),
-        },
+impl From<Result<CastParamsInner<u64>, Refusal>> for CastParamsOut {
+    ghost from_gives = { λ a out. out ≡ params_out (compute_says a) };
+
+    #[inline(always)]
+    fn from(a: Result<CastParamsInner<u64>, Refusal>) -> CastParamsOut {
+        match a {
+            Ok(params) => CastParamsOut {
+                refusal: 0,
+                params: CastParams::from(params),
+            },
+            Err(refusal) => CastParamsOut {
+                refusal: refusal.number(),
+                params: no_params(),
+            },
+        }
     }
 }
 
-fn params_in(q: CastParams) -> CastParamsInner<u64>
-    ensures { params_in result ≡ params_given q }
-{
-    if q.kind == 0 {
-        return CastParamsInner::SizedToSized;
-    }
-    if q.kind == 1 {
-        return CastParamsInner::SizedToUnsized {
-            dst_meta: q.dst_meta,
-        };
-    }
-    CastParamsInner::UnsizedToUnsized {
-        offset_delta_elems: q.offset_delta_elems,
-        elem_multiple: q.elem_multiple,
+// Parameters that were handed over.
+impl From<CastParams> for CastParamsInner<u64> {
+    ghost from_gives = { λ q params. params_in params ≡ params_given q };
+
+    fn from(q: CastParams) -> CastParamsInner<u64> {
+        if q.kind == 0 {
+            return CastParamsInner::SizedToSized;
+        }
+        if q.kind == 1 {
+            return CastParamsInner::SizedToUnsized {
+                dst_meta: q.dst_meta,
+            };
+        }
+        CastParamsInner::UnsizedToUnsized {
+            offset_delta_elems: q.offset_delta_elems,
+            elem_multiple: q.elem_multiple,
+        }
     }
 }
 
-fn cast_type(suffix: bool) -> CastType
+// The side of a cast. No From: neither type is of this crate.
+pub fn cast_type(suffix: bool) -> CastType
     ensures { side_of result ≡ side_given suffix }
 {
     if suffix {
@@ -158,10 +169,9 @@ pub extern "C" fn lukaripe_validate_cast_and_convert_metadata(
     ensures { result ≡ cast_out (with_layout 64 layout (λ l. cast_for 64 l (side_given suffix) addr bytes_len)) }
 {
     let side = cast_type(suffix);
-    match exports_layouts::layout_in(layout) {
-        Ok(l) => cast_out(cast::validate_cast_and_convert_metadata(l, addr, bytes_len, side)),
-        Err(refusal) => cast_out(Err(refusal)),
-    }
+    DstLayout::try_from(layout)
+        .and_then(|l| cast::validate_cast_and_convert_metadata(l, addr, bytes_len, side))
+        .into()
 }
 
 // The greatest count of exactly this size.
@@ -169,10 +179,9 @@ pub extern "C" fn lukaripe_validate_cast_and_convert_metadata(
 pub extern "C" fn lukaripe_metadata_for_exact_size(layout: Layout, size: u64) -> Number
     ensures { result ≡ number_out (with_layout 64 layout (λ l. exact_for 64 l size)) }
 {
-    match exports_layouts::layout_in(layout) {
-        Ok(l) => exports_numbers::number_out(cast::metadata_for_exact_size(l, size)),
-        Err(refusal) => exports_numbers::number_out(Err(refusal)),
-    }
+    DstLayout::try_from(layout)
+        .and_then(|l| cast::metadata_for_exact_size(l, size))
+        .into()
 }
 
 // The conversion in a mode. An export has its mode as a constant, which the compiler then drops.
@@ -180,13 +189,9 @@ pub fn compute_out(src: Layout, dst: Layout, mode: Mode) -> CastParamsOut
     ensures { result ≡ params_out (with_layout 64 src (λ l. with_layout 64 dst
         (λ m. compute_for 64 (comparison_of 64 (mode_of mode)) l m))) }
 {
-    match exports_layouts::layout_in(src) {
-        Ok(l) => match exports_layouts::layout_in(dst) {
-            Ok(m) => params_out(convert::try_compute(l, m, mode)),
-            Err(refusal) => params_out(Err(refusal)),
-        },
-        Err(refusal) => params_out(Err(refusal)),
-    }
+    DstLayout::try_from(src)
+        .and_then(|l| DstLayout::try_from(dst).and_then(|m| convert::try_compute(l, m, mode)))
+        .into()
 }
 
 // How counts of one layout are converted to another.
@@ -202,5 +207,5 @@ pub extern "C" fn lukaripe_try_compute(src: Layout, dst: Layout) -> CastParamsOu
 pub extern "C" fn lukaripe_cast_metadata(params: CastParams, src_meta: u64) -> Number
     ensures { result ≡ number_out (metadata_for 64 (params_given params) src_meta) }
 {
-    exports_numbers::number_out(carry::cast_metadata(params_in(params), src_meta))
+    Number::from(carry::cast_metadata(CastParamsInner::from(params), src_meta))
 }

@@ -7,16 +7,14 @@ ghost use Rattle.describe_defs.specs.Elements.{array_for, slice_of_for};
 ghost use Rattle.exports_layouts.specs.Layouts.{layout_out, with_layout};
 
 use exports_layouts::{Layout, LayoutOut};
+use layout::DstLayout;
 
 // The layout of an array of count elements.
 #[unsafe(no_mangle)]
 pub extern "C" fn lukaripe_for_array(elem: Layout, count: u64) -> LayoutOut
     ensures { result ≡ layout_out (with_layout 64 elem (λ l. array_for 64 l count)) }
 {
-    match exports_layouts::layout_in(elem) {
-        Ok(l) => exports_layouts::layout_out(elements::for_array(l, count)),
-        Err(refusal) => exports_layouts::layout_out(Err(refusal)),
-    }
+    LayoutOut::from(DstLayout::try_from(elem).and_then(|l| elements::for_array(l, count)))
 }
 
 // The layout of a slice of such elements.
@@ -24,8 +22,5 @@ pub extern "C" fn lukaripe_for_array(elem: Layout, count: u64) -> LayoutOut
 pub extern "C" fn lukaripe_for_slice_of(elem: Layout) -> LayoutOut
     ensures { result ≡ layout_out (with_layout 64 elem (λ l. slice_of_for 64 l)) }
 {
-    match exports_layouts::layout_in(elem) {
-        Ok(l) => exports_layouts::layout_out(elements::for_slice_of(l)),
-        Err(cause) => exports_layouts::layout_out(Err(cause)),
-    }
+    LayoutOut::from(DstLayout::try_from(elem).and_then(elements::for_slice_of))
 }

@@ -14,5 +14,5 @@ pub extern "C" fn lukaripe_records_from_short(records: &[u8], out: &mut [u8]) ->
     ensures out_after { out.new ≡ filled (move_for from_short records.now (length out.old)) out.old }
 {
     let answer = moves_back::records_from_short(records, out);
-    exports_short::moved_out(answer)
+    MovedOut::from(answer)
 }

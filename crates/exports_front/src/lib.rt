@@ -11,6 +11,7 @@ ghost use Rattle.exports_front.specs.Serving.{serving_out, serving_out_of};
 
 use exports_layouts::Layout;
 use front::Serving;
+use layout::DstLayout;
 
 // C has it by value, so that it is no enum.
 #[repr(C)]
@@ -23,39 +24,41 @@ pub struct ServingOut {
     pub split: u64,
 }
 
-#[inline(always)]
-fn serving_out(a: Serving<u64>) -> ServingOut
-    ensures { result ≡ serving_out (serving_says a) }
-{
-    match a {
-        Serving::Map { elems, split_at } => ServingOut {
-            map_refusal: 0,
-            spare_refusal: 0,
-            serves: 1,
-            count: elems,
-            split: split_at,
-        },
-        Serving::Spare {
-            map_refusal,
-            elems,
-            split_at,
-        } => ServingOut {
-            map_refusal: map_refusal.number(),
-            spare_refusal: 0,
-            serves: 2,
-            count: elems,
-            split: split_at,
-        },
-        Serving::Neither {
-            map_refusal,
-            spare_refusal,
-        } => ServingOut {
-            map_refusal: map_refusal.number(),
-            spare_refusal: spare_refusal.number(),
-            serves: 0,
-            count: 0,
-            split: 0,
-        },
+impl From<Serving<u64>> for ServingOut {
+    ghost from_gives = { λ a out. out ≡ serving_out (serving_says a) };
+
+    #[inline(always)]
+    fn from(a: Serving<u64>) -> ServingOut {
+        match a {
+            Serving::Map { elems, split_at } => ServingOut {
+                map_refusal: 0,
+                spare_refusal: 0,
+                serves: 1,
+                count: elems,
+                split: split_at,
+            },
+            Serving::Spare {
+                map_refusal,
+                elems,
+                split_at,
+            } => ServingOut {
+                map_refusal: map_refusal.number(),
+                spare_refusal: 0,
+                serves: 2,
+                count: elems,
+                split: split_at,
+            },
+            Serving::Neither {
+                map_refusal,
+                spare_refusal,
+            } => ServingOut {
+                map_refusal: map_refusal.number(),
+                spare_refusal: spare_refusal.number(),
+                serves: 0,
+                count: 0,
+                split: 0,
+            },
+        }
     }
 }
 
@@ -71,11 +74,12 @@ pub extern "C" fn lukaripe_which_serves(
     ensures { result ≡ serving_out_of (with_layout 64 layout (λ l.
         answered (serving_for 64 l map_addr map_len spare_addr spare_len))) }
 {
-    match exports_layouts::layout_in(layout) {
-        Ok(l) => { serving_out(front::which_serves(l, map_addr, map_len, spare_addr, spare_len)) }
-        Err(refusal) => serving_out(Serving::Neither {
+    ServingOut::from(match DstLayout::try_from(layout) {
+        Ok(l) => front::which_serves(l, map_addr, map_len, spare_addr, spare_len),
+        // Serving is no Result by which to hand it on: it refuses both buffers.
+        Err(refusal) => Serving::Neither {
             map_refusal: refusal,
             spare_refusal: refusal,
-        }),
-    }
+        },
+    })
 }

@@ -10,6 +10,7 @@ ghost use Rattle.exports_full.specs.Forms.{form_out};
 
 use exports_numbers::{Number, Trailing};
 use full::NormalForm;
+use trailing::TrailingSliceLayout;
 use util::Refusal;
 
 // A normal form has no offset and no alignment. C has it by value, so that it is no Result.
@@ -23,25 +24,27 @@ pub struct NormalFormOut {
 }
 
 // A normal form, or the refusal.
-fn form_out(a: Result<NormalForm<u64>, Refusal>) -> NormalFormOut
-    ensures { result ≡ form_out (form_says a) }
-{
-    match a {
-        Ok(form) => {
-            let word = form.size_rounding_align_and_phase;
-            NormalFormOut {
-                refusal: 0,
-                size_base: form.size_base,
-                elem_size: form.elem_size,
-                word: word.0,
+impl From<Result<NormalForm<u64>, Refusal>> for NormalFormOut {
+    ghost from_gives = { λ a out. out ≡ form_out (form_says a) };
+
+    fn from(a: Result<NormalForm<u64>, Refusal>) -> NormalFormOut {
+        match a {
+            Ok(form) => {
+                let word = form.size_rounding_align_and_phase;
+                NormalFormOut {
+                    refusal: 0,
+                    size_base: form.size_base,
+                    elem_size: form.elem_size,
+                    word: word.0,
+                }
             }
+            Err(refusal) => NormalFormOut {
+                refusal: refusal.number(),
+                size_base: 0,
+                elem_size: 0,
+                word: 0,
+            },
         }
-        Err(refusal) => NormalFormOut {
-            refusal: refusal.number(),
-            size_base: 0,
-            elem_size: 0,
-            word: 0,
-        },
     }
 }
 
@@ -50,9 +53,9 @@ fn form_out(a: Result<NormalForm<u64>, Refusal>) -> NormalFormOut
 pub extern "C" fn lukaripe_sizes_agree(first: Trailing, second: Trailing) -> Number
     ensures { result ≡ decision_out (agree_for 64 (trailing_in first) (trailing_in second)) }
 {
-    exports_numbers::decision_out(full::sizes_agree(
-        exports_numbers::trailing_in(first),
-        exports_numbers::trailing_in(second),
+    Number::from(full::sizes_agree(
+        TrailingSliceLayout::from(first),
+        TrailingSliceLayout::from(second),
     ))
 }
 
@@ -61,5 +64,5 @@ pub extern "C" fn lukaripe_sizes_agree(first: Trailing, second: Trailing) -> Num
 pub extern "C" fn lukaripe_normal_form(layout: Trailing) -> NormalFormOut
     ensures { result ≡ form_out (form_for 64 (trailing_in layout)) }
 {
-    form_out(full::normal_form(exports_numbers::trailing_in(layout)))
+    NormalFormOut::from(full::normal_form(TrailingSliceLayout::from(layout)))
 }

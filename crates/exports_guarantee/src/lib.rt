@@ -3,8 +3,8 @@
 #![tactic(auto)]
 
 ghost use Rattle.std.specs.Prelude.{◌≡◌};
-ghost use Rattle.util.specs.View.{number_of};
-ghost use Rattle.util_defs.specs.Refusal.{answered, refused};
+ghost use Rattle.util.specs.View.{says};
+ghost use Rattle.util_defs.specs.Refusal.{answered};
 ghost use Rattle.trailing_defs.specs.Sequence.{same_sequence};
 ghost use Rattle.shift_defs.specs.Mode.{comparison_of};
 ghost use Rattle.shift.specs.View.{mode_of};
@@ -17,6 +17,7 @@ use exports_converts::{CastOut, CastParamsOut};
 use exports_layouts::Layout;
 use exports_numbers::Number;
 use guarantee::Carried;
+use layout::DstLayout;
 use shift::Mode;
 use util::Refusal;
 
@@ -29,36 +30,31 @@ pub struct CarriedOut {
     pub second: CastOut,
 }
 
-// What the four calls of a conversion and of two casts gave.
-fn carried_out(r: Carried<u64>) -> CarriedOut
-    ensures { result ≡ carried_out (answered (answers_in r)) }
-{
-    let computed = r.computed;
-    let count = r.count;
-    let first = r.first;
-    let second = r.second;
-    CarriedOut {
-        computed: exports_converts::params_out(computed),
-        count: exports_numbers::number_out(count),
-        first: exports_converts::cast_out(first),
-        second: exports_converts::cast_out(second),
+// What the four calls of a conversion and of two casts gave; a layout that is refused refuses all four.
+impl From<Result<Carried<u64>, Refusal>> for CarriedOut {
+    ghost from_gives = { λ a out. out ≡ carried_out (says answers_in a) };
+
+    fn from(a: Result<Carried<u64>, Refusal>) -> CarriedOut {
+        let carried = match a {
+            Ok(carried) => carried,
+            Err(refusal) => Carried {
+                computed: Err(refusal),
+                count: Err(refusal),
+                first: Err(refusal),
+                second: Err(refusal),
+            },
+        };
+        CarriedOut {
+            computed: CastParamsOut::from(carried.computed),
+            count: Number::from(carried.count),
+            first: CastOut::from(carried.first),
+            second: CastOut::from(carried.second),
+        }
     }
 }
 
-// A layout that is refused refuses all four.
-fn none_carried(refusal: Refusal) -> CarriedOut
-    ensures { result ≡ carried_out (refused (number_of refusal)) }
-{
-    CarriedOut {
-        computed: exports_converts::params_out(Err(refusal)),
-        count: exports_numbers::number_out(Err(refusal)),
-        first: exports_converts::cast_out(Err(refusal)),
-        second: exports_converts::cast_out(Err(refusal)),
-    }
-}
-
-// Those in a mode. An export has its mode as a constant, which the compiler then drops.
-pub fn convert_and_cast_out(
+// Those calls in a mode. An export has its mode as a constant, which the compiler then drops.
+pub fn convert_and_cast(
     src: Layout,
     dst: Layout,
     src_meta: u64,
@@ -66,21 +62,13 @@ pub fn convert_and_cast_out(
     bytes_len: u64,
     more_len: u64,
     mode: Mode,
-) -> CarriedOut
-    ensures { result ≡ carried_out (with_layout 64 src (λ l. with_layout 64 dst (λ m.
-        answered (answers_of 64 (comparison_of 64 (mode_of mode)) l m src_meta addr bytes_len more_len)))) }
+) -> Result<Carried<u64>, Refusal>
+    ensures { says answers_in result ≡ with_layout 64 src (λ l. with_layout 64 dst (λ m.
+        answered (answers_of 64 (comparison_of 64 (mode_of mode)) l m src_meta addr bytes_len more_len))) }
 {
-    match exports_layouts::layout_in(src) {
-        Ok(l) => match exports_layouts::layout_in(dst) {
-            Ok(m) => {
-                carried_out(guarantee::convert_and_cast(
-                    l, m, src_meta, addr, bytes_len, more_len, mode,
-                ))
-            }
-            Err(refusal) => none_carried(refusal),
-        },
-        Err(refusal) => none_carried(refusal),
-    }
+    let l = DstLayout::try_from(src)?;
+    let m = DstLayout::try_from(dst)?;
+    Ok(guarantee::convert_and_cast(l, m, src_meta, addr, bytes_len, more_len, mode))
 }
 
 // Converts src_meta elements, and casts bytes at addr to the target over two lengths.
@@ -96,5 +84,5 @@ pub extern "C" fn lukaripe_convert_and_cast(
     ensures { result ≡ carried_out (with_layout 64 src (λ l. with_layout 64 dst (λ m.
         answered (answers_of 64 (same_sequence 64) l m src_meta addr bytes_len more_len)))) }
 {
-    convert_and_cast_out(src, dst, src_meta, addr, bytes_len, more_len, Mode::Ported)
+    convert_and_cast(src, dst, src_meta, addr, bytes_len, more_len, Mode::Ported).into()
 }

@@ -26,7 +26,7 @@ pub extern "C" fn lukaripe_convert_and_cast_full(
     ensures { result ≡ carried_out (with_layout 64 src (λ l. with_layout 64 dst (λ m.
         answered (answers_of 64 (sizes_agree 64) l m src_meta addr bytes_len more_len)))) }
 {
-    exports_guarantee::convert_and_cast_out(
+    exports_guarantee::convert_and_cast(
         src,
         dst,
         src_meta,
@@ -34,5 +34,5 @@ pub extern "C" fn lukaripe_convert_and_cast_full(
         bytes_len,
         more_len,
         Mode::Full,
-    )
+    ).into()
 }

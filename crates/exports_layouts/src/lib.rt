@@ -6,7 +6,7 @@ ghost use Rattle.make.specs.Make.{new_zst_for, type_for, slice_for};
 ghost use Rattle.layout_defs.specs.Extend.{extend_for};
 ghost use Rattle.layout.specs.View.{layout_of, layout_says};
 ghost use Rattle.padding_defs.specs.Pad.{pad_for, static_for, dynamic_for};
-ghost use Rattle.record_defs.specs.Record.{words_for, decode_for, encode_words_for, encoded_words_into};
+ghost use Rattle.record_defs.specs.Record.{words_for, words_of, decode_for, encode_words_for, encoded_words_into};
 ghost use Rattle.scalar.specs.Scalar.{target64, scalar_for};
 ghost use Rattle.record.specs.View.{words_in};
 ghost use Rattle.compose_defs.specs.Compose.{ported, compose_for, struct_for};
@@ -50,18 +50,31 @@ pub struct ComposedOut {
     pub layout: Layout,
 }
 
+// The words of a layout that was handed over.
+impl From<Layout> for Words {
+    ghost from_gives = { λ given words. words_in words ≡ words_given given };
+
+    fn from(l: Layout) -> Words {
+        Words {
+            align: l.align,
+            kind: l.kind,
+            size: l.size_base,
+            offset: l.offset,
+            elem_size: l.elem_size,
+            word: l.word,
+        }
+    }
+}
+
 // A layout that was handed over: its words are tested as a record's are.
-pub fn layout_in(l: Layout) -> Result<DstLayout<u64>, Refusal>
-    ensures { layout_says result ≡ words_for 64 (words_given l) }
-{
-    record::layout_from_words(Words {
-        align: l.align,
-        kind: l.kind,
-        size: l.size_base,
-        offset: l.offset,
-        elem_size: l.elem_size,
-        word: l.word,
-    })
+impl TryFrom<Layout> for DstLayout<u64> {
+    type Error = Refusal;
+
+    ghost try_from_gives = { λ given a. layout_says a ≡ words_for 64 (words_given given) };
+
+    fn try_from(l: Layout) -> Result<DstLayout<u64>, Refusal> {
+        record::layout_from_words(Words::from(l))
+    }
 }
 
 // `extend`, by the functions of its two kinds, which the compiler inlines: a call would lend both layouts by memory.
@@ -95,17 +108,27 @@ fn with_member(
     }
 }
 
-// The words of a layout.
-pub fn words_out(words: Words) -> Layout
-    ensures { result ≡ words_out (words_in words) }
-{
-    Layout {
-        align: words.align,
-        kind: words.kind,
-        size_base: words.size,
-        offset: words.offset,
-        elem_size: words.elem_size,
-        word: words.word,
+// Words that come back, and a layout by its words.
+impl From<Words> for Layout {
+    ghost from_gives = { λ words given. given ≡ words_out (words_in words) };
+
+    fn from(words: Words) -> Layout {
+        Layout {
+            align: words.align,
+            kind: words.kind,
+            size_base: words.size,
+            offset: words.offset,
+            elem_size: words.elem_size,
+            word: words.word,
+        }
+    }
+}
+
+impl From<DstLayout<u64>> for Layout {
+    ghost from_gives = { λ l given. given ≡ words_out (words_of (layout_of l)) };
+
+    fn from(l: DstLayout<u64>) -> Layout {
+        Layout::from(record::words_from_layout(l))
     }
 }
 
@@ -124,38 +147,42 @@ fn no_layout() -> Layout
 }
 
 // A layout as it crosses to C.
-#[inline(always)]
-pub fn layout_out(a: Result<DstLayout<u64>, Refusal>) -> LayoutOut
-    ensures { result ≡ layout_out (layout_says a) }
-{
-    match a {
-        Ok(l) => LayoutOut {
-            refusal: 0,
-            layout: words_out(record::words_from_layout(l)),
-        },
-        Err(refusal) => LayoutOut {
-            refusal: refusal.number(),
-            layout: no_layout(),
-        },
+impl From<Result<DstLayout<u64>, Refusal>> for LayoutOut {
+    ghost from_gives = { λ a out. out ≡ layout_out (layout_says a) };
+
+    #[inline(always)]
+    fn from(a: Result<DstLayout<u64>, Refusal>) -> LayoutOut {
+        match a {
+            Ok(l) => LayoutOut {
+                refusal: 0,
+                layout: Layout::from(l),
+            },
+            Err(refusal) => LayoutOut {
+                refusal: refusal.number(),
+                layout: no_layout(),
+            },
+        }
     }
 }
 
 // A composition as it crosses to C.
-#[inline(always)]
-pub fn composed_out(a: Result<DstLayout<u64>, RefusedAt<u64>>) -> ComposedOut
-    ensures { result ≡ composed_out (compose_says a) }
-{
-    match a {
-        Ok(l) => ComposedOut {
-            refusal: 0,
-            place: 0,
-            layout: words_out(record::words_from_layout(l)),
-        },
-        Err(RefusedAt { refusal, place }) => ComposedOut {
-            refusal: refusal.number(),
-            place,
-            layout: no_layout(),
-        },
+impl From<Result<DstLayout<u64>, RefusedAt<u64>>> for ComposedOut {
+    ghost from_gives = { λ a out. out ≡ composed_out (compose_says a) };
+
+    #[inline(always)]
+    fn from(a: Result<DstLayout<u64>, RefusedAt<u64>>) -> ComposedOut {
+        match a {
+            Ok(l) => ComposedOut {
+                refusal: 0,
+                place: 0,
+                layout: Layout::from(l),
+            },
+            Err(RefusedAt { refusal, place }) => ComposedOut {
+                refusal: refusal.number(),
+                place,
+                layout: no_layout(),
+            },
+        }
     }
 }
 
@@ -164,7 +191,7 @@ pub fn composed_out(a: Result<DstLayout<u64>, RefusedAt<u64>>) -> ComposedOut
 pub extern "C" fn lukaripe_new_zst(repr_align: u64) -> LayoutOut
     ensures { result ≡ layout_out (new_zst_for 64 repr_align) }
 {
-    layout_out(make::new_zst(repr_align))
+    LayoutOut::from(make::new_zst(repr_align))
 }
 
 // The layout of a type, its padding not known.
@@ -172,7 +199,7 @@ pub extern "C" fn lukaripe_new_zst(repr_align: u64) -> LayoutOut
 pub extern "C" fn lukaripe_for_type(size: u64, align: u64) -> LayoutOut
     ensures { result ≡ layout_out (type_for 64 false size align) }
 {
-    layout_out(make::for_type(size, align))
+    LayoutOut::from(make::for_type(size, align))
 }
 
 // The layout of a type without padding.
@@ -180,7 +207,7 @@ pub extern "C" fn lukaripe_for_type(size: u64, align: u64) -> LayoutOut
 pub extern "C" fn lukaripe_for_unpadded_type(size: u64, align: u64) -> LayoutOut
     ensures { result ≡ layout_out (type_for 64 true size align) }
 {
-    layout_out(make::for_unpadded_type(size, align))
+    LayoutOut::from(make::for_unpadded_type(size, align))
 }
 
 // The layout of a slice.
@@ -188,7 +215,7 @@ pub extern "C" fn lukaripe_for_unpadded_type(size: u64, align: u64) -> LayoutOut
 pub extern "C" fn lukaripe_for_slice(size: u64, align: u64) -> LayoutOut
     ensures { result ≡ layout_out (slice_for 64 size align) }
 {
-    layout_out(make::for_slice(size, align))
+    LayoutOut::from(make::for_slice(size, align))
 }
 
 // The layout with one member more.
@@ -196,13 +223,9 @@ pub extern "C" fn lukaripe_for_slice(size: u64, align: u64) -> LayoutOut
 pub extern "C" fn lukaripe_extend(layout: Layout, field: Layout, repr_packed: u64) -> LayoutOut
     ensures { result ≡ layout_out (with_layout 64 layout (λ l. with_layout 64 field (λ m. extend_for 64 l m repr_packed))) }
 {
-    match layout_in(layout) {
-        Ok(l) => match layout_in(field) {
-            Ok(m) => layout_out(with_member(l, m, repr_packed)),
-            Err(refusal) => layout_out(Err(refusal)),
-        },
-        Err(refusal) => layout_out(Err(refusal)),
-    }
+    DstLayout::try_from(layout)
+        .and_then(|l| DstLayout::try_from(field).and_then(|m| with_member(l, m, repr_packed)))
+        .into()
 }
 
 // The layout with its closing padding.
@@ -210,10 +233,7 @@ pub extern "C" fn lukaripe_extend(layout: Layout, field: Layout, repr_packed: u6
 pub extern "C" fn lukaripe_pad_to_align(layout: Layout) -> LayoutOut
     ensures { result ≡ layout_out (with_layout 64 layout (λ l. pad_for 64 l)) }
 {
-    match layout_in(layout) {
-        Ok(l) => layout_out(padding::pad_to_align(l)),
-        Err(refusal) => layout_out(Err(refusal)),
-    }
+    LayoutOut::from(DstLayout::try_from(layout).and_then(padding::pad_to_align))
 }
 
 // Whether padding is not known to be absent.
@@ -221,10 +241,7 @@ pub extern "C" fn lukaripe_pad_to_align(layout: Layout) -> LayoutOut
 pub extern "C" fn lukaripe_requires_static_padding(layout: Layout) -> Number
     ensures { result ≡ decision_out (with_layout 64 layout (λ l. static_for 64 l)) }
 {
-    match layout_in(layout) {
-        Ok(l) => exports_numbers::decision_out(needs::requires_static_padding(l)),
-        Err(refusal) => exports_numbers::decision_out(Err(refusal)),
-    }
+    Number::from(DstLayout::try_from(layout).and_then(needs::requires_static_padding))
 }
 
 // Whether padding depends on the count.
@@ -232,10 +249,7 @@ pub extern "C" fn lukaripe_requires_static_padding(layout: Layout) -> Number
 pub extern "C" fn lukaripe_requires_dynamic_padding(layout: Layout) -> Number
     ensures { result ≡ decision_out (with_layout 64 layout (λ l. dynamic_for 64 l)) }
 {
-    match layout_in(layout) {
-        Ok(l) => exports_numbers::decision_out(needs::requires_dynamic_padding(l)),
-        Err(refusal) => exports_numbers::decision_out(Err(refusal)),
-    }
+    Number::from(DstLayout::try_from(layout).and_then(needs::requires_dynamic_padding))
 }
 
 // The layout of a record.
@@ -243,7 +257,7 @@ pub extern "C" fn lukaripe_requires_dynamic_padding(layout: Layout) -> Number
 pub extern "C" fn lukaripe_decode(bytes: &[u8]) -> LayoutOut
     ensures { result ≡ layout_out (decode_for 64 bytes.now) }
 {
-    layout_out(record::decode(bytes))
+    LayoutOut::from(record::decode(bytes))
 }
 
 // The record of a layout into 48 lent bytes: the refusal number, and then no byte has changed.
@@ -252,15 +266,7 @@ pub extern "C" fn lukaripe_encode(layout: Layout, out: &mut [u8]) -> u64
     ensures value { result ≡ refusal_out (encode_words_for 64 (words_given layout) (length out.old)) }
     ensures out_after { out.new ≡ encoded_words_into 64 (words_given layout) out.old }
 {
-    let words = Words {
-        align: layout.align,
-        kind: layout.kind,
-        size: layout.size_base,
-        offset: layout.offset,
-        elem_size: layout.elem_size,
-        word: layout.word,
-    };
-    match record::encode_words(words, out) {
+    match record::encode_words(Words::from(layout), out) {
         Ok(()) => 0,
         Err(refusal) => refusal.number(),
     }
@@ -271,7 +277,7 @@ pub extern "C" fn lukaripe_encode(layout: Layout, out: &mut [u8]) -> u64
 pub extern "C" fn lukaripe_scalar(code: u64) -> LayoutOut
     ensures { result ≡ layout_out (scalar_for target64 code) }
 {
-    layout_out(scalar::scalar(code))
+    LayoutOut::from(scalar::scalar(code))
 }
 
 // The layout of a member list before its closing padding.
@@ -279,7 +285,7 @@ pub extern "C" fn lukaripe_scalar(code: u64) -> LayoutOut
 pub extern "C" fn lukaripe_compose(repr_align: u64, repr_packed: u64, members: &[u8]) -> ComposedOut
     ensures { result ≡ composed_out (compose_for 64 ported repr_align repr_packed members.now) }
 {
-    composed_out(compose::compose(repr_align, repr_packed, members))
+    ComposedOut::from(compose::compose(repr_align, repr_packed, members))
 }
 
 // The layout of a member list.
@@ -291,5 +297,5 @@ pub extern "C" fn lukaripe_for_repr_c_struct(
 ) -> ComposedOut
     ensures { result ≡ composed_out (struct_for 64 ported repr_align repr_packed members.now) }
 {
-    composed_out(compose::for_repr_c_struct(repr_align, repr_packed, members))
+    ComposedOut::from(compose::for_repr_c_struct(repr_align, repr_packed, members))
 }

@@ -52,67 +52,75 @@ pub struct TrailingAnswer {
 }
 
 // A number: an answer of a function of numbers.
-#[inline(always)]
-pub fn number_out(a: Result<u64, Refusal>) -> Number
-    ensures { result ≡ number_out (number_says a) }
-{
-    match a {
-        Ok(value) => Number { refusal: 0, value },
-        Err(refusal) => Number {
-            refusal: refusal.number(),
-            value: 0,
-        },
+impl From<Result<u64, Refusal>> for Number {
+    ghost from_gives = { λ a number. number ≡ number_out (number_says a) };
+
+    #[inline(always)]
+    fn from(a: Result<u64, Refusal>) -> Number {
+        match a {
+            Ok(value) => Number { refusal: 0, value },
+            Err(refusal) => Number {
+                refusal: refusal.number(),
+                value: 0,
+            },
+        }
     }
 }
 
 // A yes or no as a number.
-#[inline(always)]
-pub fn decision_out(a: Result<bool, Refusal>) -> Number
-    ensures { result ≡ decision_out (decision_says a) }
-{
-    match a {
-        Ok(yes) => {
-            if yes {
-                Number {
-                    refusal: 0,
-                    value: 1,
-                }
-            } else {
-                Number {
-                    refusal: 0,
-                    value: 0,
+impl From<Result<bool, Refusal>> for Number {
+    ghost from_gives = { λ a number. number ≡ decision_out (decision_says a) };
+
+    #[inline(always)]
+    fn from(a: Result<bool, Refusal>) -> Number {
+        match a {
+            Ok(yes) => {
+                if yes {
+                    Number {
+                        refusal: 0,
+                        value: 1,
+                    }
+                } else {
+                    Number {
+                        refusal: 0,
+                        value: 0,
+                    }
                 }
             }
+            Err(refusal) => Number {
+                refusal: refusal.number(),
+                value: 0,
+            },
         }
-        Err(refusal) => Number {
-            refusal: refusal.number(),
-            value: 0,
-        },
     }
 }
 
 // A trailing layout that was handed over.
-pub fn trailing_in(t: Trailing) -> TrailingSliceLayout<u64>
-    ensures { trailing_of result ≡ trailing_in t }
-{
-    TrailingSliceLayout {
-        offset: t.offset,
-        elem_size: t.elem_size,
-        size_base: t.size_base,
-        size_rounding_align_and_phase: RoundingAlignAndPhase(t.word),
+impl From<Trailing> for TrailingSliceLayout<u64> {
+    ghost from_gives = { λ t tail. trailing_of tail ≡ trailing_in t };
+
+    fn from(t: Trailing) -> TrailingSliceLayout<u64> {
+        TrailingSliceLayout {
+            offset: t.offset,
+            elem_size: t.elem_size,
+            size_base: t.size_base,
+            size_rounding_align_and_phase: RoundingAlignAndPhase(t.word),
+        }
     }
 }
 
 // The words of a trailing layout.
-fn trailing_of(t: TrailingSliceLayout<u64>) -> Trailing
-    ensures { result ≡ trailing_words (trailing_of t) }
-{
-    let word = t.size_rounding_align_and_phase;
-    Trailing {
-        size_base: t.size_base,
-        offset: t.offset,
-        elem_size: t.elem_size,
-        word: word.0,
+impl From<TrailingSliceLayout<u64>> for Trailing {
+    ghost from_gives = { λ t given. given ≡ trailing_words (trailing_of t) };
+
+    fn from(t: TrailingSliceLayout<u64>) -> Trailing {
+        let word = t.size_rounding_align_and_phase;
+        Trailing {
+            size_base: t.size_base,
+            offset: t.offset,
+            elem_size: t.elem_size,
+            word: word.0,
+        }
     }
 }
 
@@ -128,18 +136,20 @@ fn no_trailing() -> Trailing
     }
 }
 
-fn trailing_out(a: Result<TrailingSliceLayout<u64>, Refusal>) -> TrailingAnswer
-    ensures { result ≡ trailing_out (advance_says a) }
-{
-    match a {
-        Ok(t) => TrailingAnswer {
-            refusal: 0,
-            layout: trailing_of(t),
-        },
-        Err(refusal) => TrailingAnswer {
-            refusal: refusal.number(),
-            layout: no_trailing(),
-        },
+impl From<Result<TrailingSliceLayout<u64>, Refusal>> for TrailingAnswer {
+    ghost from_gives = { λ a out. out ≡ trailing_out (advance_says a) };
+
+    fn from(a: Result<TrailingSliceLayout<u64>, Refusal>) -> TrailingAnswer {
+        match a {
+            Ok(t) => TrailingAnswer {
+                refusal: 0,
+                layout: Trailing::from(t),
+            },
+            Err(refusal) => TrailingAnswer {
+                refusal: refusal.number(),
+                layout: no_trailing(),
+            },
+        }
     }
 }
 
@@ -156,7 +166,7 @@ pub extern "C" fn lukaripe_is_power_of_two(align: u64) -> bool
 pub extern "C" fn lukaripe_padding_needed_for(len: u64, align: u64) -> Number
     ensures { result ≡ number_out (padding_for 64 len align) }
 {
-    number_out(util::padding_needed_for(len, align))
+    Number::from(util::padding_needed_for(len, align))
 }
 
 // The greatest multiple of align that is at most n.
@@ -164,7 +174,7 @@ pub extern "C" fn lukaripe_padding_needed_for(len: u64, align: u64) -> Number
 pub extern "C" fn lukaripe_round_down_to_next_multiple_of_alignment(n: u64, align: u64) -> Number
     ensures { result ≡ number_out (round_down_for 64 n align) }
 {
-    number_out(util::round_down_to_next_multiple_of_alignment(n, align))
+    Number::from(util::round_down_to_next_multiple_of_alignment(n, align))
 }
 
 // The larger of two alignments.
@@ -172,7 +182,7 @@ pub extern "C" fn lukaripe_round_down_to_next_multiple_of_alignment(n: u64, alig
 pub extern "C" fn lukaripe_max(a: u64, b: u64) -> Number
     ensures { result ≡ number_out (max_for 64 a b) }
 {
-    number_out(util::max(a, b))
+    Number::from(util::max(a, b))
 }
 
 // The smaller of two alignments.
@@ -180,7 +190,7 @@ pub extern "C" fn lukaripe_max(a: u64, b: u64) -> Number
 pub extern "C" fn lukaripe_min(a: u64, b: u64) -> Number
     ensures { result ≡ number_out (min_for 64 a b) }
 {
-    number_out(util::min(a, b))
+    Number::from(util::min(a, b))
 }
 
 // The rounding word of an alignment and a phase.
@@ -224,7 +234,7 @@ pub extern "C" fn lukaripe_rounding_components(word: u64) -> Components
 pub extern "C" fn lukaripe_rounding_align(word: u64) -> Number
     ensures { result ≡ number_out (align_for 64 word) }
 {
-    number_out(RoundingAlignAndPhase(word).align())
+    Number::from(RoundingAlignAndPhase(word).align())
 }
 
 // The size offset of a trailing layout.
@@ -232,7 +242,7 @@ pub extern "C" fn lukaripe_rounding_align(word: u64) -> Number
 pub extern "C" fn lukaripe_size_offset(layout: Trailing) -> Number
     ensures { result ≡ number_out (size_offset_for 64 (trailing_in layout)) }
 {
-    number_out(trailing_in(layout).size_offset())
+    Number::from(TrailingSliceLayout::from(layout).size_offset())
 }
 
 // The greatest number of trailing bytes whose size is at most available_bytes.
@@ -240,7 +250,7 @@ pub extern "C" fn lukaripe_size_offset(layout: Trailing) -> Number
 pub extern "C" fn lukaripe_max_trailing_bytes(layout: Trailing, available_bytes: u64) -> Number
     ensures { result ≡ number_out (max_trailing_for 64 (trailing_in layout) available_bytes) }
 {
-    number_out(trailing_in(layout).max_trailing_bytes(available_bytes))
+    Number::from(TrailingSliceLayout::from(layout).max_trailing_bytes(available_bytes))
 }
 
 // The padding after elems elements, modulo 2^64.
@@ -248,7 +258,7 @@ pub extern "C" fn lukaripe_max_trailing_bytes(layout: Trailing, available_bytes:
 pub extern "C" fn lukaripe_padding_for_elems(layout: Trailing, elems: u64) -> Number
     ensures { result ≡ number_out (padding_for_elems 64 (trailing_in layout) elems) }
 {
-    number_out(trailing_in(layout).padding_for_elems(elems))
+    Number::from(TrailingSliceLayout::from(layout).padding_for_elems(elems))
 }
 
 // The size at elems elements; beside 15 the value is the greatest count that has a size.
@@ -256,7 +266,7 @@ pub extern "C" fn lukaripe_padding_for_elems(layout: Trailing, elems: u64) -> Nu
 pub extern "C" fn lukaripe_size_for_elems(layout: Trailing, elems: u64) -> Number
     ensures { result ≡ size_out (size_given 64 (trailing_in layout) elems) }
 {
-    match trailing_in(layout).size_for_elems(elems) {
+    match TrailingSliceLayout::from(layout).size_for_elems(elems) {
         Ok(value) => Number { refusal: 0, value },
         Err(SizeRefusal::NoSize { greatest }) => Number {
             refusal: Refusal::NoSize.number(),
@@ -274,7 +284,7 @@ pub extern "C" fn lukaripe_size_for_elems(layout: Trailing, elems: u64) -> Numbe
 pub extern "C" fn lukaripe_advance(layout: Trailing, bytes: u64, elem_size: u64) -> TrailingAnswer
     ensures { result ≡ trailing_out (advance_for 64 (trailing_in layout) bytes elem_size) }
 {
-    trailing_out(advance::advance(trailing_in(layout), bytes, elem_size))
+    TrailingAnswer::from(advance::advance(TrailingSliceLayout::from(layout), bytes, elem_size))
 }
 
 // Whether two layouts are found to have the same size at every count.
@@ -282,5 +292,8 @@ pub extern "C" fn lukaripe_advance(layout: Trailing, bytes: u64, elem_size: u64)
 pub extern "C" fn lukaripe_has_same_size_sequence(layout: Trailing, other: Trailing) -> Number
     ensures { result ≡ decision_out (same_for 64 (trailing_in layout) (trailing_in other)) }
 {
-    decision_out(sequence::has_same_size_sequence(trailing_in(layout), trailing_in(other)))
+    Number::from(sequence::has_same_size_sequence(
+        TrailingSliceLayout::from(layout),
+        TrailingSliceLayout::from(other),
+    ))
 }

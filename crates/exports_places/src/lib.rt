@@ -28,5 +28,5 @@ pub extern "C" fn lukaripe_for_repr_c_struct_places(
         (gaps_of repr_packed (empty_layout repr_align) (listed 64 members.now)) gaps.old }
 {
     let answer = places::for_repr_c_struct_places(repr_align, repr_packed, members, places, gaps);
-    exports_layouts::composed_out(answer)
+    ComposedOut::from(answer)
 }

@@ -4,29 +4,9 @@
 ghost use Rattle.std.specs.Prelude.{◌≡◌, length};
 ghost use Rattle.scalar.specs.Scalar.{target64};
 ghost use Rattle.rewrite_defs.specs.Rewrite.{longer, shorter, rewrite_for, bytes_for, filled};
-ghost use Rattle.rewrite.specs.View.{rewrite_says};
 ghost use Rattle.exports_short.specs.Shorts.{moved_out};
 
 use exports_short::MovedOut;
-use util::RefusedAt;
-
-// A rewriting as it crosses to C.
-pub fn rewritten_out(a: Result<u64, RefusedAt<u64>>) -> MovedOut
-    ensures { result ≡ moved_out (rewrite_says a) }
-{
-    match a {
-        Ok(written) => MovedOut {
-            refusal: 0,
-            place: 0,
-            written,
-        },
-        Err(RefusedAt { refusal, place }) => MovedOut {
-            refusal: refusal.number(),
-            place,
-            written: 0,
-        },
-    }
-}
 
 // The description with each member count in two bytes, into the front of out.
 #[unsafe(no_mangle)]
@@ -36,7 +16,7 @@ pub extern "C" fn lukaripe_lengthen_counts(description: &[u8], out: &mut [u8]) -
         out.old }
 {
     let answer = rewrite::lengthen_counts(false, description, out);
-    rewritten_out(answer)
+    MovedOut::from(answer)
 }
 
 // The description with each member count in one byte.
@@ -47,5 +27,5 @@ pub extern "C" fn lukaripe_shorten_counts(description: &[u8], out: &mut [u8]) ->
         out.old }
 {
     let answer = rewrite::shorten_counts(false, description, out);
-    rewritten_out(answer)
+    MovedOut::from(answer)
 }

@@ -10,6 +10,7 @@ ghost use Rattle.exports_share.specs.Shares.{share_out};
 
 use exports_numbers::Trailing;
 use share::Share;
+use trailing::TrailingSliceLayout;
 use util::RefusedAt;
 
 // Total padding over total size and the mean size as fractions in lowest terms, the greatest padding and its first index; or
@@ -28,34 +29,36 @@ pub struct PaddingOut {
 }
 
 // The padding over counts as it crosses to C.
-fn share_out(a: Result<Share<u64>, RefusedAt<u64>>) -> PaddingOut
-    ensures { result ≡ share_out (share_says a) }
-{
-    match a {
-        Ok(share) => {
-            let padding = share.padding;
-            let mean = share.mean;
-            PaddingOut {
-                refusal: 0,
-                place: 0,
-                padding_numerator: padding.numerator,
-                padding_denominator: padding.denominator,
-                mean_numerator: mean.numerator,
-                mean_denominator: mean.denominator,
-                greatest: share.greatest,
-                index: share.index,
+impl From<Result<Share<u64>, RefusedAt<u64>>> for PaddingOut {
+    ghost from_gives = { λ a out. out ≡ share_out (share_says a) };
+
+    fn from(a: Result<Share<u64>, RefusedAt<u64>>) -> PaddingOut {
+        match a {
+            Ok(share) => {
+                let padding = share.padding;
+                let mean = share.mean;
+                PaddingOut {
+                    refusal: 0,
+                    place: 0,
+                    padding_numerator: padding.numerator,
+                    padding_denominator: padding.denominator,
+                    mean_numerator: mean.numerator,
+                    mean_denominator: mean.denominator,
+                    greatest: share.greatest,
+                    index: share.index,
+                }
             }
+            Err(RefusedAt { refusal, place }) => PaddingOut {
+                refusal: refusal.number(),
+                place,
+                padding_numerator: 0,
+                padding_denominator: 0,
+                mean_numerator: 0,
+                mean_denominator: 0,
+                greatest: 0,
+                index: 0,
+            },
         }
-        Err(RefusedAt { refusal, place }) => PaddingOut {
-            refusal: refusal.number(),
-            place,
-            padding_numerator: 0,
-            padding_denominator: 0,
-            mean_numerator: 0,
-            mean_denominator: 0,
-            greatest: 0,
-            index: 0,
-        },
     }
 }
 
@@ -64,5 +67,5 @@ fn share_out(a: Result<Share<u64>, RefusedAt<u64>>) -> PaddingOut
 pub extern "C" fn lukaripe_padding_of_counts(layout: Trailing, counts: &[u64]) -> PaddingOut
     ensures { result ≡ share_out (share_for 64 (trailing_in layout) counts.now) }
 {
-    share_out(share::padding_of_counts(exports_numbers::trailing_in(layout), counts))
+    PaddingOut::from(share::padding_of_counts(TrailingSliceLayout::from(layout), counts))
 }

@@ -11,15 +11,16 @@ ghost use Rattle.exports_numbers.specs.Numbers.{decision_out, trailing_in};
 
 use exports_numbers::{Number, Trailing};
 use shift::Mode;
+use trailing::TrailingSliceLayout;
 
 // The match in a mode. An export has its mode as a constant, which the compiler then drops.
 pub fn match_out(src: Trailing, dst: Trailing, dst_base: u64, mode: Mode) -> Number
     ensures { result ≡ decision_out (match_for 64 (comparison_of 64 (mode_of mode)) (trailing_in src) (trailing_in dst)
         dst_base) }
 {
-    exports_numbers::decision_out(shift::size_sequences_match(
-        exports_numbers::trailing_in(src),
-        exports_numbers::trailing_in(dst),
+    Number::from(shift::size_sequences_match(
+        TrailingSliceLayout::from(src),
+        TrailingSliceLayout::from(dst),
         dst_base,
         mode,
     ))

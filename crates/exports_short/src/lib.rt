@@ -22,20 +22,22 @@ pub struct MovedOut {
 }
 
 // A move as it crosses to C.
-pub fn moved_out(a: Result<u64, RefusedAt<u64>>) -> MovedOut
-    ensures { result ≡ moved_out (move_says a) }
-{
-    match a {
-        Ok(written) => MovedOut {
-            refusal: 0,
-            place: 0,
-            written,
-        },
-        Err(RefusedAt { refusal, place }) => MovedOut {
-            refusal: refusal.number(),
-            place,
-            written: 0,
-        },
+impl From<Result<u64, RefusedAt<u64>>> for MovedOut {
+    ghost from_gives = { λ a out. out ≡ moved_out (move_says a) };
+
+    fn from(a: Result<u64, RefusedAt<u64>>) -> MovedOut {
+        match a {
+            Ok(written) => MovedOut {
+                refusal: 0,
+                place: 0,
+                written,
+            },
+            Err(RefusedAt { refusal, place }) => MovedOut {
+                refusal: refusal.number(),
+                place,
+                written: 0,
+            },
+        }
     }
 }
 
@@ -44,7 +46,7 @@ pub fn moved_out(a: Result<u64, RefusedAt<u64>>) -> MovedOut
 pub extern "C" fn lukaripe_decode_short(bytes: &[u8]) -> LayoutOut
     ensures { result ≡ layout_out (decode_short_for bytes.now) }
 {
-    exports_layouts::layout_out(short::decode_short(bytes))
+    LayoutOut::from(short::decode_short(bytes))
 }
 
 // The short record of a layout, into lent bytes.
@@ -53,15 +55,7 @@ pub extern "C" fn lukaripe_encode_short(layout: Layout, out: &mut [u8]) -> u64
     ensures value { result ≡ refusal_out (encode_short_words_for (words_given layout) (length out.old)) }
     ensures out_after { out.new ≡ encoded_short_words_into (words_given layout) out.old }
 {
-    let words = Words {
-        align: layout.align,
-        kind: layout.kind,
-        size: layout.size_base,
-        offset: layout.offset,
-        elem_size: layout.elem_size,
-        word: layout.word,
-    };
-    match short::encode_short_words(words, out) {
+    match short::encode_short_words(Words::from(layout), out) {
         Ok(()) => 0,
         Err(refusal) => refusal.number(),
     }

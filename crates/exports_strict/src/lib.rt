@@ -17,9 +17,5 @@ pub extern "C" fn lukaripe_for_repr_c_struct_strict(
 ) -> ComposedOut
     ensures { result ≡ composed_out (struct_for 64 strict repr_align repr_packed members.now) }
 {
-    exports_layouts::composed_out(compose::for_repr_c_struct_strict(
-        repr_align,
-        repr_packed,
-        members,
-    ))
+    ComposedOut::from(compose::for_repr_c_struct_strict(repr_align, repr_packed, members))
 }

@@ -14,5 +14,5 @@ pub extern "C" fn lukaripe_records_to_short(records: &[u8], out: &mut [u8]) -> M
     ensures out_after { out.new ≡ filled (move_for to_short records.now (length out.old)) out.old }
 {
     let answer = moves::records_to_short(records, out);
-    exports_short::moved_out(answer)
+    MovedOut::from(answer)
 }

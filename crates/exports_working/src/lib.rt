@@ -14,46 +14,13 @@ use exports_layouts::{Layout, LayoutOut};
 use layout::DstLayout;
 use util::Refusal;
 
-// What an addition gives: the refusal, or 0, and the words of the working layout after it.
-#[derive(Clone, Copy)]
-pub struct Worked {
-    pub refusal: u64,
-    pub layout: Layout,
-}
-
-// An addition as it crosses: on a refusal the words are those that were lent.
-pub fn worked_out(lent: Layout, next: Result<DstLayout<u64>, Refusal>) -> Worked
-    ensures { result ≡ worked_out (layout_says next) lent }
-{
-    match next {
-        Ok(layout) => Worked {
-            refusal: 0,
-            layout: exports_layouts::words_out(record::words_from_layout(layout)),
-        },
-        Err(refusal) => Worked {
-            refusal: refusal.number(),
-            layout: lent,
-        },
-    }
-}
-
 // The addition of a member by value, to words by value.
-pub fn add_words(lent: Layout, field: Layout, repr_packed: u64) -> Worked
-    ensures { result ≡ worked_out (working_for 64 repr_packed (words_given lent) (words_for 64 (words_given field))) lent }
+pub fn add_words(lent: Layout, field: Layout, repr_packed: u64) -> Result<DstLayout<u64>, Refusal>
+    ensures { layout_says result ≡ working_for 64 repr_packed (words_given lent) (words_for 64 (words_given field)) }
 {
-    match exports_layouts::layout_in(lent) {
-        Ok(own) => match exports_layouts::layout_in(field) {
-            Ok(member) => { worked_out(lent, working::with_member(own, member, repr_packed)) }
-            Err(refusal) => Worked {
-                refusal: refusal.number(),
-                layout: lent,
-            },
-        },
-        Err(refusal) => Worked {
-            refusal: refusal.number(),
-            layout: lent,
-        },
-    }
+    let own = DstLayout::try_from(lent)?;
+    let member = DstLayout::try_from(field)?;
+    working::with_member(own, member, repr_packed)
 }
 
 // The empty layout that a working layout begins with.
@@ -61,7 +28,7 @@ pub fn add_words(lent: Layout, field: Layout, repr_packed: u64) -> Worked
 pub extern "C" fn lukaripe_working_begin(repr_align: u64) -> LayoutOut
     ensures { result ≡ layout_out (new_zst_for 64 repr_align) }
 {
-    exports_layouts::layout_out(working::begin(repr_align))
+    LayoutOut::from(working::begin(repr_align))
 }
 
 // Adds a member to the lent layout; a refusal leaves it as it was.
@@ -73,7 +40,11 @@ pub extern "C" fn lukaripe_working_add(working: &mut Layout, field: Layout, repr
         ≡ (worked_out (working_for 64 repr_packed (words_given working.old) (words_for 64 (words_given field)))
         working.old).layout }
 {
-    let worked = add_words(*working, field, repr_packed);
-    *working = worked.layout;
-    worked.refusal
+    match add_words(*working, field, repr_packed) {
+        Ok(layout) => {
+            *working = Layout::from(layout);
+            0
+        }
+        Err(refusal) => refusal.number(),
+    }
 }

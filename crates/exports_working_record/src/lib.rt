@@ -2,26 +2,25 @@
 #![tactic(auto)]
 
 ghost use Rattle.std.specs.Prelude.{◌≡◌};
+ghost use Rattle.layout.specs.View.{layout_says};
 ghost use Rattle.record_defs.specs.Record.{decode_for};
 ghost use Rattle.exports_layouts.specs.Layouts.{words_given};
 ghost use Rattle.exports_working.specs.Working.{worked_out, working_for};
 
 use exports_layouts::Layout;
-use exports_working::Worked;
+use layout::DstLayout;
+use util::Refusal;
 
 // The addition of a member by its record, to words by value.
-pub fn add_record_words(lent: Layout, member: &[u8], repr_packed: u64) -> Worked
-    ensures { result ≡ worked_out (working_for 64 repr_packed (words_given lent) (decode_for 64 member.now)) lent }
+pub fn add_record_words(
+    lent: Layout,
+    member: &[u8],
+    repr_packed: u64,
+) -> Result<DstLayout<u64>, Refusal>
+    ensures { layout_says result ≡ working_for 64 repr_packed (words_given lent) (decode_for 64 member.now) }
 {
-    match exports_layouts::layout_in(lent) {
-        Ok(own) => {
-            exports_working::worked_out(lent, working::with_record(own, member, repr_packed))
-        }
-        Err(refusal) => Worked {
-            refusal: refusal.number(),
-            layout: lent,
-        },
-    }
+    let own = DstLayout::try_from(lent)?;
+    working::with_record(own, member, repr_packed)
 }
 
 // Adds a member by its record to the lent layout; a refusal leaves it as it was.
@@ -37,7 +36,11 @@ pub extern "C" fn lukaripe_working_add_record(
         ≡ (worked_out (working_for 64 repr_packed (words_given working.old) (decode_for 64 member.now))
         working.old).layout }
 {
-    let worked = add_record_words(*working, member, repr_packed);
-    *working = worked.layout;
-    worked.refusal
+    match add_record_words(*working, member, repr_packed) {
+        Ok(layout) => {
+            *working = Layout::from(layout);
+            0
+        }
+        Err(refusal) => refusal.number(),
+    }
 }

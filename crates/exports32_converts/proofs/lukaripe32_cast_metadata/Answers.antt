@@ -5,4 +5,4 @@ use Rattle.exports32_numbers.specs.Numbers.{number_out32}
 use Rattle.exports32_converts.proofs.lukaripe32_cast_metadata.Goals as goal
 
 pub returns : goal.returns
-returns c = c.number_out.ensures ∙ ap number_out32 (c.cast_metadata.ensures.answer ∙ ap (λ (q : Params). metadata_for 32 q c.args.src_meta) c.params_in.ensures)
+returns c = c.from-2.ensures ∙ ap number_out32 (c.cast_metadata.ensures.answer ∙ ap (λ (q : Params). metadata_for 32 q c.args.src_meta) c.from.ensures)

@@ -7,4 +7,4 @@ use Rattle.exports32_describe.proofs.lukaripe32_read.Goals as goal
 
 pub returns : goal.returns
 returns c =
-    c.composed_out.ensures ∙ ap composed_out32 (as_read c.read.result ∙ ap as_composed c.read.ensures.answer)
+    c.from.ensures ∙ ap composed_out32 (as_read c.read.result ∙ ap as_composed c.read.ensures.answer)

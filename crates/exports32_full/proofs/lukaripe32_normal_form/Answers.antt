@@ -5,4 +5,4 @@ use Rattle.exports32_full.specs.Forms.{form_out32}
 use Rattle.exports32_full.proofs.lukaripe32_normal_form.Goals as goal
 
 pub returns : goal.returns
-returns c = c.form_out.ensures ∙ ap form_out32 (c.normal_form.ensures.answer ∙ ap (form_for 32) c.trailing_in.ensures)
+returns c = c.from-2.ensures ∙ ap form_out32 (c.normal_form.ensures.answer ∙ ap (form_for 32) c.from.ensures)

@@ -7,5 +7,5 @@ use Rattle.exports32_full.proofs.lukaripe32_sizes_agree.Goals as goal
 
 pub returns : goal.returns
 returns c =
-    c.decision_out.ensures
-    ∙ ap decision_out32 (c.sizes_agree.ensures.answer ∙ ap₂ (λ (s t : Trailing). agree_for 32 s t) c.trailing_in.ensures c.trailing_in-2.ensures)
+    c.from-3.ensures
+    ∙ ap decision_out32 (c.sizes_agree.ensures.answer ∙ ap₂ (λ (s t : Trailing). agree_for 32 s t) c.from.ensures c.from-2.ensures)

@@ -1,6 +1,7 @@
 -- `exports32_guarantee::lukaripe32_convert_and_cast` meets its contract. Assumes nothing.
-
+use mathlib.Core.Path.{ap, ◌∙◌}
+use Rattle.exports32_guarantee.specs.Carried.{carried_out32}
 use Rattle.exports32_guarantee.proofs.lukaripe32_convert_and_cast.Goals as goal
 
 pub returns : goal.returns
-returns c = c.convert_and_cast_out.ensures
+returns c = c.into.ensures ∙ ap carried_out32 c.convert_and_cast.ensures

@@ -4,4 +4,4 @@ use Rattle.exports32_layouts.specs.Layouts.{layout_out32}
 use Rattle.exports32_layouts.proofs.lukaripe32_new_zst.Goals as goal
 
 pub returns : goal.returns
-returns c = c.layout_out.ensures ∙ ap layout_out32 c.new_zst.ensures.answer
+returns c = c.from.ensures ∙ ap layout_out32 c.new_zst.ensures.answer

@@ -8,7 +8,7 @@ use Rattle.exports32_lists.proofs.lukaripe32_for_repr_c_struct_places.Goals as g
 
 pub returns-clause-value : goal.returns-clause-value
 returns-clause-value c =
-    c.composed_out.ensures ∙ ap composed_out32 c.for_repr_c_struct_places-answer.ensures.answer
+    c.from.ensures ∙ ap composed_out32 c.for_repr_c_struct_places-answer.ensures.answer
 
 pub returns-clause-places_after : goal.returns-clause-places_after
 returns-clause-places_after c =

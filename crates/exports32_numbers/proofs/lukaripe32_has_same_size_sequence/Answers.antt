@@ -7,5 +7,5 @@ use Rattle.exports32_numbers.proofs.lukaripe32_has_same_size_sequence.Goals as g
 
 pub returns : goal.returns
 returns c =
-    c.decision_out.ensures
-    ∙ ap decision_out32 (c.has_same_size_sequence.ensures.answer ∙ ap₂ (λ (s t : Trailing). same_for 32 s t) c.trailing_in.ensures c.trailing_in-2.ensures)
+    c.from-3.ensures
+    ∙ ap decision_out32 (c.has_same_size_sequence.ensures.answer ∙ ap₂ (λ (s t : Trailing). same_for 32 s t) c.from.ensures c.from-2.ensures)

@@ -4,4 +4,4 @@ use Rattle.exports32_numbers.specs.Numbers.{number_out32}
 use Rattle.exports32_numbers.proofs.lukaripe32_min.Goals as goal
 
 pub returns : goal.returns
-returns c = c.number_out.ensures ∙ ap number_out32 c.min.ensures.answer
+returns c = c.from.ensures ∙ ap number_out32 c.min.ensures.answer

@@ -6,4 +6,4 @@ use Rattle.exports32_numbers.specs.Numbers.{number_out32}
 use Rattle.exports32_numbers.proofs.lukaripe32_padding_for_elems.Goals as goal
 
 pub returns : goal.returns
-returns c = c.number_out.ensures ∙ ap number_out32 (c.padding_for_elems.ensures.answer ∙ ap (λ (t : Trailing). padding_for_elems 32 t c.args.elems) c.trailing_in.ensures)
+returns c = c.from-2.ensures ∙ ap number_out32 (c.padding_for_elems.ensures.answer ∙ ap (λ (t : Trailing). padding_for_elems 32 t c.args.elems) c.from.ensures)

@@ -6,4 +6,4 @@ use Rattle.exports32_numbers.specs.Numbers.{number_out32}
 use Rattle.exports32_numbers.proofs.lukaripe32_size_offset.Goals as goal
 
 pub returns : goal.returns
-returns c = c.number_out.ensures ∙ ap number_out32 (c.size_offset.ensures.answer ∙ ap (λ (t : Trailing). size_offset_for 32 t) c.trailing_in.ensures)
+returns c = c.from-2.ensures ∙ ap number_out32 (c.size_offset.ensures.answer ∙ ap (λ (t : Trailing). size_offset_for 32 t) c.from.ensures)

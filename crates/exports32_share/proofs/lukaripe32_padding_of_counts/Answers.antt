@@ -6,5 +6,5 @@ use Rattle.exports32_share.specs.Shares.{share_out32}
 use Rattle.exports32_share.proofs.lukaripe32_padding_of_counts.Goals as goal
 
 pub returns : goal.returns
-returns c = c.share_out.ensures
-    ∙ ap share_out32 (c.padding_of_counts32.ensures.answer ∙ ap (λ (t : Trailing). share_for 32 t c.args.counts.now) c.trailing_in.ensures)
+returns c = c.from-2.ensures
+    ∙ ap share_out32 (c.padding_of_counts32.ensures.answer ∙ ap (λ (t : Trailing). share_for 32 t c.args.counts.now) c.from.ensures)

@@ -5,4 +5,4 @@ use Rattle.exports_numbers.specs.Numbers.{number_out}
 use Rattle.exports_converts.proofs.lukaripe_cast_metadata.Goals as goal
 
 pub returns : goal.returns
-returns c = c.number_out.ensures ∙ ap number_out (c.cast_metadata.ensures.answer ∙ ap (λ (q : Params). metadata_for 64 q c.args.src_meta) c.params_in.ensures)
+returns c = c.from-2.ensures ∙ ap number_out (c.cast_metadata.ensures.answer ∙ ap (λ (q : Params). metadata_for 64 q c.args.src_meta) c.from.ensures)

@@ -7,4 +7,4 @@ use Rattle.exports_describe.proofs.lukaripe_read.Goals as goal
 
 pub returns : goal.returns
 returns c =
-    c.composed_out.ensures ∙ ap composed_out (as_read c.read.result ∙ ap as_composed c.read.ensures.answer)
+    c.from.ensures ∙ ap composed_out (as_read c.read.result ∙ ap as_composed c.read.ensures.answer)

@@ -5,4 +5,4 @@ use Rattle.exports_full.specs.Forms.{form_out}
 use Rattle.exports_full.proofs.lukaripe_normal_form.Goals as goal
 
 pub returns : goal.returns
-returns c = c.form_out.ensures ∙ ap form_out (c.normal_form.ensures.answer ∙ ap (form_for 64) c.trailing_in.ensures)
+returns c = c.from-2.ensures ∙ ap form_out (c.normal_form.ensures.answer ∙ ap (form_for 64) c.from.ensures)

@@ -7,5 +7,5 @@ use Rattle.exports_full.proofs.lukaripe_sizes_agree.Goals as goal
 
 pub returns : goal.returns
 returns c =
-    c.decision_out.ensures
-    ∙ ap decision_out (c.sizes_agree.ensures.answer ∙ ap₂ (λ (s t : Trailing). agree_for 64 s t) c.trailing_in.ensures c.trailing_in-2.ensures)
+    c.from-3.ensures
+    ∙ ap decision_out (c.sizes_agree.ensures.answer ∙ ap₂ (λ (s t : Trailing). agree_for 64 s t) c.from.ensures c.from-2.ensures)

@@ -4,4 +4,4 @@ use Rattle.exports_layouts.specs.Layouts.{composed_out}
 use Rattle.exports_layouts.proofs.lukaripe_compose.Goals as goal
 
 pub returns : goal.returns
-returns c = c.composed_out.ensures ∙ ap composed_out c.compose.ensures
+returns c = c.from.ensures ∙ ap composed_out c.compose.ensures

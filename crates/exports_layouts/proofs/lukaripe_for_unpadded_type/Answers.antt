@@ -4,4 +4,4 @@ use Rattle.exports_layouts.specs.Layouts.{layout_out}
 use Rattle.exports_layouts.proofs.lukaripe_for_unpadded_type.Goals as goal
 
 pub returns : goal.returns
-returns c = c.layout_out.ensures ∙ ap layout_out c.for_unpadded_type.ensures.answer
+returns c = c.from.ensures ∙ ap layout_out c.for_unpadded_type.ensures.answer

@@ -7,5 +7,5 @@ use Rattle.exports_numbers.proofs.lukaripe_advance.Goals as goal
 
 pub returns : goal.returns
 returns c =
-    c.trailing_out.ensures
-    ∙ ap trailing_out (c.advance.ensures.answer ∙ ap (λ (t : Trailing). advance_for 64 t c.args.bytes c.args.elem_size) c.trailing_in.ensures)
+    c.from-2.ensures
+    ∙ ap trailing_out (c.advance.ensures.answer ∙ ap (λ (t : Trailing). advance_for 64 t c.args.bytes c.args.elem_size) c.from.ensures)

@@ -7,5 +7,5 @@ use Rattle.exports_numbers.proofs.lukaripe_has_same_size_sequence.Goals as goal
 
 pub returns : goal.returns
 returns c =
-    c.decision_out.ensures
-    ∙ ap decision_out (c.has_same_size_sequence.ensures.answer ∙ ap₂ (λ (s t : Trailing). same_for 64 s t) c.trailing_in.ensures c.trailing_in-2.ensures)
+    c.from-3.ensures
+    ∙ ap decision_out (c.has_same_size_sequence.ensures.answer ∙ ap₂ (λ (s t : Trailing). same_for 64 s t) c.from.ensures c.from-2.ensures)

@@ -6,4 +6,4 @@ use Rattle.exports_numbers.specs.Numbers.{number_out}
 use Rattle.exports_numbers.proofs.lukaripe_max_trailing_bytes.Goals as goal
 
 pub returns : goal.returns
-returns c = c.number_out.ensures ∙ ap number_out (c.max_trailing_bytes.ensures.answer ∙ ap (λ (t : Trailing). max_trailing_for 64 t c.args.available_bytes) c.trailing_in.ensures)
+returns c = c.from-2.ensures ∙ ap number_out (c.max_trailing_bytes.ensures.answer ∙ ap (λ (t : Trailing). max_trailing_for 64 t c.args.available_bytes) c.from.ensures)

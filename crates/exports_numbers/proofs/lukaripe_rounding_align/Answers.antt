@@ -4,4 +4,4 @@ use Rattle.exports_numbers.specs.Numbers.{number_out}
 use Rattle.exports_numbers.proofs.lukaripe_rounding_align.Goals as goal
 
 pub returns : goal.returns
-returns c = c.number_out.ensures ∙ ap number_out c.align.ensures.answer
+returns c = c.from.ensures ∙ ap number_out c.align.ensures.answer

@@ -6,4 +6,4 @@ use Rattle.exports_numbers.specs.Numbers.{number_out}
 use Rattle.exports_numbers.proofs.lukaripe_size_offset.Goals as goal
 
 pub returns : goal.returns
-returns c = c.number_out.ensures ∙ ap number_out (c.size_offset.ensures.answer ∙ ap (λ (t : Trailing). size_offset_for 64 t) c.trailing_in.ensures)
+returns c = c.from-2.ensures ∙ ap number_out (c.size_offset.ensures.answer ∙ ap (λ (t : Trailing). size_offset_for 64 t) c.from.ensures)

@@ -8,7 +8,7 @@ use Rattle.exports_places.proofs.lukaripe_for_repr_c_struct_places.Goals as goal
 
 pub returns-clause-value : goal.returns-clause-value
 returns-clause-value c =
-    c.composed_out.ensures ∙ ap composed_out c.for_repr_c_struct_places-answer.ensures.answer
+    c.from.ensures ∙ ap composed_out c.for_repr_c_struct_places-answer.ensures.answer
 
 pub returns-clause-places_after : goal.returns-clause-places_after
 returns-clause-places_after c =

@@ -4,7 +4,7 @@ use Rattle.exports_short.specs.Shorts.{moved_out}
 use Rattle.exports_rewrite.proofs.lukaripe_lengthen_counts.Goals as goal
 
 pub returns-clause-value : goal.returns-clause-value
-returns-clause-value c = c.rewritten_out.ensures ∙ ap moved_out c.lengthen_counts-answer.ensures.answer
+returns-clause-value c = c.from.ensures ∙ ap moved_out c.lengthen_counts-answer.ensures.answer
 
 pub returns-clause-out_after : goal.returns-clause-out_after
 returns-clause-out_after c = c.lengthen_counts-answer.ensures.bytes

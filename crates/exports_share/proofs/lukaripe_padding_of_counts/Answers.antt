@@ -6,5 +6,5 @@ use Rattle.exports_share.specs.Shares.{share_out}
 use Rattle.exports_share.proofs.lukaripe_padding_of_counts.Goals as goal
 
 pub returns : goal.returns
-returns c = c.share_out.ensures
-    ∙ ap share_out (c.padding_of_counts.ensures.answer ∙ ap (λ (t : Trailing). share_for 64 t c.args.counts.now) c.trailing_in.ensures)
+returns c = c.from-2.ensures
+    ∙ ap share_out (c.padding_of_counts.ensures.answer ∙ ap (λ (t : Trailing). share_for 64 t c.args.counts.now) c.from.ensures)

@@ -9,5 +9,5 @@ use Rattle.exports_shift.proofs.match_out.Goals as goal
 
 pub returns : goal.returns
 returns c =
-    c.decision_out.ensures
-    ∙ ap decision_out (c.size_sequences_match.ensures.answer ∙ ap₂ (λ (s t : Trailing). match_for 64 (comparison_of 64 (mode_of c.args.mode)) s t c.args.dst_base) c.trailing_in.ensures c.trailing_in-2.ensures)
+    c.from-3.ensures
+    ∙ ap decision_out (c.size_sequences_match.ensures.answer ∙ ap₂ (λ (s t : Trailing). match_for 64 (comparison_of 64 (mode_of c.args.mode)) s t c.args.dst_base) c.from.ensures c.from-2.ensures)

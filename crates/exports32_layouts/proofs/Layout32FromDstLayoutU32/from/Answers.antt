@@ -1,4 +1,4 @@
--- `exports32_layouts::words_out` meets its contract. Assumes nothing.
+-- `exports32_layouts::Layout32FromDstLayoutU32::from` meets its contract. Assumes nothing.
 use Rattle.layout.specs.View.{layout_of}
 use mathlib.Core.Path.{ap, ◌∙◌}
 use native.Mathlib.Omega.{arith}
@@ -6,7 +6,7 @@ use Rattle.layout_defs.specs.Layout.{Layout}
 use Rattle.record_defs.specs.Record.{Words, words_of}
 use Rattle.exports32_layouts.specs.Layouts.{low_words, words_out32}
 use Rattle.exports32_layouts.proofs.Narrowed.{low_words_lem}
-use Rattle.exports32_layouts.proofs.words_out.Goals as goal
+use Rattle.exports32_layouts.proofs.Layout32FromDstLayoutU32.from.Goals as goal
 
 pub returns : goal.returns
 returns c =

@@ -1,4 +1,4 @@
--- `exports32_layouts::layout_in` meets its contract. Assumes nothing.
+-- `exports32_layouts::DstLayoutU32TryFromLayout32::try_from` meets its contract. Assumes nothing.
 use mathlib.Core.Path.{sym, ap, ◌∙◌}
 use native.Mathlib.Omega.{arith}
 use Rattle.widths_defs.specs.Low.{mapped}
@@ -6,7 +6,7 @@ use Rattle.widths_layouts_defs.specs.Low.{low_layout}
 use Rattle.record_defs.specs.Record.{words_for}
 use Rattle.exports32_layouts.specs.Layouts.{words_given32}
 use Rattle.exports32_layouts.proofs.Narrowed.{words_low}
-use Rattle.exports32_layouts.proofs.layout_in.Goals as goal
+use Rattle.exports32_layouts.proofs.DstLayoutU32TryFromLayout32.try_from.Goals as goal
 
 pub returns : goal.returns
 returns c =
