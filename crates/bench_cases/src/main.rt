@@ -10,6 +10,9 @@ use util::RefusedAt;
 
 const CASES: usize = 27305;
 
+// As many codes has a case.
+const CODES: usize = 6;
+
 // A struct as the rule has it, and whether no padding was needed so far.
 #[derive(Clone, Copy)]
 struct Rule {
@@ -62,10 +65,6 @@ fn lowered(align: u64, packing: u64) -> u64 {
     if packing < align { packing } else { align }
 }
 
-fn larger(a: u64, b: u64) -> u64 {
-    if a < b { b } else { a }
-}
-
 // With one member more; an unused code adds none.
 fn with_member(r: Rule, code: u64, packing: u64) -> Rule {
     if code > 3 {
@@ -77,25 +76,23 @@ fn with_member(r: Rule, code: u64, packing: u64) -> Rule {
     let place = std::num::wrapping_add_u64(r.size, padding);
     let unpadded = r.unpadded;
     Rule {
-        align: larger(r.align, align),
+        align: r.align.max(align),
         size: std::num::wrapping_add_u64(place, size),
         unpadded: unpadded & (padding == 0),
     }
 }
 
-// The six codes of a case, in turn.
+// The six codes of a case, in turn: the lowest bytes of a number.
 fn members(packing: u64, codes: u64) -> Rule {
-    let none = Rule {
+    let mut rule = Rule {
         align: 1,
         size: 0,
         unpadded: true,
     };
-    let one = with_member(none, codes % 256, packing);
-    let two = with_member(one, codes / 0x100 % 256, packing);
-    let three = with_member(two, codes / 0x1_0000 % 256, packing);
-    let four = with_member(three, codes / 0x100_0000 % 256, packing);
-    let five = with_member(four, codes / 0x1_0000_0000 % 256, packing);
-    with_member(five, codes / 0x100_0000_0000 % 256, packing)
+    for code in &codes.to_le_bytes()[..CODES] {
+        rule = with_member(rule, *code as u64, packing);
+    }
+    rule
 }
 
 // With closing padding.
@@ -124,15 +121,7 @@ fn is_rule(l: DstLayout<u64>, r: Rule) -> bool {
 }
 
 fn agrees(a: Result<DstLayout<u64>, RefusedAt<u64>>, r: Rule) -> bool {
-    match a {
-        Ok(l) => is_rule(l, r),
-        Err(
-            RefusedAt {
-                refusal: _,
-                place: _,
-            },
-        ) => false,
-    }
+    a.is_ok_and(|l| is_rule(l, r))
 }
 
 // Writes a record's words at a place of a list; past its end nothing is written.
@@ -147,19 +136,15 @@ fn put_words(list: &mut [u8], at: usize, w: Words) {
 
 // Writes the record of a scalar; an unused code writes none.
 fn put_member(list: &mut [u8], at: usize, code: u64) {
-    match scalar::scalar(code) {
-        Ok(l) => put_words(list, at, record::words_from_layout(l)),
-        Err(_) => {}
+    if let Ok(l) = scalar::scalar(code) {
+        put_words(list, at, record::words_from_layout(l));
     }
 }
 
 fn put_members(list: &mut [u8], codes: u64) {
-    put_member(list, 0, codes % 256);
-    put_member(list, 48, codes / 0x100 % 256);
-    put_member(list, 96, codes / 0x1_0000 % 256);
-    put_member(list, 144, codes / 0x100_0000 % 256);
-    put_member(list, 192, codes / 0x1_0000_0000 % 256);
-    put_member(list, 240, codes / 0x100_0000_0000 % 256);
+    for (i, code) in codes.to_le_bytes()[..CODES].iter().enumerate() {
+        put_member(list, i * record::RECORD_BYTES, *code as u64);
+    }
 }
 
 // The bytes of so many records.
@@ -181,7 +166,7 @@ fn composed(length: u64, packing: u64, list: &[u8]) -> Result<DstLayout<u64>, Re
 
 // The record of a case: its length, its packing and its codes.
 fn compose_case(case: u64) -> Result<DstLayout<u64>, RefusedAt<u64>> {
-    let mut list = [0u8; 288];
+    let mut list = [0u8; CODES * record::RECORD_BYTES];
     put_members(&mut list, case / 0x1_0000);
     composed(case % 256, case / 256 % 256, &list)
 }
@@ -210,8 +195,8 @@ fn tally_of(buffer: &[u8]) -> Tally {
         differ: 0,
         wrong: 0,
     };
-    for i in 0..CASES {
-        t = with_case(t, words::read_word(buffer, i * 8));
+    for case in buffer.chunks_exact(words::WORD_BYTES).take(CASES) {
+        t = with_case(t, words::read_word(case, 0));
     }
     t
 }
@@ -225,8 +210,6 @@ fn report(rt: &impl Print, bytes: u64, t: Tally) -> io::Result<()> {
 
 fn main(rt: HostRuntime) -> io::Result<()> {
     let mut buffer = [0u8; 218440];
-    match cases::write_cases(6, &mut buffer) {
-        Ok(bytes) => report(&rt, bytes, tally_of(&buffer)),
-        Err(refusal) => report(&rt, refusal.number(), tally_of(&buffer)),
-    }
+    let bytes = cases::write_cases(6, &mut buffer).unwrap_or_else(|refusal| refusal.number());
+    report(&rt, bytes, tally_of(&buffer))
 }

@@ -53,7 +53,11 @@ not_aligned a v = record { number = 12; test = not (eqb (v % a) 0); means = v % 
 
 -- 13: no count has a size of at most the length
 abbrev pub too_small : ℕ → Info → ℕ → Cause
-too_small w i len = record { number = 13; test = ltb len (size_in w i 0); means = (n : ℕ) → IsCount i n → size_in w i n ≤ len → ⊥ }
+too_small w i len = record {
+  number = 13;
+  test = ltb len (size_in w i 0);
+  means = (n : ℕ) → IsCount i n → size_in w i n ≤ len → ⊥;
+}
 
 -- what refuses a cast of a layout that is accepted; all that refuses a cast
 abbrev pub bytes_causes : ℕ → Layout → Side → ℕ → ℕ → List Cause

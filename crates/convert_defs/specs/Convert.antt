@@ -21,7 +21,8 @@ pub data Params : Type 0 where
 -- what the kinds of source and target ask
 pub data KindsConvert (w : ℕ) (same : Comparison) : Info → Info → Params → Type 0 where
   fixed_to_fixed : {a : ℕ} → KindsConvert w same (fixed a) (fixed a) sized_to_sized
-  fixed_to_trailing : {a n : ℕ} {t : Trailing} → ExactCount w t a n → KindsConvert w same (fixed a) (trailing t) (sized_to_unsized n)
+  fixed_to_trailing : {a n : ℕ} {t : Trailing} → ExactCount w t a n
+      → KindsConvert w same (fixed a) (trailing t) (sized_to_unsized n)
   trailing_to_trailing : {s t : Trailing} {d k : ℕ} → IsMultiple s t k → IsShift w same s t d
       → KindsConvert w same (trailing s) (trailing t) (unsized_to_unsized d k)
 

@@ -163,20 +163,18 @@ pub fn read(narrow: bool, description: &[u8]) -> Result<DstLayout<u64>, RefusedA
     ensures answer { read_says result ≡ described_for (bits_of narrow) (target_of narrow) description.now }
     ensures meaning { ReadMeans (bits_of narrow) (target_of narrow) description.now (read_says result) }
 {
-    match part(narrow, description, 0, MAX_DEPTH) {
-        Ok(ReadPart { layout, next }) => {
-            if next == description.len() {
-                Ok(layout)
-            } else {
-                Err(RefusedAt {
-                    refusal: Refusal::BytesLeftOver,
-                    place: next as u64,
-                })
-            }
-        }
-        Err(RefusedAt { refusal, place }) => Err(RefusedAt {
-            refusal,
-            place: place as u64,
-        }),
+    let ReadPart { layout, next } = part(narrow, description, 0, MAX_DEPTH).map_err(
+        |stop| RefusedAt {
+            refusal: stop.refusal,
+            place: stop.place as u64,
+        },
+    )?;
+    if next == description.len() {
+        Ok(layout)
+    } else {
+        Err(RefusedAt {
+            refusal: Refusal::BytesLeftOver,
+            place: next as u64,
+        })
     }
 }

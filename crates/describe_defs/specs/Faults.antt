@@ -76,7 +76,8 @@ module _ (w : ℕ) (target : Target) (s : List ℕ) where
       unknown_tag : {d t b : ℕ} → Comes d t → IsByte s t b → UnknownTag b → PartFault 34 t
       too_deep : {t : ℕ} → Comes zero t → (f : Form) → IsByte s t (tag_byte f) → PartFault 35 t
       count_cut : {d t : ℕ} → Comes (suc d) t → IsByte s t 16 → length s < t + 1 + count_length → PartFault 33 (length s)
-      in_header : {d t k i : ℕ} (c : Counted) → Comes (suc d) t → IsByte s t (struct_tag c) → BadHeader w s t c k i → PartFault k i
+      in_header : {d t k i : ℕ} (c : Counted) → Comes (suc d) t → IsByte s t (struct_tag c) → BadHeader w s t c k i
+          → PartFault k i
       array_of_trailing : {d t n : ℕ} {m : Layout} → Comes (suc d) t → ArrayOf d t n m → IsTrailing m.info → PartFault 36 t
       slice_of_trailing : {d t : ℕ} {m : Layout} → Comes (suc d) t → SliceOf d t m → IsTrailing m.info → PartFault 36 t
       array_passes : {d t n : ℕ} {m : Layout} → Comes (suc d) t → ArrayOf d t n m → M w < element_size m * n → PartFault 37 t

@@ -52,7 +52,8 @@ pub record IsNormal (w : ℕ) (t : Trailing) (f : Form) : Type 0 where
 abbrev pub form : (b word e : ℕ) → Form
 form b n e = record { base = b; word = n; elem = e }
 
--- it, computed (`is_normal_lem`): A is 1 where A divides e, e 0 too. Else A stays; a phase seen as 0 is 0, and the base is the size
+-- it, computed (`is_normal_lem`): A is 1 where A divides e, e 0 too. Else A stays; a phase seen as 0 is 0, and the base is the
+-- size
 -- at 0; any other phase is the least that is seen alike
 unfoldable pub form_of : ℕ → Trailing → Form
 form_of w t =

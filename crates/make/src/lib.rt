@@ -2,9 +2,9 @@
 #![tactic(auto)]
 
 ghost use Rattle.std.specs.Prelude.{◌≡◌, true, false};
-ghost use Rattle.util_defs.specs.Refusal.{unless, Meets};
+ghost use Rattle.util_defs.specs.Refusal.{Meets};
 ghost use Rattle.util_defs.specs.Helpers.{align_causes};
-ghost use Rattle.layout.specs.View.{layout_says, check_says};
+ghost use Rattle.layout.specs.View.{layout_says};
 ghost use Rattle.make.specs.Make.{asked, empty_layout, new_zst_for, type_causes, type_layout, type_for, slice_layout, slice_for};
 
 use layout::{DstLayout, SizeInfo};

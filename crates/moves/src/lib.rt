@@ -60,6 +60,7 @@ fn write_shorts(records: &[u8], out: &mut [u8])
         out.old }
 {
     let count = records.len() / RECORD_BYTES;
+    // By an index: over `chunks_exact` zipped with `chunks_exact_mut` the proof of what is written back did not close.
     for i in 0..count {
         let at = i * RECORD_BYTES;
         let to = i * SHORT_BYTES;

@@ -58,6 +58,7 @@ fn write_records(records: &[u8], out: &mut [u8])
         out.old }
 {
     let count = records.len() / SHORT_BYTES;
+    // By an index: over `chunks_exact` zipped with `chunks_exact_mut` the proof of what is written back did not close.
     for i in 0..count {
         let at = i * SHORT_BYTES;
         let to = i * RECORD_BYTES;

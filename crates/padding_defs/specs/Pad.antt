@@ -1,6 +1,7 @@
 -- Final padding, and what padding a layout needs (document 01, module 4; the last step of the Reference's rule
 -- layout.repr.c.struct.size-field-offset). Assumes nothing.
-use Rattle.std.specs.Prelude.{◌≡◌, Bool, true, false, cond, not, ◌&&◌, ◌||◌, List, [], ◌∷◌, ◌++◌, ◌⊎◌, ℕ, ◌+◌, ◌%◌, ◌≤◌, ◌<◌, eqb, ltb}
+use Rattle.std.specs.Prelude.{◌≡◌, Bool, true, false, cond, not, ◌&&◌, ◌||◌, List, [], ◌∷◌, ◌++◌, ◌⊎◌, ℕ, ◌+◌, ◌%◌, ◌≤◌, ◌<◌}
+use Rattle.std.specs.Prelude.{eqb, ltb}
 use Rattle.util_defs.specs.Width.{M}
 use Rattle.util_defs.specs.Round.{up, down, GreatestMultiple}
 use Rattle.util_defs.specs.Refusal.{Outcome, answered, Cause, unless, Tells}

@@ -12,10 +12,7 @@ pub fn read_full<R: Read>(reader: &mut R, room: &mut [u8]) -> io::Result<usize>
     ensures { IfOk result (λ n. IsPrefixLen n room.new) }
 {
     let mut done = 0;
-    for _ in 0..u64::MAX {
-        if done == room.len() {
-            break;
-        }
+    while done < room.len() {
         let n = reader.read(&mut room[done..])?;
         if n == 0 {
             break;

@@ -1,5 +1,6 @@
 -- Recorded answers: a line is decimal numbers with single spaces between. Assumes nothing.
-use Rattle.std.specs.Prelude.{Bool, true, false, cond, List, [], ◌∷◌, ℕ, zero, suc, ◌+◌, ◌-◌, ◌*◌, ◌++◌, eqb, ltb, drop, get_or, set, replicate}
+use Rattle.std.specs.Prelude.{Bool, true, false, cond, List, [], ◌∷◌, ℕ, zero, suc, ◌+◌, ◌-◌, ◌*◌, ◌++◌, eqb, ltb, drop}
+use Rattle.std.specs.Prelude.{get_or, set, replicate}
 use Rattle.util_defs.specs.Width.{M}
 use Rattle.words.specs.Bytes.{word_bytes}
 

@@ -7,7 +7,7 @@ use native.Mathlib.Omega.{arith}
 use borrow.Author.Tests.{le-leb, lt-leb, eqb-true, leb-true, leb-false}
 use lib.Dec.{eqb, ltb, leb}
 use lib.ListN.{length, take, drop, get_or, set, length-drop}
-use lib.Seq.{sets, drop-cons, take-suc, get_or-drop, length-take-le}
+use lib.Seq.{sets, drop-cons, length-take-le}
 use Rattle.words.proofs.LittleEndian.{sets_sets}
 use Rattle.words.specs.Bytes.{value_of}
 use Rattle.describe_defs.specs.Describe.{by_one, by_two, struct_tag, array, struct, slice, Tag, code, opens, unknown, tag_of}
@@ -111,16 +111,7 @@ module _ {b : Bool} (len turned room : ℕ) where
   pub room_short : b ≡ false → leb (len - turned) room ≡ leb (length_to (way_of b) len turned) room
   room_short e = rw e
 
--- ---- a run of bytes that is copied
-pub copied : (s out₀ out : List ℕ) (at to i : ℕ) → at + i < length s → to + i < length out₀ → out ≡ sets out₀ to (take i (drop at s))
-    → set out (to + i) (get_or s (at + i) 0) ≡ sets out₀ to (take (i + 1) (drop at s))
-copied s out₀ out at to i h g e =
-    let n : i + 1 ≡ suc i = omega arith in
-    let l = length-take-le i (drop at s) (omega (arith, length-drop at s)) in
-    let x : get_or s (at + i) 0 ≡ get_or (drop at s) i 0 = sym (get_or-drop at s i 0) in
-    rw (e, n, x, take-suc (drop at s) i 0 (omega (arith, length-drop at s)))
-    (sets_sets (take i (drop at s)) (get_or (drop at s) i 0 ∷ []) out₀ to (to + i) (ap (λ (k : ℕ). to + k) (sym l)))
-
+-- ---- a byte more behind four
 pub put_more : (l : List ℕ) (to a b c d e : ℕ) → set (sets l to (a ∷ b ∷ c ∷ d ∷ [])) (to + 4) e ≡ sets l to (a ∷ b ∷ c ∷ d ∷ e ∷ [])
 put_more l to a b c d e = sets_sets (a ∷ b ∷ c ∷ d ∷ []) (e ∷ []) l to (to + 4) refl
 

@@ -89,9 +89,7 @@ fn copy(s: &[u8], at: usize, count: usize, out: &mut [u8], to: usize)
     requires { (at + count ≤ length s.now) × (to + count ≤ length out.old) }
     ensures { out.new ≡ sets out.old to (take count (drop at s.now)) }
 {
-    for i in 0..count {
-        out[to + i] = s[at + i];
-    }
+    out[to..to + count].copy_from_slice(&s[at..at + count]);
 }
 
 // Writes a struct's tag, and its alignment, packing and first count byte behind it.

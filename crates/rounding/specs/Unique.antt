@@ -1,4 +1,5 @@
--- A word has its alignment and its phase in one way: what a ghost field, of which there may be one proof, asks for. Assumes nothing.
+-- A word has its alignment and its phase in one way: what a ghost field, of which there may be one proof, asks for. Assumes
+-- nothing.
 use Rattle.std.specs.Prelude.{◌≡◌, ℕ, suc, ◌+◌, ◌^◌, ◌<◌, ◌≤◌}
 use mathlib.Core.Path.{sym, ◌∙◌}
 use mathlib.Core.HLevel.{is_prop→PathP}

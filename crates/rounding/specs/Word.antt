@@ -15,7 +15,8 @@ unfoldable pub highest_bit : ℕ → ℕ → ℕ
 highest_bit zero n = 0
 highest_bit (suc k) n = cond (leb (2 ^ k) n) (2 ^ k) (highest_bit k n)
 
--- the alignment and the phase of a word of w bits (`parts_of_lem`: these are its parts; `same_align`, `same_phase`: it has no others)
+-- the alignment and the phase of a word of w bits (`parts_of_lem`: these are its parts; `same_align`, `same_phase`: it has no
+-- others)
 abbrev pub align_of : ℕ → ℕ → ℕ
 align_of w n = highest_bit w n
 

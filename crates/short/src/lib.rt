@@ -1,7 +1,7 @@
 // Records of 32 bytes, short ones (document 02, request 6): the form of a layout's record without the bytes that are always 0.
 #![tactic(auto)]
 
-ghost use Rattle.std.specs.Prelude.{◌≡◌, true, ◌≤◌, ◌<◌, ◌^◌, leb, length};
+ghost use Rattle.std.specs.Prelude.{◌≡◌, true, ◌≤◌, ◌<◌, leb, length};
 ghost use Rattle.std.proofs.lemmas.List.Edits.{sets};
 ghost use Rattle.util_defs.specs.Power.{power_of_two};
 ghost use Rattle.util_defs.specs.Width.{M};

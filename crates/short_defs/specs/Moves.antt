@@ -59,7 +59,8 @@ moved_all v (suc n) s = v.moved (take v.from s) ++ moved_all v n (drop v.from s)
 -- a move: "lengths first, then records in turn, whole list or nothing". It gives the bytes that are written
 unfoldable pub move_for : Way → List ℕ → ℕ → Placed (List ℕ)
 move_for v s m =
-    at_place 0 (judged (length_causes v s m)) (λ _. go_on (tested v 0 (count_of v s) s) (λ _. reached (moved_all v (count_of v s) s)))
+    at_place 0 (judged (length_causes v s m))
+    (λ _. go_on (tested v 0 (count_of v s) s) (λ _. reached (moved_all v (count_of v s) s)))
 
 -- "The answer .. is the number of bytes written"
 abbrev pub moved_for : Way → List ℕ → ℕ → Placed ℕ

@@ -1,12 +1,14 @@
 -- Records of 32 bytes, short ones (document 02, request 6): size or base, o and e as 8 bytes each, the rounding word narrowed to
 -- 4, the alignment's power 1, the kind 1, two zero bytes, all little-endian. They have no width: their numbers are those of
 -- 64-bit records. Assumes nothing.
-use Rattle.std.specs.Prelude.{◌≡◌, cond, not, ◌||◌, List, [], ◌∷◌, ◌++◌, ◌⊎◌, ℕ, zero, suc, ◌+◌, ◌*◌, ◌^◌, ◌<◌, eqb, ltb, length, take, drop}
+use Rattle.std.specs.Prelude.{◌≡◌, cond, not, ◌||◌, List, [], ◌∷◌, ◌++◌, ◌⊎◌, ℕ, zero, suc, ◌+◌, ◌*◌, ◌^◌, ◌<◌, eqb, ltb}
+use Rattle.std.specs.Prelude.{length, take, drop}
 use Rattle.util_defs.specs.Width.{M}
 use Rattle.util_defs.specs.Refusal.{Outcome, Cause, unless}
 use Rattle.layout_defs.specs.Layout.{Layout, layout_causes}
 use Rattle.words.specs.Bytes.{word_length, value_of, bytes_of, word_at, word_bytes}
-use Rattle.record_defs.specs.Record.{Words, words_of, words_layout, kind_above, later_word, trailing_word_zero, words_causes, after}
+use Rattle.record_defs.specs.Record.{Words, words_of, words_layout, kind_above, later_word, trailing_word_zero, words_causes}
+use Rattle.record_defs.specs.Record.{after}
 
 -- the fields of a short record
 pub record Short : Type 0 where

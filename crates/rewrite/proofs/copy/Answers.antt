@@ -1,32 +1,25 @@
 -- `rewrite::copy` meets its contract. Assumes nothing.
-use mathlib.Core.Path.{◌≡◌, refl, ap, ◌∙◌}
-use Prim.Native.Nat.{ℕ, ◌-◌}
+use mathlib.Core.Path.{◌≡◌, sym, ap, ap₂, ◌∙◌}
+use mathlib.Core.List.{List, ◌++◌, append_assoc}
+use Prim.Native.Nat.{ℕ, ◌+◌, ◌-◌, ◌≤◌}
 use native.Mathlib.Omega.{arith}
 use lib.ListN.{length, take, drop}
-use lib.Seq.{sets, length-sets}
-use Rattle.rewrite.proofs.Ways.{copied}
+use lib.Seq.{sets}
+use Rattle.std.proofs.lemmas.List.{length-take-le, length-drop, drop-drop}
+use Rattle.std.proofs.lemmas.List.Edits.{sets-eq}
 use Rattle.rewrite.proofs.copy.Goals as goal
 
-pub loop-i-init : goal.loop-i-init
-loop-i-init c = (omega arith, refl)
-
-pub overflow_add-out : goal.overflow_add-out
-overflow_add-out c = omega (arith, c.loop-i-test.true, c.requires.0)
-
-pub bounds-s-at : goal.bounds-s-at
-bounds-s-at c = omega (arith, c.loop-i-test.true, c.requires.0)
-
-pub overflow_add-out-in-loop-i : goal.overflow_add-out-in-loop-i
-overflow_add-out-in-loop-i c = omega (arith, c.loop-i-test.true, c.requires.1)
-
-pub bounds-out-to : goal.bounds-out-to
-bounds-out-to c = omega (arith, c.loop-i-test.true, c.requires.1, ap length c.loop-i.invariant.1, length-sets c.args.out.now c.args.to (take c.loop-i.i (drop c.args.at c.args.s.now)))
-
-pub loop-i-preserved : goal.loop-i-preserved
-loop-i-preserved c = (omega (arith, c.loop-i-test.true), copied c.args.s.now c.args.out.now c.loop-i.out c.args.at c.args.to c.loop-i.i (omega (arith, c.loop-i-test.true, c.requires.0)) (omega (arith, c.loop-i-test.true, c.requires.1)) c.loop-i.invariant.1)
-
-pub shape_of-out : goal.shape_of-out
-shape_of-out c = ap length c.loop-i.invariant.1 ∙ length-sets c.args.out.now c.args.to (take c.loop-i.i (drop c.args.at c.args.s.now))
+-- a part of a list replaced by as many bytes
+replaced : (to k : ℕ) (out v y : List ℕ) → k ≡ length v → y ≡ v → to + length v ≤ length out → take to out ++ (y ++ drop k (drop to out)) ≡ sets out to v
+replaced to k out v y n e h =
+    ap₂ (λ (z : List ℕ) (j : ℕ). take to out ++ (z ++ drop j (drop to out))) e n
+    ∙ ap (λ (z : List ℕ). take to out ++ (v ++ z)) (drop-drop (length v) to out)
+    ∙ sym (append_assoc (take to out) v (drop (to + length v) out)) ∙ sym (sets-eq v out to h)
 
 pub returns : goal.returns
-returns c = let e : c.loop-i.i ≡ c.args.count = omega (arith, c.loop-i.invariant.0, c.loop-i-test.false) in c.loop-i.invariant.1 ∙ ap (λ (n : ℕ). sets c.args.out.now c.args.to (take n (drop c.args.at c.args.s.now))) e
+returns c =
+    let s = c.args.s.now in
+    let v = take c.args.count (drop c.args.at s) in
+    let l : length v ≡ c.args.count = length-take-le c.args.count (drop c.args.at s) (omega (arith, c.requires.0, length-drop c.args.at s)) in
+    replaced c.args.to (c.args.to + c.args.count - c.args.to) c.args.out.now v c.copy_from_slice.new.self (omega (arith, l))
+    (c.copy_from_slice.ensures.after ∙ ap (λ (k : ℕ). take k (drop c.args.at s)) (omega arith)) (omega (arith, l, c.requires.1))

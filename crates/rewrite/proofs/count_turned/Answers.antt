@@ -1,6 +1,6 @@
 -- `rewrite::count_turned` meets its contract. Assumes nothing.
 use mathlib.Core.Path.{sym, subst, ◌∙◌}
-use Prim.Native.Nat.{◌+◌, ◌-◌}
+use Prim.Native.Nat.{◌+◌}
 use native.Mathlib.Omega.{arith}
 use Rattle.rewrite.specs.View.{way_of}
 use Rattle.rewrite.proofs.Loops.{Counting, counting_inside, count_begins, count_turned_on, count_kept_on, count_stops, count_ends}

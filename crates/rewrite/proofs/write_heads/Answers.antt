@@ -1,5 +1,4 @@
 -- `rewrite::write_heads` meets its contract. Assumes nothing.
-use Prim.Native.Nat.{◌-◌}
 use native.Mathlib.Omega.{arith}
 use Rattle.rewrite.specs.View.{way_of}
 use Rattle.rewrite.proofs.Loops.{write_begins, write_room, write_on, write_length, write_ends}

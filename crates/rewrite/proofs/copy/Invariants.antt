@@ -1,9 +1,0 @@
--- The loops of the function.
-use mathlib.Core.Path.{◌≡◌}
-use Prim.Native.Nat.{◌≤◌}
-use lib.ListN.{take, drop}
-use lib.Seq.{sets}
-use Rattle.rewrite.proofs.copy.Given as goal
-
-abbrev pub invariant-loop-i : goal.invariant-loop-i
-invariant-loop-i l = (l.i ≤ l.count) × (l.out ≡ sets l.initial.out l.to (take l.i (drop l.at l.s)))
