@@ -1,8 +1,9 @@
 -- What the answers of this crate say. Assumes nothing.
-use Rattle.std.specs.Prelude.{Bool, true, false, Option, Some, None}
+use Rattle.std.specs.Prelude.{Bool, true, false, cond, List, ℕ, ◌-◌, ◌++◌, ltb, length, replicate, Option, Some, None}
 use Rattle.recorded_defs.specs.Lines as lines
 use Rattle.recorded.specs.declared.Number.{Number}
 use Rattle.recorded.specs.declared.Line.{Line}
+use Rattle.recorded.specs.declared.Told.{Told}
 use Rattle.recorded.specs.declared.Tally.{Tally}
 
 abbrev pub number_says : Option Number → lines.Number
@@ -17,3 +18,12 @@ line_says None = lines.unread
 abbrev pub counted : Tally → Bool → Tally
 counted t true = record { lines = lines.one_more t.lines; differ = t.differ }
 counted t false = record { lines = lines.one_more t.lines; differ = lines.one_more t.differ }
+
+-- an answer after so many inputs: its numbers, and 0 after them; of one with more than 13, with which no line agrees, how many
+abbrev pub told_of : ℕ → List ℕ → Told
+told_of inputs ns =
+    record {
+      inputs = inputs;
+      length = length ns;
+      numbers = cond (ltb 13 (length ns)) (replicate 13 0) (ns ++ replicate (13 - length ns) 0);
+    }

@@ -6,7 +6,7 @@ ghost use Rattle.std.specs.Prelude.{IfOk, IfSome, ◌≡◌, false, ◌+◌, ◌
 ghost use Rattle.io.specs.Counts.{IsPrefixLen};
 ghost use Rattle.recorded_defs.specs.Lines.{digit_of, end_of, number_from, line_at, same_from, agrees_with, one_more, bytes_from};
 ghost use Rattle.std.specs.Fn.{FnReturnsAt};
-ghost use Rattle.recorded.specs.View.{number_says, line_says, counted};
+ghost use Rattle.recorded.specs.View.{number_says, line_says, counted, told_of};
 ghost use Rattle.recorded.specs.Tallies.{Tallies, TalliesSome};
 
 use std::io::ErrorKind;
@@ -45,6 +45,24 @@ pub struct Told {
     pub inputs: usize,
     pub length: usize,
     pub numbers: [u64; LENGTH],
+}
+
+impl Told {
+    // The numbers of an answer, behind so many inputs. No line agrees with more than LENGTH of them.
+    pub fn new(inputs: usize, answer: &[u64]) -> Told
+        ensures { result ≡ told_of inputs answer.now }
+    {
+        let length = answer.len();
+        let mut numbers = [0; LENGTH];
+        if length <= LENGTH {
+            numbers[..length].copy_from_slice(answer);
+        }
+        Told {
+            inputs,
+            length,
+            numbers,
+        }
+    }
 }
 
 // The most bytes that a line lends: eight records.
@@ -196,9 +214,10 @@ fn read_line(text: &[u8], from: usize) -> Option<Line>
     None
 }
 
-// How many lines the text has, and how many of them differ from what the calls tell. Behind one that does not read as numbers
-// nothing is read. Lines have lengths of their own, so that no `for` goes from one to the next.
-pub fn replay<F: Fn(&[u64; WIDTH]) -> Told>(text: &[u8], call: F) -> Tally
+// How many lines the text has, and how many of them differ from what the calls tell, as one does whose number is no
+// function's, of which they tell nothing. Behind a line that does not read as numbers nothing is read. Lines have lengths of
+// their own, so that no `for` goes from one to the next.
+pub fn replay<F: Fn(&[u64; WIDTH]) -> Option<Told>>(text: &[u8], call: F) -> Tally
     requires { F.IsAlwaysCallable call }
     ensures { Tallies (FnReturnsAt F.Fn call) text.now 0 (record { lines = 0; differ = 0 }) result }
 {
@@ -212,15 +231,15 @@ pub fn replay<F: Fn(&[u64; WIDTH]) -> Told>(text: &[u8], call: F) -> Tally
             return tally.with_line(false);
         };
         let numbers = line.numbers;
-        let told = call(&numbers);
-        tally = tally.with_line(agrees(&numbers, line.count, told));
+        let agrees = call(&numbers).is_some_and(|told| agrees(&numbers, line.count, told));
+        tally = tally.with_line(agrees);
         at = line.next;
     }
     tally
 }
 
 // The same of the file of that name. One that cannot be read is told of on standard error, and has no lines.
-pub fn replay_file<R: Files + Eprint, F: Fn(&[u64; WIDTH]) -> Told>(
+pub fn replay_file<R: Files + Eprint, F: Fn(&[u64; WIDTH]) -> Option<Told>>(
     rt: &R,
     name: &str,
     call: F,

@@ -8,6 +8,7 @@ use std::io;
 
 // The answers of equal sizes and forms and of the padding over counts stand in files of their own. The lines of
 // `wrong` are wrong on purpose, in one number or in shape: a replay that misses one writes another count.
+// A program has a `main` of its own: but for its files it is `recorded::replay_file`.
 fn main(rt: HostRuntime) -> io::Result<()> {
     for name in ["answers", "full", "share", "wrong"] {
         let tally = recorded::replay_file(&rt, name, call)?;

@@ -1,16 +1,12 @@
 // A function for each recorded function: it takes the inputs from the line and tells the answer as a line has it.
 // The number of a function and the order of its inputs are those of rust/differential/recorded.rs and its rows; so is the way
 // bytes stand in a line, their length and then words.
-ghost use Rattle.std.specs.Prelude.{◌≤◌, ◌<◌, length};
+ghost use Rattle.std.specs.Prelude.{◌≤◌, length};
 
 use exports_layouts::{ComposedOut, Layout, LayoutOut};
-use exports_numbers::Number;
 use exports_short::MovedOut;
-use exports_working::Worked;
-use recorded::{BYTES, LENGTH, Told, WIDTH};
-
-// The greatest length of a lent slice, more than there are members.
-const SLICE: usize = 16;
+use recorded::{BYTES, Told, WIDTH};
+use told::{FromLine, SLICE, Tells, chosen, moved_told, short_told};
 
 // The output of short records and of moves is the front of these bytes, which are 165 before. No line agrees with a longer
 // output, nor with one that is looked at from a later word on.
@@ -18,100 +14,14 @@ const AREA: usize = 512;
 
 const LAST_SEEN: usize = 54;
 
-// No call: no line agrees with it.
-fn tell_none() -> Told {
-    Told {
-        inputs: WIDTH,
-        length: 0,
-        numbers: [0; LENGTH],
-    }
-}
-
-fn tell_number(inputs: usize, n: Number) -> Told {
-    Told {
-        inputs,
-        length: 2,
-        numbers: [n.refusal, n.value, 0, 0, 0, 0, 0, 0, 0, 0, 0, 0, 0],
-    }
-}
-
-fn tell_layout(inputs: usize, a: LayoutOut) -> Told {
-    let l = a.layout;
-    Told {
-        inputs,
-        length: 7,
-        numbers: [
-            a.refusal,
-            l.align,
-            l.kind,
-            l.size_base,
-            l.offset,
-            l.elem_size,
-            l.word,
-            0,
-            0,
-            0,
-            0,
-            0,
-            0,
-        ],
-    }
-}
-
-fn tell_composed(inputs: usize, a: ComposedOut) -> Told {
-    let l = a.layout;
-    Told {
-        inputs,
-        length: 8,
-        numbers: [
-            a.refusal,
-            a.place,
-            l.align,
-            l.kind,
-            l.size_base,
-            l.offset,
-            l.elem_size,
-            l.word,
-            0,
-            0,
-            0,
-            0,
-            0,
-        ],
-    }
-}
-
-// The layout that the inputs start with, and one behind it.
-fn first(line: &[u64; WIDTH]) -> Layout {
-    Layout {
-        align: line[1],
-        kind: line[2],
-        size_base: line[3],
-        offset: line[4],
-        elem_size: line[5],
-        word: line[6],
-    }
-}
-
-fn second(line: &[u64; WIDTH]) -> Layout {
-    Layout {
-        align: line[7],
-        kind: line[8],
-        size_base: line[9],
-        offset: line[10],
-        elem_size: line[11],
-        word: line[12],
-    }
-}
-
-fn decode(line: &[u64; WIDTH]) -> Told {
+fn decode(line: &[u64; WIDTH]) -> Option<Told> {
     let length = line[1] as usize;
     if length > BYTES {
-        return tell_none();
+        return None;
     }
     let bytes = recorded::bytes_from(line, 2);
     let answer = exports_layouts::lukaripe_decode(&bytes[..length]);
-    tell_layout(1 + (length + 7) / 8, answer)
+    Some(answer.told(1 + (length + 7) / 8))
 }
 
 // What is read back from the bytes that were written. On a refusal they are still those that were lent, which read as no record.
@@ -125,14 +35,14 @@ fn encoded(l: Layout, out: &mut [u8]) -> LayoutOut {
     LayoutOut { refusal, layout }
 }
 
-fn encode(line: &[u64; WIDTH]) -> Told {
+fn encode(line: &[u64; WIDTH]) -> Option<Told> {
     let length = line[7] as usize;
     if length > BYTES {
-        return tell_none();
+        return None;
     }
     let mut bytes = [0u8; BYTES];
-    let answer = encoded(first(line), &mut bytes[..length]);
-    tell_layout(7, answer)
+    let answer = encoded(Layout::at(line, 1), &mut bytes[..length]);
+    Some(answer.told(7))
 }
 
 fn composition(number: u64, repr_align: u64, repr_packed: u64, members: &[u8]) -> ComposedOut {
@@ -143,22 +53,22 @@ fn composition(number: u64, repr_align: u64, repr_packed: u64, members: &[u8]) -
     }
 }
 
-fn composed(line: &[u64; WIDTH]) -> Told {
+// Not shared with the other width: what it calls calls exports that have a name at each.
+fn composed(line: &[u64; WIDTH]) -> Option<Told> {
     let length = line[3] as usize;
     if length > BYTES {
-        return tell_none();
+        return None;
     }
     let bytes = recorded::bytes_from(line, 4);
     let answer = composition(line[0], line[1], line[2], &bytes[..length]);
-    tell_composed(3 + (length + 7) / 8, answer)
+    Some(answer.told(3 + (length + 7) / 8))
 }
 
 fn tell_placed(inputs: usize, a: ComposedOut, place: u64, gap: u64) -> Told {
     let l = a.layout;
-    Told {
+    Told::new(
         inputs,
-        length: 10,
-        numbers: [
+        &[
             a.refusal,
             a.place,
             l.align,
@@ -169,38 +79,24 @@ fn tell_placed(inputs: usize, a: ComposedOut, place: u64, gap: u64) -> Told {
             l.word,
             place,
             gap,
-            0,
-            0,
-            0,
         ],
-    }
-}
-
-// The index that a line asks for, among the members.
-fn chosen(at: u64, count: usize) -> usize
-    ensures { result < 16 }
-{
-    if count == 0 {
-        return 0;
-    }
-    let index = at as usize % count;
-    if index < SLICE { index } else { 0 }
+    )
 }
 
 // The place of one member and the gap before it, of members that are fewer than the slices can hold. On a refusal they are
 // still the zeros that were lent.
-fn placed(line: &[u64; WIDTH]) -> Told {
+fn placed(line: &[u64; WIDTH]) -> Option<Told> {
     let places_length = line[3] as usize;
     let gaps_length = line[4] as usize;
     let length = line[6] as usize;
     if length > BYTES {
-        return tell_none();
+        return None;
     }
     if places_length > SLICE {
-        return tell_none();
+        return None;
     }
     if gaps_length > SLICE {
-        return tell_none();
+        return None;
     }
     let bytes = recorded::bytes_from(line, 7);
     let mut places = [0u64; SLICE];
@@ -213,82 +109,44 @@ fn placed(line: &[u64; WIDTH]) -> Told {
         &mut gaps[..gaps_length],
     );
     let at = chosen(line[5], length / 48);
-    tell_placed(6 + (length + 7) / 8, answer, places[at], gaps[at])
+    let inputs = 6 + (length + 7) / 8;
+    Some(tell_placed(inputs, answer, places[at], gaps[at]))
 }
 
-fn tell_worked(inputs: usize, a: Worked) -> Told {
-    let l = a.layout;
-    Told {
-        inputs,
-        length: 7,
-        numbers: [
-            a.refusal,
-            l.align,
-            l.kind,
-            l.size_base,
-            l.offset,
-            l.elem_size,
-            l.word,
-            0,
-            0,
-            0,
-            0,
-            0,
-            0,
-        ],
-    }
+// The words of the working layout after an addition, on a refusal those that were lent.
+fn tell_worked(inputs: usize, lent: Layout, out: LayoutOut) -> Told {
+    let layout = if out.refusal == 0 { out.layout } else { lent };
+    let refusal = out.refusal;
+    LayoutOut { refusal, layout }.told(inputs)
 }
 
-// The words of the working layout after an addition, on a refusal those that were lent. The functions by value are called, which
-// the exports are thin calls over: to lend a struct takes a proof by hand. tools/wrapper-test lends it.
+// The functions by value are called, which the exports are thin calls over: to lend a struct takes a proof by hand.
+// tools/wrapper-test lends it.
 fn worked(line: &[u64; WIDTH]) -> Told {
-    tell_worked(
-        13,
-        exports_working::add_words(first(line), second(line), line[13]),
-    )
+    let lent = Layout::at(line, 1);
+    let next = exports_working::add_words(lent, Layout::at(line, 7), line[13]);
+    tell_worked(13, lent, LayoutOut::from(next))
 }
 
-fn worked_by_record(line: &[u64; WIDTH]) -> Told {
+fn worked_by_record(line: &[u64; WIDTH]) -> Option<Told> {
     let length = line[8] as usize;
     if length > BYTES {
-        return tell_none();
+        return None;
     }
     let bytes = recorded::bytes_from(line, 9);
-    let answer = exports_working_record::add_record_words(first(line), &bytes[..length], line[7]);
-    tell_worked(8 + (length + 7) / 8, answer)
+    let lent = Layout::at(line, 1);
+    let next = exports_working_record::add_record_words(lent, &bytes[..length], line[7]);
+    Some(tell_worked(8 + (length + 7) / 8, lent, LayoutOut::from(next)))
 }
 
-fn decode_short(line: &[u64; WIDTH]) -> Told {
+fn decode_short(line: &[u64; WIDTH]) -> Option<Told> {
     let length = line[1] as usize;
     if length > BYTES {
-        return tell_none();
+        return None;
     }
     let bytes = recorded::bytes_from(line, 2);
     let answer = exports_short::lukaripe_decode_short(&bytes[..length]);
-    tell_layout(1 + (length + 7) / 8, answer)
-}
-
-// The first words of the area, on a refusal too.
-fn tell_short(inputs: usize, refusal: u64, area: &[u8]) -> Told {
-    Told {
-        inputs,
-        length: 6,
-        numbers: [
-            refusal,
-            words::read_word(area, 0),
-            words::read_word(area, 8),
-            words::read_word(area, 16),
-            words::read_word(area, 24),
-            words::read_word(area, 32),
-            0,
-            0,
-            0,
-            0,
-            0,
-            0,
-            0,
-        ],
-    }
+    Some(answer.told(1 + (length + 7) / 8))
 }
 
 // The short record into the front of the area.
@@ -296,41 +154,16 @@ fn encoded_short(l: Layout, area: &mut [u8], room: usize) -> Told
     requires { room ≤ length area.old }
 {
     let refusal = exports_short::lukaripe_encode_short(l, &mut area[..room]);
-    tell_short(7, refusal, area)
+    short_told(7, refusal, area)
 }
 
-fn encode_short(line: &[u64; WIDTH]) -> Told {
+fn encode_short(line: &[u64; WIDTH]) -> Option<Told> {
     let length = line[7] as usize;
     if length > AREA {
-        return tell_none();
+        return None;
     }
     let mut area = [165u8; AREA];
-    encoded_short(first(line), &mut area, length)
-}
-
-// Ten words of the area, from this byte on, on a refusal too.
-fn tell_moved(inputs: usize, a: MovedOut, area: &[u8], at: usize) -> Told
-    requires { at ≤ 432 }
-{
-    Told {
-        inputs,
-        length: 13,
-        numbers: [
-            a.refusal,
-            a.place,
-            a.written,
-            words::read_word(area, at),
-            words::read_word(area, at + 8),
-            words::read_word(area, at + 16),
-            words::read_word(area, at + 24),
-            words::read_word(area, at + 32),
-            words::read_word(area, at + 40),
-            words::read_word(area, at + 48),
-            words::read_word(area, at + 56),
-            words::read_word(area, at + 64),
-            words::read_word(area, at + 72),
-        ],
-    }
+    Some(encoded_short(Layout::at(line, 1), &mut area, length))
 }
 
 fn movement(number: u64, records: &[u8], out: &mut [u8]) -> MovedOut {
@@ -352,57 +185,54 @@ fn moved_into(
     requires { (room ≤ length area.old) × (at ≤ 432) }
 {
     let answer = movement(number, records, &mut area[..room]);
-    tell_moved(inputs, answer, area, at)
+    moved_told(inputs, answer, area, at)
 }
 
-fn moved(line: &[u64; WIDTH]) -> Told {
+fn moved(line: &[u64; WIDTH]) -> Option<Told> {
     let out_length = line[1] as usize;
     let from = line[2] as usize;
     let length = line[3] as usize;
     if length > BYTES {
-        return tell_none();
+        return None;
     }
     if out_length > AREA {
-        return tell_none();
+        return None;
     }
     if from > LAST_SEEN {
-        return tell_none();
+        return None;
     }
     let bytes = recorded::bytes_from(line, 4);
     let mut area = [165u8; AREA];
     let inputs = 3 + (length + 7) / 8;
-    moved_into(
+    Some(moved_into(
         inputs,
         line[0],
         &bytes[..length],
         &mut area,
         out_length,
         from * 8,
-    )
+    ))
 }
 
-fn made(line: &[u64; WIDTH]) -> Told {
-    match line[0] {
-        15 => tell_layout(1, exports_layouts::lukaripe_new_zst(line[1])),
-        16 => tell_layout(2, exports_layouts::lukaripe_for_type(line[1], line[2])),
-        17 => tell_layout(
-            2,
-            exports_layouts::lukaripe_for_unpadded_type(line[1], line[2]),
-        ),
-        18 => tell_layout(2, exports_layouts::lukaripe_for_slice(line[1], line[2])),
-        25 => tell_layout(1, exports_layouts::lukaripe_scalar(line[1])),
-        38 => tell_layout(1, exports_working::lukaripe_working_begin(line[1])),
-        _ => tell_none(),
-    }
+fn made(line: &[u64; WIDTH]) -> Option<Told> {
+    Some(match line[0] {
+        15 => exports_layouts::lukaripe_new_zst(line[1]).told(1),
+        16 => exports_layouts::lukaripe_for_type(line[1], line[2]).told(2),
+        17 => exports_layouts::lukaripe_for_unpadded_type(line[1], line[2]).told(2),
+        18 => exports_layouts::lukaripe_for_slice(line[1], line[2]).told(2),
+        25 => exports_layouts::lukaripe_scalar(line[1]).told(1),
+        38 => exports_working::lukaripe_working_begin(line[1]).told(1),
+        _ => return None,
+    })
 }
 
-fn listed(line: &[u64; WIDTH]) -> Told {
+fn listed(line: &[u64; WIDTH]) -> Option<Told> {
     match line[0] {
         23 => decode(line),
         24 => encode(line),
         26 | 27 | 34 => composed(line),
         35 => placed(line),
-        36 => worked(line),
+        36 => Some(worked(line)),
         37 => worked_by_record(line),
         39 => decode_short(line),
         40 => encode_short(line),
@@ -412,21 +242,16 @@ fn listed(line: &[u64; WIDTH]) -> Told {
 }
 
 // What the function of the line tells. Its number is read from a file, so that a match on it is the plainest table of functions.
-pub(crate) fn call(line: &[u64; WIDTH]) -> Told {
-    match line[0] {
-        19 => tell_layout(
-            13,
-            exports_layouts::lukaripe_extend(first(line), second(line), line[13]),
-        ),
-        20 => tell_layout(6, exports_layouts::lukaripe_pad_to_align(first(line))),
-        21 => tell_number(
-            6,
-            exports_layouts::lukaripe_requires_static_padding(first(line)),
-        ),
-        22 => tell_number(
-            6,
-            exports_layouts::lukaripe_requires_dynamic_padding(first(line)),
-        ),
-        _ => listed(line),
-    }
+pub(crate) fn call(line: &[u64; WIDTH]) -> Option<Told> {
+    Some(match line[0] {
+        19 => exports_layouts::lukaripe_extend(
+            Layout::at(line, 1),
+            Layout::at(line, 7),
+            line[13],
+        ).told(13),
+        20 => exports_layouts::lukaripe_pad_to_align(Layout::at(line, 1)).told(6),
+        21 => exports_layouts::lukaripe_requires_static_padding(Layout::at(line, 1)).told(6),
+        22 => exports_layouts::lukaripe_requires_dynamic_padding(Layout::at(line, 1)).told(6),
+        _ => return listed(line),
+    })
 }

@@ -1,0 +1,3 @@
+pub mod At64
+pub mod At32
+pub mod Beside
