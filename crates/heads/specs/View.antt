@@ -2,17 +2,18 @@
 use Rattle.std.specs.Prelude.{ℕ, Result}
 use Rattle.util.specs.View.{placed_says}
 use Rattle.util.specs.declared.refusal.RefusedAt.{RefusedAt}
+use Rattle.heads.specs.declared.CountBytes.{CountBytes}
+use Rattle.heads.specs.declared.CountBytes.TheVariants as BytesAre
 use Rattle.heads.specs.declared.PartHead as Declared
 use Rattle.heads.specs.declared.PartHead.TheVariants as HeadIs
-use Rattle.std.specs.Prelude.{Bool, true, false, ℕ}
-use Rattle.util_defs.specs.Placed.{Placed, reached, stopped}
+use Rattle.util_defs.specs.Placed.{Placed}
 use Rattle.describe_defs.specs.Describe.{Counted, by_one, by_two}
 use Rattle.describe_defs.specs.Heads.{Head, code_head, array_head, struct_head, slice_head}
 
--- whether a struct's member count has two bytes
-abbrev pub counted : Bool → Counted
-counted false = by_one
-counted true = by_two
+-- the bytes of a struct's member count
+abbrev pub counted : CountBytes → Counted
+counted BytesAre.One = by_one
+counted BytesAre.Two = by_two
 
 abbrev pub number_read : Result ℕ (RefusedAt ℕ) → Placed ℕ
 number_read = placed_says (λ n. n)

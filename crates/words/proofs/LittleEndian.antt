@@ -1,7 +1,7 @@
 -- Little-endian words in bytes, and runs of stores. Assumes nothing.
-use mathlib.Core.Path.{◌≡◌, refl, ap, ◌∙◌}
+use mathlib.Core.Path.{◌≡◌, refl, sym, ap, ap₂, ◌∙◌}
 use mathlib.Core.Bool.{Bool, true, false}
-use mathlib.Core.List.{List, [], ◌∷◌, ◌++◌, append-nil}
+use mathlib.Core.List.{List, [], ◌∷◌, ◌++◌, append-nil, append_assoc}
 use mathlib.Core.Logic.{◌⊎◌, inl, inr, ⊎_elim}
 use Prim.Native.Nat.{ℕ, zero, suc, ◌+◌, ◌*◌, ◌/◌, ◌%◌, ◌^◌, ◌≤◌, ◌<◌}
 use native.Mathlib.Nat.{add-zero, mul_comm, mul_assoc, pow-suc}
@@ -10,6 +10,8 @@ use borrow.Author.Tests.{ltb-true, ltb-false, le-leb, lt-leb}
 use lib.Dec.{ltb}
 use lib.ListN.{get_or, take, drop, set, length, length-append, length-take, length-drop, drop_of_length-le, get_or-eq_default}
 use lib.Seq.{sets, sets-eq, drop-cons, get_or-take, get_or-drop, length-take-le, length-sets}
+use Rattle.std.specs.Int.{to_le_bytes, w64}
+use Rattle.std.proofs.lemmas.List.{drop-drop}
 use Rattle.words.specs.Bytes.{value_of, bytes_of, word_at, word_bytes, read_for, put_into}
 
 -- the value of the bytes of v is v, where they hold it
@@ -50,18 +52,24 @@ sets_whole vs l e =
     sets-eq vs l 0 (omega arith)
     ∙ rw (drop_of_length-le l {i = 0 + length vs} (omega arith)) (append-nil vs)
 
--- the eight stores of a word, as code makes them, are one run
-pub stores_word : (l : List ℕ) (i v : ℕ) → set (set (set (set (set (set (set (set l i (v % 256)) (i + 1) (v / 256 % 256)) (i + 2) (v / 256 / 256 % 256)) (i + 3) (v / 256 / 256 / 256 % 256)) (i + 4) (v / 256 / 256 / 256 / 256 % 256)) (i + 5) (v / 256 / 256 / 256 / 256 / 256 % 256)) (i + 6) (v / 256 / 256 / 256 / 256 / 256 / 256 % 256)) (i + 7) (v / 256 / 256 / 256 / 256 / 256 / 256 / 256 % 256) ≡ sets l i (word_bytes v)
+-- what `to_le_bytes` gives is the bytes of the word
+pub word_told : (v : ℕ) → to_le_bytes w64 v ≡ word_bytes v
 unfolding bytes_of
-stores_word l i v =
-    let s1 : i + 1 ≡ suc i = omega arith in
-    let s2 : i + 2 ≡ suc (suc i) = omega arith in
-    let s3 : i + 3 ≡ suc (suc (suc i)) = omega arith in
-    let s4 : i + 4 ≡ suc (suc (suc (suc i))) = omega arith in
-    let s5 : i + 5 ≡ suc (suc (suc (suc (suc i)))) = omega arith in
-    let s6 : i + 6 ≡ suc (suc (suc (suc (suc (suc i))))) = omega arith in
-    let s7 : i + 7 ≡ suc (suc (suc (suc (suc (suc (suc i)))))) = omega arith in
-    rw (s1, s2, s3, s4, s5, s6, s7)
+word_told v =
+    let e2 : v / 65536 ≡ v / 256 / 256 = omega arith in
+    let e3 : v / 16777216 ≡ v / 256 / 256 / 256 = omega arith in
+    let e4 : v / 4294967296 ≡ v / 256 / 256 / 256 / 256 = omega arith in
+    let e5 : v / 1099511627776 ≡ v / 256 / 256 / 256 / 256 / 256 = omega arith in
+    let e6 : v / 281474976710656 ≡ v / 256 / 256 / 256 / 256 / 256 / 256 = omega arith in
+    let e7 : v / 72057594037927936 ≡ v / 256 / 256 / 256 / 256 / 256 / 256 / 256 = omega arith in
+    rw (e2, e3, e4, e5, e6, e7) refl
+
+-- a part of a list replaced by as many bytes
+pub replaced : (to k : ℕ) (out v y : List ℕ) → k ≡ length v → y ≡ v → to + length v ≤ length out → take to out ++ (y ++ drop k (drop to out)) ≡ sets out to v
+replaced to k out v y n e h =
+    ap₂ (λ (z : List ℕ) (j : ℕ). take to out ++ (z ++ drop j (drop to out))) e n
+    ∙ ap (λ (z : List ℕ). take to out ++ (v ++ z)) (drop-drop (length v) to out)
+    ∙ sym (append_assoc (take to out) v (drop (to + length v) out)) ∙ sym (sets-eq v out to h)
 
 pub word_length : (v : ℕ) → length (word_bytes v) ≡ 8
 unfolding bytes_of

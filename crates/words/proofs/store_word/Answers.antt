@@ -1,32 +1,9 @@
 -- `words::store_word` meets its contract. Assumes nothing.
-use native.Mathlib.Omega.{arith}
-use lib.ListN.{length-set}
-use Rattle.words.proofs.LittleEndian.{stores_word}
+use Rattle.std.proofs.Common.{arith, ◌+◌, ◌-◌, ◌∙◌}
+use Rattle.words.specs.Bytes.{word_bytes}
+use Rattle.words.proofs.LittleEndian.{replaced, word_told, word_length}
 use Rattle.words.proofs.store_word.Goals as goal
 
-pub bounds-out-at-2 : goal.bounds-out-at-2
-bounds-out-at-2 c = simp length-set (omega arith)
-
-pub bounds-out-at-3 : goal.bounds-out-at-3
-bounds-out-at-3 c = simp length-set (omega arith)
-
-pub bounds-out-at-4 : goal.bounds-out-at-4
-bounds-out-at-4 c = simp length-set (omega arith)
-
-pub bounds-out-at-5 : goal.bounds-out-at-5
-bounds-out-at-5 c = simp length-set (omega arith)
-
-pub bounds-out-at-6 : goal.bounds-out-at-6
-bounds-out-at-6 c = simp length-set (omega arith)
-
-pub bounds-out-at-7 : goal.bounds-out-at-7
-bounds-out-at-7 c = simp length-set (omega arith)
-
-pub bounds-out-at-8 : goal.bounds-out-at-8
-bounds-out-at-8 c = simp length-set (omega arith)
-
-pub shape_of-out : goal.shape_of-out
-shape_of-out c = simp length-set
-
 pub returns : goal.returns
-returns c = stores_word c.args.out.now c.args.at c.args.v
+returns c = replaced c.args.at (c.args.at + 8 - c.args.at) c.args.out.now (word_bytes c.args.v) c.copy_from_slice.new.self (omega (arith, word_length c.args.v))
+    (c.copy_from_slice.ensures.after ∙ (c.to_le_bytes.ensures ∙ word_told c.args.v)) (omega (arith, c.requires, word_length c.args.v))
