@@ -3,7 +3,7 @@ use Rattle.std.specs.Prelude.{ℕ, Result}
 use Rattle.util.specs.View.{placed_says, accepted}
 use Rattle.util.specs.declared.refusal.RefusedAt.{RefusedAt}
 use Rattle.std.specs.Prelude.{ℕ}
-use Rattle.util_defs.specs.Placed.{Placed, reached, stopped}
+use Rattle.util_defs.specs.Placed.{Placed}
 
 abbrev pub move_says : Result ℕ (RefusedAt ℕ) → Placed ℕ
 move_says = placed_says (λ n. n)

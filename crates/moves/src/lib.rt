@@ -1,37 +1,63 @@
-// Lists of records of 48 bytes moved to short ones of 32, between two lent buffers (document 02, request 6). The whole list is
-// tested first, so that nothing is written where it is refused.
+// Lists of records moved between their forms of 48 bytes and of 32, between two lent buffers (document 02, request 6): what a way
+// to move records is, the move of a list either way, and the way to short records. The whole list is tested first, so that
+// nothing is written where it is refused.
 #![tactic(auto)]
 
-ghost use Rattle.std.specs.Prelude.{◌≡◌, ◌*◌, ◌/◌, ◌%◌, ◌≤◌, length};
+ghost use Rattle.std.specs.Prelude.{◌≡◌, refl, ℕ, List, ◌*◌, ◌/◌, ◌%◌, ◌≤◌, ◌<◌, length};
+ghost use Rattle.std.proofs.Common.{rules};
 ghost use Rattle.util_defs.specs.Refusal.{answered};
 ghost use Rattle.util_defs.specs.Placed.{reached, judged};
 ghost use Rattle.layout.specs.View.{check_says};
-ghost use Rattle.short_defs.specs.Moves.{to_short, length_causes, tested, moved_all, move_for, moved_for, filled};
+ghost use Rattle.short_defs.specs.Moves.{Way, to_short, count_of, length_causes, tested, moved_all, move_for, moved_for, filled};
 ghost use Rattle.short_defs.specs.Trips.{Shortened, MoveMeans};
+ghost use Rattle.short_defs.proofs.Meaning.{Proper};
+ghost use Rattle.short_defs.proofs.Ways.{short_proper};
 ghost use Rattle.moves.specs.View.{test_says, move_says};
 
 use record::RECORD_BYTES;
 use short::SHORT_BYTES;
 use util::{Refusal, RefusedAt};
 
-// Whether a record can be made short.
-fn test_record(s: &[u8]) -> Result<(), Refusal>
-    requires { length s.now ≡ 48 }
-    ensures { check_says result ≡ judged (to_short.causes s.now) }
-{
-    let l = record::decode(s)?;
-    if short::fits_short(l) {
-        Ok(())
-    } else {
-        Err(Refusal::WordAboveShort)
-    }
+// A way to move records: what is tested of one, and what is written for it.
+pub trait RecordMove {
+    // The bytes of a record, and of its other form.
+    const FROM: usize;
+
+    const TO: usize;
+
+    ghost FROM: { ℕ };
+
+    ghost TO: { ℕ };
+
+    // The way, and the two forms of a record.
+    ghost way: { Way };
+
+    ghost forms: { List ℕ → List ℕ → Type 0 };
+
+    // Whether a record can be moved.
+    fn test(s: &[u8]) -> Result<(), Refusal>
+        requires { length s.now ≡ way.from }
+        ensures { check_says result ≡ judged (way.causes s.now) };
+
+    // Writes the other form of a record that was accepted: nothing is tested again.
+    fn write(s: &[u8], out: &mut [u8])
+        requires { ((length s.now ≡ way.from) × (length out.old ≡ way.to)) × (judged (way.causes s.now) ≡ answered tt) }
+        ensures { out.new ≡ way.moved s.now };
+
+    ghost proper: { Proper way forms };
+
+    ghost from_is: { FROM ≡ way.from };
+
+    ghost to_is: { TO ≡ way.to };
+
+    ghost to_positive: { 0 < way.to };
 }
 
-fn test_records(records: &[u8]) -> Result<(), RefusedAt<u64>>
-    ensures { test_says result ≡ tested to_short 0 (length records.now / 48) records.now }
+fn test_records<W: RecordMove>(records: &[u8]) -> Result<(), RefusedAt<u64>>
+    ensures { test_says result ≡ tested W.way 0 (count_of W.way records.now) records.now }
 {
-    for (i, record) in records.chunks_exact(RECORD_BYTES).enumerate() {
-        test_record(record).map_err(|refusal| RefusedAt {
+    for (i, record) in records.chunks_exact(W::FROM).enumerate() {
+        W::test(record).map_err(|refusal| RefusedAt {
             refusal,
             place: i as u64,
         })?;
@@ -39,65 +65,48 @@ fn test_records(records: &[u8]) -> Result<(), RefusedAt<u64>>
     Ok(())
 }
 
-// Writes the short form of a record that was accepted: nothing is tested again, and the words go from load to store.
-fn write_short(s: &[u8], out: &mut [u8])
-    requires { ((length s.now ≡ 48) × (length out.old ≡ 32)) × (judged (to_short.causes s.now) ≡ answered tt) }
-    ensures { out.new ≡ to_short.moved s.now }
+// Writes the other forms of records that are all accepted, one behind the other.
+fn write_records<W: RecordMove>(records: &[u8], out: &mut [u8])
+    requires { (tested W.way 0 (count_of W.way records.now) records.now ≡ reached tt)
+        × (count_of W.way records.now * W.way.to ≤ length out.old) }
+    ensures { out.new ≡ filled (reached (moved_all W.way (count_of W.way records.now) records.now)) out.old }
 {
-    let power = (63 - u64::leading_zeros(words::read_word(s, 0))) as u64;
-    let last = words::read_word(s, 40) + 0x1_0000_0000 * (power + 0x100 * words::read_word(s, 8));
-    words::put_word(out, 0, words::read_word(s, 16));
-    words::put_word(out, 8, words::read_word(s, 24));
-    words::put_word(out, 16, words::read_word(s, 32));
-    words::put_word(out, 24, last);
-}
-
-// Writes the short forms of records that are all accepted, one behind the other.
-fn write_shorts(records: &[u8], out: &mut [u8])
-    requires { (tested to_short 0 (length records.now / 48) records.now ≡ reached tt)
-        × (length records.now / 48 * 32 ≤ length out.old) }
-    ensures { out.new ≡ filled (reached (moved_all to_short (length records.now / 48) records.now))
-        out.old }
-{
-    let count = records.len() / RECORD_BYTES;
+    let count = records.len() / W::FROM;
     // By an index: over `chunks_exact` zipped with `chunks_exact_mut` the proof of what is written back did not close.
     for i in 0..count {
-        let at = i * RECORD_BYTES;
-        let to = i * SHORT_BYTES;
-        write_short(
-            &records[at..at + RECORD_BYTES],
-            &mut out[to..to + SHORT_BYTES],
-        );
+        let at = i * W::FROM;
+        let to = i * W::TO;
+        W::write(&records[at..at + W::FROM], &mut out[to..to + W::TO]);
     }
 }
 
 // The move of whole records that the output can hold.
-fn shorten(records: &[u8], out: &mut [u8]) -> Result<u64, RefusedAt<u64>>
-    requires { judged (length_causes to_short records.now (length out.old)) ≡ answered tt }
-    ensures result_value { move_says result ≡ moved_for to_short records.now (length out.old) }
-    ensures out_after { out.new ≡ filled (move_for to_short records.now (length out.old)) out.old }
+fn moved<W: RecordMove>(records: &[u8], out: &mut [u8]) -> Result<u64, RefusedAt<u64>>
+    requires { judged (length_causes W.way records.now (length out.old)) ≡ answered tt }
+    ensures result_value { move_says result ≡ moved_for W.way records.now (length out.old) }
+    ensures out_after { out.new ≡ filled (move_for W.way records.now (length out.old)) out.old }
 {
-    test_records(records)?;
-    write_shorts(records, out);
-    let count = records.len() / RECORD_BYTES;
-    Ok((count * SHORT_BYTES) as u64)
+    test_records::<W>(records)?;
+    write_records::<W>(records, out);
+    let count = records.len() / W::FROM;
+    Ok((count * W::TO) as u64)
 }
 
-// Moves records of 48 bytes to short ones, into the front of out; behind them it stays as it was. The lengths are compared by a
-// division: the bytes that are needed can pass the greatest number.
-pub fn records_to_short(records: &[u8], out: &mut [u8]) -> Result<u64, RefusedAt<u64>>
-    ensures answer { move_says result ≡ moved_for to_short records.now (length out.old) }
-    ensures bytes { out.new ≡ filled (move_for to_short records.now (length out.old)) out.old }
-    ensures meaning { MoveMeans to_short Shortened records.now out.old out.new (move_says result) }
+// Moves records into the front of out; behind them it stays as it was. The lengths are compared by a division: the bytes that are
+// needed can pass the greatest number.
+pub fn move_records<W: RecordMove>(records: &[u8], out: &mut [u8]) -> Result<u64, RefusedAt<u64>>
+    ensures answer { move_says result ≡ moved_for W.way records.now (length out.old) }
+    ensures bytes { out.new ≡ filled (move_for W.way records.now (length out.old)) out.old }
+    ensures meaning { MoveMeans W.way W.forms records.now out.old out.new (move_says result) }
 {
-    if records.len() % RECORD_BYTES == 0 {
-        if out.len() / SHORT_BYTES < records.len() / RECORD_BYTES {
+    if records.len() % W::FROM == 0 {
+        if out.len() / W::TO < records.len() / W::FROM {
             Err(RefusedAt {
                 refusal: Refusal::OutputShort,
                 place: 0,
             })
         } else {
-            shorten(records, out)
+            moved::<W>(records, out)
         }
     } else {
         Err(RefusedAt {
@@ -105,4 +114,58 @@ pub fn records_to_short(records: &[u8], out: &mut [u8]) -> Result<u64, RefusedAt
             place: 0,
         })
     }
+}
+
+// From records of 48 bytes to short ones.
+struct ToShort;
+
+impl RecordMove for ToShort {
+    const FROM: usize = RECORD_BYTES;
+
+    const TO: usize = SHORT_BYTES;
+
+    ghost FROM = { 48 };
+
+    ghost TO = { 32 };
+
+    ghost way = { to_short };
+
+    ghost forms = { Shortened };
+
+    fn test(s: &[u8]) -> Result<(), Refusal> {
+        let l = record::decode(s)?;
+        if short::fits_short(l) {
+            Ok(())
+        } else {
+            Err(Refusal::WordAboveShort)
+        }
+    }
+
+    // The words go from load to store.
+    fn write(s: &[u8], out: &mut [u8]) {
+        let power = (63 - u64::leading_zeros(words::read_word(s, 0))) as u64;
+        let last = words::read_word(s, 40)
+            + 0x1_0000_0000 * (power + 0x100 * words::read_word(s, 8));
+        words::put_word(out, 0, words::read_word(s, 16));
+        words::put_word(out, 8, words::read_word(s, 24));
+        words::put_word(out, 16, words::read_word(s, 32));
+        words::put_word(out, 24, last);
+    }
+
+    ghost proper = { short_proper };
+
+    ghost from_is = { refl };
+
+    ghost to_is = { refl };
+
+    ghost to_positive = { Prim.search rules };
+}
+
+// Moves records of 48 bytes to short ones, into the front of out; behind them it stays as it was.
+pub fn records_to_short(records: &[u8], out: &mut [u8]) -> Result<u64, RefusedAt<u64>>
+    ensures answer { move_says result ≡ moved_for to_short records.now (length out.old) }
+    ensures bytes { out.new ≡ filled (move_for to_short records.now (length out.old)) out.old }
+    ensures meaning { MoveMeans to_short Shortened records.now out.old out.new (move_says result) }
+{
+    move_records::<ToShort>(records, out)
 }

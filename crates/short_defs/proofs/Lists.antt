@@ -2,7 +2,7 @@
 use mathlib.Core.Path.{◌≡◌, refl, sym, ap, ◌∙◌}
 use mathlib.Core.List.{List, ◌++◌, append-nil, append_assoc}
 use Prim.Native.Nat.{ℕ, zero, suc, ◌+◌, ◌-◌, ◌*◌, ◌/◌, ◌≤◌, ◌<◌}
-use native.Mathlib.Nat.{suc-mul, mul-le-mul_right}
+use native.Mathlib.Nat.{suc-mul, mul-le-mul_right, div-mul-le_self, add-div_right}
 use native.Mathlib.Omega.{arith}
 use lib.ListN.{length, take, drop, length-append, length-drop}
 use lib.Seq.{take_at, drop_at, drop-drop, length-take-le}
@@ -32,6 +32,15 @@ looked n i s = let e : i * n + n - i * n ≡ n = omega arith in ap (λ (k : ℕ)
 
 pub looked_length : (n i : ℕ) (s : List ℕ) → i * n + n ≤ length s → length (take (i * n + n - i * n) (drop (i * n) s)) ≡ n
 looked_length n i s h = ap length (looked n i s) ∙ length-take-le n (drop (i * n) s) (omega (arith, length-drop (i * n) s))
+
+-- a record that a list has ends within it
+pub record_within : (f i : ℕ) (s : List ℕ) → i < length s / f → i * f + f ≤ length s
+record_within f i s h = let m : suc i * f ≤ length s / f * f = mul-le-mul_right f h in omega (arith, suc-mul i f, div-mul-le_self (length s) f)
+
+-- one behind which t stands is one more than t has
+pub one_more : (f : ℕ) {s : List ℕ} (x t : List ℕ) → 0 < f → s ≡ x ++ t → length x ≡ f → length s / f ≡ suc (length t / f)
+one_more f {s} x t p e l =
+    ap (λ (n : ℕ). n / f) (ap length e ∙ length-append x t ∙ omega (arith, l)) ∙ add-div_right (length t) p ∙ omega arith
 
 module _ (v : Way) where
   -- a list that nothing stops: each of its records is accepted

@@ -19,7 +19,7 @@ use Rattle.short_defs.specs.Trips.{MoveMeans}
 use Rattle.short_defs.proofs.Lists.{tested_each, tested_stops, moved_length, moved_record}
 
 -- what the law of a way asks: its lengths, that its tests decide, and what a record that is accepted becomes
-pub record Proper (v : Way) (Forms : List ℕ → List ℕ → Type 0) : Type 1 where
+pub record Proper (v : Way) (Forms : List ℕ → List ℕ → Type 0) : Type 0 where
   pub positive : 0 < v.from
   pub whole : (s : List ℕ) → length (v.moved s) ≡ v.to
   pub decided : (s : List ℕ) → AllBytes s → Decided (v.causes s)

@@ -1,10 +1,10 @@
--- `moves_back::test_short` meets its contract. Assumes nothing.
+-- `moves_back::FromShortRecordMove::test` meets its contract. Assumes nothing.
 use Rattle.util.proofs.Told.{handed_on}
 use mathlib.Core.Path.{sym}
 use Rattle.util_defs.proofs.Tables.{told_by}
 use Rattle.layout.specs.View.{layout_says}
 use Rattle.short_defs.proofs.Told.{short_own, short_on}
-use Rattle.moves_back.proofs.test_short.Goals as goal
+use Rattle.moves_back.proofs.FromShortRecordMove.test.Goals as goal
 
 pub returns : goal.returns
 returns c = let s = c.args.s.now in sym (short_on s c.requires (told_by layout_says c.decode_short.ensures.answer c.in_ok-decode_short.was))

@@ -1,4 +1,4 @@
--- `moves_back::write_record` meets its contract. Assumes nothing.
+-- `moves_back::FromShortRecordMove::write` meets its contract. Assumes nothing.
 use mathlib.Core.Path.{sym, subst, ◌∙◌}
 use Prim.Native.Nat.{ℕ, ◌/◌, ◌%◌, ◌<◌}
 use native.Mathlib.Omega.{arith}
@@ -6,7 +6,7 @@ use Rattle.words.proofs.LittleEndian.{read_within}
 use Rattle.short_defs.specs.Short.{short_at}
 use Rattle.short_defs.proofs.Records.{from_short_lem}
 use Rattle.short_defs.proofs.Told.{last_read, writes_record}
-use Rattle.moves_back.proofs.write_record.Goals as goal
+use Rattle.moves_back.proofs.FromShortRecordMove.write.Goals as goal
 
 pub overflow_shl-last : goal.overflow_shl-last
 overflow_shl-last c = let s = c.args.s.now in let e = c.read_word-last.ensures ∙ read_within s 24 (omega (arith, c.requires.0.0)) in let z = last_read s (λ i. (c.shared_slice_known-1.given i).fits) (omega (arith, c.requires.0.0)) in subst (λ (k : ℕ). k / 4294967296 % 256 < 64) (sym e) (omega (arith, z.power, (from_short_lem (short_at s 0) c.requires.1).power))

@@ -1,10 +1,10 @@
--- `moves::test_record` meets its contract. Assumes nothing.
+-- `moves::ToShortRecordMove::test` meets its contract. Assumes nothing.
 use Rattle.util.proofs.Told.{handed_on}
 use mathlib.Core.Path.{sym, ◌∙◌}
 use Rattle.util_defs.proofs.Tables.{told_by}
 use Rattle.layout.specs.View.{layout_says}
 use Rattle.short_defs.proofs.Told.{record_own, record_above, record_fits}
-use Rattle.moves.proofs.test_record.Goals as goal
+use Rattle.moves.proofs.ToShortRecordMove.test.Goals as goal
 
 pub returns-then-fits_short : goal.returns-then-fits_short
 returns-then-fits_short c = let s = c.args.s.now in sym (record_fits s c.requires (told_by layout_says c.decode.ensures.own c.in_ok-l.was) (sym c.fits_short.ensures ∙ c.if-fits_short.true))

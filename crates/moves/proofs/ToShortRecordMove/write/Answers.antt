@@ -1,4 +1,4 @@
--- `moves::write_short` meets its contract. Assumes nothing.
+-- `moves::ToShortRecordMove::write` meets its contract. Assumes nothing.
 use mathlib.Core.Path.{sym, subst, ◌∙◌}
 use Prim.Native.Nat.{ℕ, ◌≤◌}
 use native.Mathlib.Omega.{arith}
@@ -7,7 +7,7 @@ use Rattle.words.proofs.LittleEndian.{read_within}
 use Rattle.record_defs.specs.Record.{words_at}
 use Rattle.short_defs.proofs.Records.{to_short_lem}
 use Rattle.short_defs.proofs.Told.{writes_short, accepted_power}
-use Rattle.moves.proofs.write_short.Goals as goal
+use Rattle.moves.proofs.ToShortRecordMove.write.Goals as goal
 
 pub overflow_sub-power : goal.overflow_sub-power
 overflow_sub-power c = let s = c.args.s.now in subst (λ (z : ℕ). count_leading_zeros 64 z ≤ 63) (sym (c.read_word.ensures ∙ read_within s 0 (omega (arith, c.requires.0.0)))) (accepted_power s c.requires.1).0
