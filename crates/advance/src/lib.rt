@@ -7,7 +7,7 @@ ghost use Rattle.util_defs.specs.Refusal.{Meets};
 ghost use Rattle.trailing_defs.specs.Calls.{advance_causes, advance_for, Advanced};
 ghost use Rattle.trailing.specs.View.{trailing_of, advance_says};
 
-use rounding::{Components, RoundingAlignAndPhase};
+use rounding::RoundingAlignAndPhase;
 use trailing::{Decoded, TrailingSliceLayout};
 use util::Refusal;
 
@@ -19,22 +19,22 @@ fn advance_decoded(
 ) -> Result<TrailingSliceLayout<u64>, Refusal>
     ensures { advance_says result ≡ advance_for 64 (trailing_of decoded.layout) bytes elem }
 {
-    let Components { align, phase } = decoded.parts;
-    let align_mask = align - 1;
-    let phase_capacity = u64::MAX - (decoded.layout.size_base & !align_mask);
+    let align = decoded.align();
+    let phase = decoded.parts.phase;
+    let phase_capacity = u64::MAX - align.round_down(decoded.layout.size_base);
     // The base rounded down and the phase fit, so this does not go below 0.
     let max_advance = phase_capacity - phase;
     if bytes > max_advance {
         return Err(Refusal::AdvancePassesMax);
     }
     let advanced_phase = phase + bytes;
-    let normalized_phase = advanced_phase & align_mask;
-    let whole_bytes = advanced_phase & !align_mask;
+    let normalized_phase = align.remainder(advanced_phase);
+    let whole_bytes = align.round_down(advanced_phase);
     Ok(TrailingSliceLayout {
         offset: decoded.layout.offset,
         elem_size: elem,
         size_base: decoded.layout.size_base + whole_bytes,
-        size_rounding_align_and_phase: RoundingAlignAndPhase(align + normalized_phase),
+        size_rounding_align_and_phase: RoundingAlignAndPhase(align.value + normalized_phase),
     })
 }
 

@@ -16,9 +16,7 @@ use util::Refusal;
 fn add_scaled_metadata(base: u64, metadata: u64, multiple: u64) -> Result<u64, Refusal>
     ensures { number_says result ≡ metadata_for 64 (unsized_to_unsized base multiple) metadata }
 {
-    let Some(scaled) = util::checked_mul(metadata, multiple) else {
-        return Err(Refusal::ConvertedCountPassesMax);
-    };
+    let scaled = util::checked_mul(metadata, multiple).ok_or(Refusal::ConvertedCountPassesMax)?;
     if u64::MAX - base < scaled {
         Err(Refusal::ConvertedCountPassesMax)
     } else {

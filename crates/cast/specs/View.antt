@@ -3,7 +3,7 @@ use Rattle.std.specs.Prelude.{ℕ, Result}
 use Rattle.util.specs.View.{says}
 use Rattle.util.specs.declared.refusal.Refusal.{Refusal}
 use Rattle.cast.specs.declared.Granted.{Granted}
-use Rattle.util_defs.specs.Refusal.{Outcome, answered, refused}
+use Rattle.util_defs.specs.Refusal.{Outcome}
 use Rattle.cast_defs.specs.Cast.{Side, prefix, suffix, Grant}
 use Rattle.cast.specs.declared.CastType.{CastType}
 use Rattle.cast.specs.declared.CastType.TheVariants as Kind

@@ -5,7 +5,6 @@
 ghost use Rattle.std.specs.Prelude.{◌≡◌, [], ◌∷◌, ◌+◌, ◌^◌, ◌≤◌, ◌<◌};
 ghost use Rattle.util_defs.specs.Refusal.{answered, unless, Meets};
 ghost use Rattle.util.specs.View.{number_says};
-ghost use Rattle.rounding.specs.Word.{AlignOf};
 ghost use Rattle.trailing_defs.specs.Calls.{GreatestIn};
 ghost use Rattle.trailing.specs.View.{trailing_of};
 ghost use Rattle.layout_defs.specs.Layout.{trailing};
@@ -17,7 +16,7 @@ ghost use Rattle.cast_defs.specs.Exact.{no_exact, exact_causes, exact_for, Exact
 ghost use Rattle.cast.specs.View.{side_of, cast_says};
 
 use layout::{DstLayout, SizeInfo, ValidLayout};
-use trailing::{TrailingSliceLayout, ValidTail};
+use trailing::{Decoded, ValidTail};
 use util::Refusal;
 
 // Whether the bytes of a cast are those in front, or those at the end.
@@ -68,22 +67,17 @@ fn elem_size_zero(size_info: SizeInfo<u64>) -> bool
 
 // The greatest count in len bytes and its size, as the grant of a prefix. The size is what fits less the whole blocks that
 // no element uses: it is not the length less the unused bytes.
-fn fit_elems(
-    tail: TrailingSliceLayout<u64>,
-    len: u64,
-    max_slice_bytes: u64,
-    size_align: u64,
-) -> Result<Granted<u64>, Refusal>
-    requires { (0 < tail.elem_size) × AlignOf (trailing_of tail).word size_align × GreatestIn 64 (trailing_of tail) len
-        max_slice_bytes }
-    ensures { cast_says result ≡ answered (greatest_grant 64 (trailing (trailing_of tail)) prefix len) }
+fn fit_elems(decoded: Decoded, len: u64, max_slice_bytes: u64) -> Result<Granted<u64>, Refusal>
+    requires { (0 < decoded.layout.elem_size) × GreatestIn 64 (trailing_of decoded.layout) len max_slice_bytes }
+    ensures { cast_says result ≡ answered (greatest_grant 64 (trailing (trailing_of decoded.layout)) prefix len) }
 {
+    let tail = decoded.layout;
+    let size_align = decoded.align();
     let elem_size = tail.elem_size;
     let elems = max_slice_bytes / elem_size;
     let unused_bytes = max_slice_bytes % elem_size;
-    let mask = !(size_align - 1);
-    let unused_aligned_bytes = unused_bytes & mask;
-    let max_rounded_bytes = (len - tail.size_base) & mask;
+    let unused_aligned_bytes = size_align.round_down(unused_bytes);
+    let max_rounded_bytes = size_align.round_down(len - tail.size_base);
     Ok(Granted {
         elems,
         split_at: tail.size_base + (max_rounded_bytes - unused_aligned_bytes),
@@ -99,9 +93,7 @@ fn fit_trailing(valid: ValidTail, len: u64) -> Result<Granted<u64>, Refusal>
     let Ok(max_slice_bytes) = tail.max_trailing_bytes(len) else {
         return Err(Refusal::CastTooSmall);
     };
-    let word = tail.size_rounding_align_and_phase;
-    let size_align = word.align()?;
-    fit_elems(tail, len, max_slice_bytes, size_align)
+    fit_elems(tail.decoded()?, len, max_slice_bytes)
 }
 
 // The cast of a layout that passed its check: the alignment is judged before the size.
@@ -114,15 +106,15 @@ fn cast_checked(
     ensures { cast_says result ≡ unless (bytes_causes 64 (layout_of valid.layout) (side_of cast_type) addr len)
         (greatest_grant 64 (layout_of valid.layout).info (side_of cast_type) len) }
 {
-    let layout = valid.layout;
-    let size_info = layout.size_info;
+    let size_info = valid.layout.size_info;
     if elem_size_zero(size_info) {
         return Err(Refusal::CastElemSizeZero);
     }
     if u64::MAX - addr < len {
         return Err(Refusal::AddressPassesMax);
     }
-    if tested_address(addr, len, cast_type) & (layout.align - 1) != 0 {
+    let tested = tested_address(addr, len, cast_type);
+    if valid.align().remainder(tested) != 0 {
         return Err(Refusal::CastNotAligned);
     }
     match size_info {

@@ -101,12 +101,13 @@ step_power w heed p l (answered m) {r} h e = go (heed && (not (eqb p 0) && m.mod
     go false t = align_kept w l m p h (sym (step_on w heed p l m t) ∙ e)
 step_power w heed p l (refused k) h e = absurd (apart e)
 
--- the layout that a composition begins with has size 0 and the first mark
-pub empty_sized : (w : ℕ) (heed : Bool) (a p : ℕ) {l : Layout} → begin_for w heed a p ≡ answered l → begin_for w heed a p ≡ answered (record { align = l.align; info = fixed 0; mark = true; modifier = l.modifier })
+-- the layout that a composition begins with has size 0
+pub empty_is : (w : ℕ) (heed : Bool) (a p : ℕ) {l : Layout} → begin_for w heed a p ≡ answered l
+    → record { align = l.align; info = fixed 0; mark = l.mark; modifier = l.modifier } ≡ l
 unfolding begin_for
-empty_sized w heed a p e =
+empty_is w heed a p e =
     let q = answer_is (begin_causes w heed a p) (empty_layout a) e in
-    e ∙ ap answered (q ∙ sym (ap (λ (x : Layout). record { align = x.align; info = fixed 0; mark = true; modifier = x.modifier }) q))
+    ap (λ (x : Layout). record { align = x.align; info = fixed 0; mark = x.mark; modifier = x.modifier }) q ∙ sym q
 
 -- members compose to what they add up to, onto the empty layout
 pub members_on : (w : ℕ) (heed : Bool) (a p : ℕ) (ms : List Member) {l : Layout} → begin_for w heed a p ≡ answered l

@@ -56,7 +56,7 @@ impl From<CastParamsInner<u32>> for CastParamsInner<u64> {
     }
 }
 
-// Trailing to trailing.
+// Trailing to trailing. Both layouts and the mode go on, here and below, as the Rust's method and its closure have them.
 fn compute_unsized(
     valid_src: ValidLayout,
     src: TrailingSliceLayout<u64>,

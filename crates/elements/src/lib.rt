@@ -32,15 +32,13 @@ pub fn for_array(elem: DstLayout<u64>, count: u64) -> Result<DstLayout<u64>, Ref
         (layout_says result) }
 {
     let size = elem_size(elem)?;
-    match util::checked_mul(size, count) {
-        Some(product) => Ok(DstLayout {
-            align: elem.align,
-            size_info: SizeInfo::Sized { size: product },
-            statically_shallow_unpadded: elem.statically_shallow_unpadded,
-            align_modifier: elem.align_modifier,
-        }),
-        None => Err(Refusal::ArrayPassesMax),
-    }
+    let product = util::checked_mul(size, count).ok_or(Refusal::ArrayPassesMax)?;
+    Ok(DstLayout {
+        align: elem.align,
+        size_info: SizeInfo::Sized { size: product },
+        statically_shallow_unpadded: elem.statically_shallow_unpadded,
+        align_modifier: elem.align_modifier,
+    })
 }
 
 // The layout of a slice of such elements: as `for_slice` makes it of size and alignment, with the element's modifier.

@@ -4,7 +4,6 @@
 #![tactic(auto)]
 
 ghost use Rattle.std.specs.Prelude.{◌≡◌, ◌+◌, ◌-◌, ◌%◌, ◌^◌, ◌<◌};
-ghost use Rattle.util_defs.specs.Power.{PowerOfTwo};
 ghost use Rattle.util_defs.specs.Round.{up};
 ghost use Rattle.util_defs.specs.Refusal.{Tells, Meets};
 ghost use Rattle.util.specs.View.{decision_says};
@@ -16,9 +15,9 @@ ghost use Rattle.full_defs.specs.Full.{lowest_bit, seen_phase, sizes_agree, agre
 ghost use Rattle.full_defs.specs.Form.{IsNormal, form, form_of, form_causes, form_for};
 ghost use Rattle.full.specs.View.{form_says};
 
-use rounding::{Components, RoundingAlignAndPhase};
+use rounding::RoundingAlignAndPhase;
 use trailing::{Decoded, TrailingSliceLayout};
-use util::Refusal;
+use util::{Align, Refusal};
 
 // What of a trailing layout its sizes show. It has neither an offset nor an alignment.
 #[derive(Clone, Copy)]
@@ -29,52 +28,48 @@ pub struct NormalForm<N> {
 }
 
 // The lowest one bit.
-fn lowest_bit(elem: u64) -> u64
+fn lowest_bit(elem: u64) -> Align
     requires { 0 < elem }
-    ensures { result ≡ lowest_bit 64 elem }
+    ensures { result.value ≡ lowest_bit 64 elem }
 {
-    1u64 << u64::trailing_zeros(elem)
+    Align {
+        value: 1u64 << elem.trailing_zeros(),
+    }
 }
 
 // A value rounded up to a multiple of a unit.
-fn round_up(value: u64, unit: u64) -> u64
-    requires { PowerOfTwo unit × (value + (unit - 1) < 2 ^ 64) }
-    ensures { result ≡ up value unit }
+fn round_up(value: u64, unit: Align) -> u64
+    requires { value + (unit.value - 1) < 2 ^ 64 }
+    ensures { result ≡ up value unit.value }
 {
-    (value + (unit - 1)) & !(unit - 1)
+    unit.round_down(value + (unit.value - 1))
 }
 
 // The phase as the sizes see it, where the alignment does not divide the element size.
-fn seen_phase(elem: u64, align: u64, phase: u64) -> u64
-    requires { PowerOfTwo align × (phase < align) × (elem % align ≡ 0 → ⊥) }
-    ensures { result ≡ seen_phase 64 elem align phase }
+fn seen_phase(elem: u64, align: Align, phase: u64) -> u64
+    requires { (phase < align.value) × (elem % align.value ≡ 0 → ⊥) }
+    ensures { result ≡ seen_phase 64 elem align.value phase }
 {
-    round_up(phase, lowest_bit(elem)) & (align - 1)
+    let rounded = round_up(phase, lowest_bit(elem));
+    align.remainder(rounded)
 }
 
 // The part of the comparison that looks past the sizes at 0: the element size is a multiple of the larger alignment, or both
 // alignments, and both phases as the sizes see them, are equal.
-fn same_steps(elem: u64, parts: Components<u64>, other: Components<u64>) -> bool
-    requires { PowerOfTwo parts.align × PowerOfTwo other.align × (parts.phase < parts.align) × (other.phase < other.align) }
-    ensures { result ≡ same_stride elem parts.align (seen_phase 64 elem parts.align parts.phase) other.align
-        (seen_phase 64 elem other.align other.phase) }
+fn same_steps(elem: u64, first: Decoded, other: Decoded) -> bool
+    ensures { result ≡ same_stride elem first.parts.align (seen_phase 64 elem first.parts.align first.parts.phase)
+        other.parts.align (seen_phase 64 elem other.parts.align other.parts.phase) }
 {
-    let Components { align, phase } = parts;
-    let Components {
-        align: align2,
-        phase: phase2,
-    } = other;
-    if align > align2 {
-        return elem & (align - 1) == 0;
+    let align = first.align();
+    let align2 = other.align();
+    if align.value > align2.value {
+        return align.remainder(elem) == 0;
     }
-    if elem & (align2 - 1) == 0 {
+    if align2.remainder(elem) == 0 {
         return true;
     }
-    if align == align2 {
-        seen_phase(elem, align, phase) == seen_phase(elem, align2, phase2)
-    } else {
-        false
-    }
+    align.value == align2.value
+        && seen_phase(elem, align, first.parts.phase) == seen_phase(elem, align2, other.parts.phase)
 }
 
 // Whether base + rounded and base2 + rounded2 are equal. No sum is made, since it may pass the greatest number.
@@ -82,17 +77,9 @@ fn same_sum(base: u64, rounded: u64, base2: u64, rounded2: u64) -> bool
     ensures { Tells (base + rounded ≡ base2 + rounded2) result }
 {
     if base <= base2 {
-        if rounded2 <= rounded {
-            rounded - rounded2 == base2 - base
-        } else {
-            false
-        }
+        rounded2 <= rounded && rounded - rounded2 == base2 - base
     } else {
-        if rounded < rounded2 {
-            rounded2 - rounded == base - base2
-        } else {
-            false
-        }
+        rounded < rounded2 && rounded2 - rounded == base - base2
     }
 }
 
@@ -106,16 +93,12 @@ fn decoded_agree(first: Decoded, other: Decoded) -> bool
     }
     let rounded = first.rounded_phase();
     let rounded2 = other.rounded_phase();
-    if same_sum(
+    same_sum(
         first.layout.size_base,
         rounded,
         other.layout.size_base,
         rounded2,
-    ) {
-        same_steps(elem, first.parts, other.parts)
-    } else {
-        false
-    }
+    ) && same_steps(elem, first, other)
 }
 
 // Whether the two layouts have the same size at every count, as unlimited whole numbers.
@@ -151,12 +134,12 @@ fn form_at_zero(decoded: Decoded, align: u64) -> Result<NormalForm<u64>, Refusal
 
 // The word of the least phase that the sizes see alike, where the alignment does not divide the element size and the phase is not
 // seen as 0.
-fn least_word(elem: u64, align: u64, phase: u64) -> u64
-    requires { PowerOfTwo align × (phase < align) × (elem % align ≡ 0 → ⊥) × (seen_phase 64 elem align phase ≡ 0 → ⊥) }
-    ensures { result ≡ align + (up phase (lowest_bit 64 elem) - lowest_bit 64 elem + 1) }
+fn least_word(elem: u64, align: Align, phase: u64) -> u64
+    requires { (phase < align.value) × (elem % align.value ≡ 0 → ⊥) × (seen_phase 64 elem align.value phase ≡ 0 → ⊥) }
+    ensures { result ≡ align.value + (up phase (lowest_bit 64 elem) - lowest_bit 64 elem + 1) }
 {
     let unit = lowest_bit(elem);
-    align + (round_up(phase, unit) - (unit - 1))
+    align.value + (round_up(phase, unit) - (unit.value - 1))
 }
 
 // The normal form past the test of the rounding word.
@@ -164,13 +147,14 @@ fn decoded_form(decoded: Decoded) -> Result<NormalForm<u64>, Refusal>
     ensures { form_says result ≡ form_for 64 (trailing_of decoded.layout) }
 {
     let layout = decoded.layout;
-    let Components { align, phase } = decoded.parts;
+    let align = decoded.align();
+    let phase = decoded.parts.phase;
     let elem = layout.elem_size;
-    if elem & (align - 1) == 0 {
+    if align.remainder(elem) == 0 {
         return form_at_zero(decoded, 1);
     }
     if seen_phase(elem, align, phase) == 0 {
-        return form_at_zero(decoded, align);
+        return form_at_zero(decoded, align.value);
     }
     Ok(NormalForm {
         size_base: layout.size_base,

@@ -1,5 +1,5 @@
 -- Sequences of sizes and the line below them: equal sequences have the same line and meet it at the same counts. Assumes nothing.
-use mathlib.Core.Path.{◌≡◌, refl, sym, ap, ap₂, ◌∙◌, subst}
+use mathlib.Core.Path.{◌≡◌, sym, ap, ap₂, ◌∙◌, subst}
 use Prim.Native.Nat.{ℕ, suc, ◌+◌, ◌-◌, ◌*◌, ◌/◌, ◌%◌, ◌^◌, ◌≤◌, ◌<◌}
 use native.Mathlib.Nat.{le_antisymm, mod-add-mod, mod_self, mul-mod_left, mul-le-mul_left, mul_assoc, add-mul-mod_self_right}
 use native.Mathlib.Omega.{arith}

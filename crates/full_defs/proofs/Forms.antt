@@ -12,12 +12,11 @@ use Rattle.util_defs.specs.Round.{up}
 use Rattle.util_defs.specs.Refusal.{answered, Tells, holds, fails, None, Meets, answers}
 use Rattle.util_defs.proofs.Refusals.{tells_eq, tells_lt, tells_as, meets, answered_means, one_outcome}
 use Rattle.util_defs.proofs.Powers.{positive, double}
-use Rattle.util_defs.proofs.Rounding.{multiple, difference_multiple, up_multiple, up_ge, up_near, up_is, up_least, up_whole}
-use Rattle.rounding.specs.Word.{IsWord}
-use Rattle.rounding.proofs.Words.{parts_of_lem, same_align, same_phase, same_word, not_zero, at_parts}
+use Rattle.util_defs.proofs.Rounding.{up_multiple, up_near, up_is, up_least, up_whole}
+use Rattle.rounding.proofs.Words.{parts_of_lem, same_align, same_phase, not_zero, at_parts}
 use Rattle.trailing_defs.specs.Size.{Trailing, A, p, size_with, size_at, HasSize}
 use Rattle.trailing_defs.specs.Sequence.{EqualSizes}
-use Rattle.trailing_defs.proofs.Sizes.{size_zero, rounded_zero}
+use Rattle.trailing_defs.proofs.Sizes.{rounded_zero}
 use Rattle.trailing_defs.proofs.Sequences.{whole_blocks}
 use Rattle.full_defs.specs.Full.{lowest_bit, seen_phase}
 use Rattle.full_defs.specs.Form.{Form, Parts, size_of, SoundParts, Choice, NoLater, IsNormal, form, form_of, PastM, form_causes, form_for}

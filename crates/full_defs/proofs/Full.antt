@@ -3,7 +3,6 @@ use mathlib.Core.Path.{◌≡◌, refl, sym, ap, ap₂, ◌∙◌, subst}
 use mathlib.Core.Bool.{Bool, true, false}
 use mathlib.Core.Logic.{◌⊎◌, inl, inr}
 use Prim.Native.Nat.{ℕ, ◌+◌, ◌*◌, ◌%◌, ◌^◌, ◌<◌}
-use lib.Dec.{eqb}
 use native.Mathlib.Nat.{le_antisymm}
 use native.Mathlib.Omega.{arith}
 use borrow.Author.Tests.{ne_eqb}
@@ -13,10 +12,9 @@ use Rattle.util_defs.proofs.Refusals.{yes, told_true, tells_eq, tells_and, tells
 use Rattle.util_defs.proofs.Powers.{positive}
 use Rattle.util_defs.proofs.Rounding.{up_shift, down_mod, down_multiple}
 use Rattle.rounding.proofs.Words.{parts_of_lem}
-use Rattle.trailing_defs.specs.Size.{Trailing, A, p, size_with, size_at}
+use Rattle.trailing_defs.specs.Size.{Trailing, A, p, size_at}
 use Rattle.trailing_defs.specs.Sequence.{EqualSizes, SameStride}
 use Rattle.trailing_defs.specs.Calls.{same_causes}
-use Rattle.trailing_defs.proofs.Sizes.{size_mono}
 use Rattle.trailing_defs.proofs.Sequences.{whole_blocks, tells_stride}
 use Rattle.full_defs.specs.Full.{lowest_bit, seen_phase, sizes_agree, agree_for, FoundEqual}
 use Rattle.full_defs.specs.Form.{Parts, size_of, SoundParts}

@@ -1,15 +1,13 @@
 -- What trailing zeros and masks compute of the lowest one bit, over any width w. Assumes nothing.
-use mathlib.Core.Path.{◌≡◌, refl, sym, ap, ◌∙◌, subst}
+use mathlib.Core.Path.{◌≡◌, refl, ap, ◌∙◌}
 use Prim.Native.Nat.{ℕ, zero, suc, ◌+◌, ◌-◌, ◌*◌, ◌/◌, ◌%◌, ◌^◌, ◌≤◌, ◌<◌}
 use native.Mathlib.Nat.{mod-eq_of_lt, two-pow-succ, pos_of_ne-zero, zero-mod, le_of_dvd, dvd_of_mod-eq-zero}
 use native.Mathlib.Omega.{arith}
-use lib.Bits.{bit_and}
 use lib.Count.{count_trailing_zeros, under}
 use Rattle.util_defs.specs.Power.{PowerOfTwo}
-use Rattle.util_defs.specs.Round.{up, down}
+use Rattle.util_defs.specs.Round.{up}
 use Rattle.util_defs.proofs.Powers.{positive, pow_lt_cancel, double}
 use Rattle.util_defs.proofs.Rounding.{up_multiple, up_near}
-use Rattle.util_defs.proofs.Masks.{mask_mod, mask_down}
 use Rattle.full_defs.specs.Full.{lowest_bit}
 use Rattle.full_defs.proofs.Lowest.{LowestBit, lowest_is, lowest_under, one_lowest, low_below}
 
@@ -48,11 +46,6 @@ shifted_lowest w e p h =
     let x = trailing_lowest w e p h in
     let l : t ≤ e = lowest_lt x in
     ap (λ (z : ℕ). z % 2 ^ w) {x = 1 * t} {y = t} (omega arith) ∙ mod-eq_of_lt (omega arith) ∙ one_lowest x (lowest_of_bits w e p h)
-
--- (v + (g - 1)) & !(g - 1), at w bits, rounds up
-pub mask_up : {g : ℕ} (w v : ℕ) → PowerOfTwo g → g < 2 ^ w → v + (g - 1) < 2 ^ w → bit_and (v + (g - 1)) ((2 ^ w - 1) - (g - 1)) ≡ up v g
-unfolding up down
-mask_up {g} w v x hg h = mask_down w (v + (g - 1)) x hg h
 
 -- of an element size that a power does not divide, the lowest one bit: it is below the power, so that rounding to it passes nothing
 pub record LowUnit (w e a g : ℕ) : Type 0 where

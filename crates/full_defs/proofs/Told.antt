@@ -1,6 +1,6 @@
 -- What the comparison and the form are by the parts a and q of a word, over any width w. Assumes nothing.
-use mathlib.Core.Path.{◌≡◌, refl, sym, ap, ◌∙◌}
-use mathlib.Core.Bool.{Bool, true, false}
+use mathlib.Core.Path.{◌≡◌, sym, ap, ◌∙◌}
+use mathlib.Core.Bool.{false}
 use Prim.Native.Nat.{ℕ, ◌+◌, ◌-◌, ◌%◌, ◌^◌, ◌≤◌, ◌<◌}
 use lib.Dec.{eqb}
 use native.Mathlib.Omega.{arith}
@@ -11,7 +11,7 @@ use Rattle.util_defs.specs.Refusal.{answered, refused, unless, Tells}
 use Rattle.util_defs.proofs.Refusals.{tells_eq, tells_as}
 use Rattle.util_defs.proofs.Powers.{double}
 use Rattle.rounding.specs.Word.{IsWord}
-use Rattle.rounding.proofs.Words.{at_parts, not_zero}
+use Rattle.rounding.proofs.Words.{at_parts}
 use Rattle.trailing_defs.specs.Size.{Trailing, A, p, size_at}
 use Rattle.trailing_defs.specs.Sequence.{same_stride}
 use Rattle.trailing_defs.proofs.Calls.{size_first}

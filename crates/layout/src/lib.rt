@@ -1,16 +1,17 @@
 // Whole layouts, after zerocopy's DstLayout.
 #![tactic(auto)]
 
-ghost use Rattle.std.specs.Prelude.{◌≡◌};
-ghost use Rattle.util_defs.specs.Refusal.{None, Meets};
+ghost use Rattle.std.specs.Prelude.{◌≡◌, [], ◌∷◌};
+ghost use Rattle.util_defs.specs.Round.{up};
+ghost use Rattle.util_defs.specs.Refusal.{None, Meets, unless};
 ghost use Rattle.util.specs.View.{number_says};
-ghost use Rattle.layout_defs.specs.Layout.{layout_causes, check_for, FitsWidth};
+ghost use Rattle.layout_defs.specs.Layout.{fixed, layout_causes, check_for, FitsWidth};
 ghost use Rattle.layout_defs.specs.Unique.{accepted_prop};
-ghost use Rattle.layout_defs.specs.Extend.{round_up_causes, round_up_for, LeastPlace};
-ghost use Rattle.layout.specs.View.{layout_of, check_says};
+ghost use Rattle.layout_defs.specs.Extend.{rounding_passes, round_up_causes, round_up_for, LeastPlace};
+ghost use Rattle.layout.specs.View.{layout_of, sized_of, check_says};
 
 use trailing::TrailingSliceLayout;
-use util::Refusal;
+use util::{Align, Refusal};
 
 // How large a layout is: a size, or a size at each count.
 #[derive(Clone, Copy)]
@@ -36,6 +37,18 @@ pub struct ValidLayout {
     pub ghost accepted: { None (layout_causes 64 (layout_of layout)) } by { accepted_prop 64 (layout_of layout) },
 }
 
+impl ValidLayout {
+    // The alignment, which `check` found to be a power of two.
+    #[inline(always)]
+    pub fn align(self) -> Align
+        ensures { result.value ≡ self.layout.align }
+    {
+        Align {
+            value: self.layout.align,
+        }
+    }
+}
+
 // A layout with a size: no member of it is trailing.
 #[derive(Clone, Copy)]
 pub struct SizedLayout {
@@ -45,12 +58,27 @@ pub struct SizedLayout {
     pub align_modifier: bool,
 }
 
-// len rounded up to a multiple of align, where that does not pass the greatest number.
-pub fn round_up(len: u64, align: u64) -> Result<u64, Refusal>
-    ensures answer { number_says result ≡ round_up_for 64 len align }
-    ensures meaning { Meets (round_up_causes 64 len align) (LeastPlace len align) (number_says result) }
+// A layout with a size, as any.
+impl From<SizedLayout> for DstLayout<u64> {
+    ghost from_gives = { λ own l. layout_of l ≡ sized_of own };
+
+    #[inline(always)]
+    fn from(own: SizedLayout) -> DstLayout<u64> {
+        DstLayout {
+            align: own.align,
+            size_info: SizeInfo::Sized { size: own.size },
+            statically_shallow_unpadded: own.statically_shallow_unpadded,
+            align_modifier: own.align_modifier,
+        }
+    }
+}
+
+// len rounded up to a multiple of what is known to be a power of two. Of the lesser of two alignments the compiler does not see
+// that it is one, and would test it once more.
+pub fn round_up_to(len: u64, align: Align) -> Result<u64, Refusal>
+    ensures { number_says result ≡ unless (rounding_passes 64 (up len align.value) ∷ []) (up len align.value) }
 {
-    let padding = util::padding_needed_for(len, align)?;
+    let padding = align.padding_needed(len);
     if u64::MAX - padding < len {
         Err(Refusal::RoundingPassesMax)
     } else {
@@ -58,7 +86,33 @@ pub fn round_up(len: u64, align: u64) -> Result<u64, Refusal>
     }
 }
 
+// len rounded up to a multiple of align, where that does not pass the greatest number.
+pub fn round_up(len: u64, align: u64) -> Result<u64, Refusal>
+    ensures answer { number_says result ≡ round_up_for 64 len align }
+    ensures meaning { Meets (round_up_causes 64 len align) (LeastPlace len align) (number_says result) }
+{
+    round_up_to(len, Align::new(align)?)
+}
+
 impl DstLayout<u64> {
+    // The layout with this size, in place of what it has.
+    #[inline(always)]
+    pub fn with_size(self, size: u64) -> SizedLayout
+        ensures { sized_of result ≡ record {
+          align = self.align;
+          info = fixed size;
+          mark = self.statically_shallow_unpadded;
+          modifier = self.align_modifier;
+        } }
+    {
+        SizedLayout {
+            align: self.align,
+            size,
+            statically_shallow_unpadded: self.statically_shallow_unpadded,
+            align_modifier: self.align_modifier,
+        }
+    }
+
     // Whether the layout is one: its alignment is a power of two and its rounding word, if it has one, is not 0.
     #[inline(always)]
     pub fn check(self) -> Result<(), Refusal>

@@ -8,17 +8,15 @@ use Prim.Native.Nat.{ℕ, ◌^◌, ◌≤◌, ◌<◌}
 use native.Mathlib.Omega.{arith}
 use borrow.Author.Tests.{le-ltb, lt-ltb}
 use Rattle.util_defs.specs.Width.{M}
-use Rattle.util_defs.specs.Power.{PowerOfTwo}
 use Rattle.util_defs.specs.Round.{up}
 use Rattle.util_defs.specs.Refusal.{answered, refused, unless, Tells, holds, fails, Meets}
 use Rattle.util.specs.View.{number_of, number_says}
-use Rattle.util_defs.specs.Helpers.{align_causes}
-use Rattle.util_defs.proofs.Refusals.{tells_lt, meets, clear}
+use Rattle.util_defs.proofs.Refusals.{tells_lt, meets}
 use Rattle.util_defs.proofs.Powers.{positive}
 use Rattle.util_defs.proofs.Rounding.{up_multiple, up_ge, up_least}
 use Rattle.util_defs.proofs.Helpers.{power, align_decided}
 use Rattle.layout_defs.specs.Extend.{rounding_passes, LeastPlace, round_up_causes, round_up_for}
-use Rattle.util_defs.proofs.Tables.{apart, accepted_first}
+use Rattle.util_defs.proofs.Tables.{apart}
 
 -- a number that is at most M is not refused; one above M is, by 8
 pub within : {T : Type 0} (w v : ℕ) (x : T) → v ≤ M w → answered x ≡ unless (rounding_passes w v ∷ []) x
@@ -54,8 +52,3 @@ pub round_meets : (w v a : ℕ) → a < 2 ^ w → Meets (round_up_causes w v a) 
 unfolding round_up_for
 round_meets w v a h =
     meets (round_up_causes w v a) (up v a) (align_decided w a h, λ _. (tells_lt (M w) (up v a), λ _. tt)) (λ n. least_place v a (positive (power w a h n.0)))
-
--- to a power of two only 8 is left to refuse
-pub round_power : {a : ℕ} (w v : ℕ) → PowerOfTwo a → a < 2 ^ w → round_up_for w v a ≡ unless (rounding_passes w (up v a) ∷ []) (up v a)
-unfolding round_up_for
-round_power {a} w v p h = accepted_first (align_causes w a) (rounding_passes w (up v a) ∷ []) v (up v a) (clear (align_causes w a) (align_decided w a h, λ _. tt) ((λ n. n p), tt))

@@ -10,7 +10,7 @@ ghost use Rattle.make.specs.Make.{asked, empty_layout, new_zst_for, type_causes,
 use layout::{DstLayout, SizeInfo};
 use rounding::RoundingAlignAndPhase;
 use trailing::TrailingSliceLayout;
-use util::Refusal;
+use util::{Align, Refusal};
 
 // The least alignment, which a layout has where none is asked for.
 pub const MIN_ALIGN: u64 = 1;
@@ -29,19 +29,16 @@ fn asked_align(repr_align: u64) -> u64
 fn for_marked_type(size: u64, align: u64, unpadded: bool) -> Result<DstLayout<u64>, Refusal>
     ensures { layout_says result ≡ type_for 64 unpadded size align }
 {
-    if util::is_power_of_two(align) {
-        if size & (align - 1) == 0 {
-            Ok(DstLayout {
-                align,
-                size_info: SizeInfo::Sized { size },
-                statically_shallow_unpadded: unpadded,
-                align_modifier: false,
-            })
-        } else {
-            Err(Refusal::SizeNotMultipleOfAlign)
-        }
+    let align = Align::new(align)?;
+    if align.remainder(size) == 0 {
+        Ok(DstLayout {
+            align: align.value,
+            size_info: SizeInfo::Sized { size },
+            statically_shallow_unpadded: unpadded,
+            align_modifier: false,
+        })
     } else {
-        Err(Refusal::AlignNotPowerOfTwo)
+        Err(Refusal::SizeNotMultipleOfAlign)
     }
 }
 
@@ -50,17 +47,13 @@ pub fn new_zst(repr_align: u64) -> Result<DstLayout<u64>, Refusal>
     ensures answer { layout_says result ≡ new_zst_for 64 repr_align }
     ensures meaning { Meets (align_causes 64 (asked repr_align)) (λ l. l ≡ empty_layout repr_align) (layout_says result) }
 {
-    let align = asked_align(repr_align);
-    if util::is_power_of_two(align) {
-        Ok(DstLayout {
-            align,
-            size_info: SizeInfo::Sized { size: 0 },
-            statically_shallow_unpadded: true,
-            align_modifier: repr_align != 0,
-        })
-    } else {
-        Err(Refusal::AlignNotPowerOfTwo)
-    }
+    let align = Align::new(asked_align(repr_align))?;
+    Ok(DstLayout {
+        align: align.value,
+        size_info: SizeInfo::Sized { size: 0 },
+        statically_shallow_unpadded: true,
+        align_modifier: repr_align != 0,
+    })
 }
 
 // The layout of a type of which it is not known whether it has padding.
@@ -84,24 +77,21 @@ pub fn for_slice(size: u64, align: u64) -> Result<DstLayout<u64>, Refusal>
     ensures answer { layout_says result ≡ slice_for 64 size align }
     ensures meaning { Meets (type_causes 64 size align) (λ l. l ≡ slice_layout size align) (layout_says result) }
 {
-    if util::is_power_of_two(align) {
-        let remainder = size & (align - 1);
-        if remainder == 0 {
-            Ok(DstLayout {
-                align,
-                size_info: SizeInfo::SliceDst(TrailingSliceLayout {
-                    offset: 0,
-                    elem_size: size,
-                    size_base: 0,
-                    size_rounding_align_and_phase: RoundingAlignAndPhase(align),
-                }),
-                statically_shallow_unpadded: true,
-                align_modifier: false,
-            })
-        } else {
-            Err(Refusal::SizeNotMultipleOfAlign)
-        }
+    let align = Align::new(align)?;
+    let remainder = align.remainder(size);
+    if remainder == 0 {
+        Ok(DstLayout {
+            align: align.value,
+            size_info: SizeInfo::SliceDst(TrailingSliceLayout {
+                offset: 0,
+                elem_size: size,
+                size_base: 0,
+                size_rounding_align_and_phase: RoundingAlignAndPhase(align.value),
+            }),
+            statically_shallow_unpadded: true,
+            align_modifier: false,
+        })
     } else {
-        Err(Refusal::AlignNotPowerOfTwo)
+        Err(Refusal::SizeNotMultipleOfAlign)
     }
 }

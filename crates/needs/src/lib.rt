@@ -18,13 +18,12 @@ fn trailing_padding(valid: ValidTail) -> Result<bool, Refusal>
     ensures { decision_says result ≡ answered (dynamic_padding 64 (trailing (trailing_of valid.layout))) }
 {
     let tail = valid.layout;
-    let word = tail.size_rounding_align_and_phase;
-    let align = word.align()?;
+    let decoded = tail.decoded()?;
     let Ok(initial_size) = tail.size_for_elems(0) else {
         return Ok(true);
     };
     if initial_size == tail.offset {
-        Ok(tail.elem_size & (align - 1) != 0)
+        Ok(decoded.align().remainder(tail.elem_size) != 0)
     } else {
         Ok(true)
     }

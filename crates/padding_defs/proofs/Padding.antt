@@ -2,11 +2,10 @@
 use mathlib.Core.Path.{◌≡◌, refl, sym, ap, ap₂, ◌∙◌}
 use mathlib.Core.Bool.{Bool, true, false, cond}
 use mathlib.Core.List.{[], ◌∷◌}
-use Prim.Native.Nat.{ℕ, zero, suc, ◌+◌, ◌-◌, ◌*◌, ◌%◌, ◌^◌, ◌≤◌, ◌<◌}
+use Prim.Native.Nat.{ℕ, zero, suc, ◌+◌, ◌*◌, ◌%◌, ◌^◌, ◌≤◌, ◌<◌}
 use native.Mathlib.Nat.{mod-lt}
 use native.Mathlib.Omega.{arith}
 use lib.Dec.{eqb, ltb}
-use lib.Bits.{bit_and}
 use borrow.Author.Tests.{ltb-true, ltb-false}
 use Rattle.util_defs.specs.Width.{M}
 use Rattle.util_defs.specs.Power.{PowerOfTwo}
@@ -15,7 +14,6 @@ use Rattle.util_defs.specs.Refusal.{Tells, None, Meets, Decided}
 use Rattle.util_defs.proofs.Refusals.{tells_true, tells_eq, tells_lt, tells_and, tells_as, agree, meets}
 use Rattle.util_defs.proofs.Powers.{positive, double, power_divides, through}
 use Rattle.util_defs.proofs.Rounding.{down_is, down_mod, up_multiple, up_ge, up_near, up_is, up_least, up_shift, up_whole, down_multiple}
-use Rattle.util_defs.proofs.Masks.{mask_mod}
 use Rattle.util_defs.proofs.Helpers.{power}
 use Rattle.rounding.specs.Word.{IsWord}
 use Rattle.rounding.proofs.Words.{align_is, phase_is, align_power}
@@ -149,9 +147,8 @@ pad_meets w l h =
     meets (pad_causes w l) (padded w l) (pad_decided w l h)
     (λ n. padded_is w l h (none_both (layout_causes w l) (rounding_passes w (padding_needs w l.align l.info) ∷ []) n).0)
 
--- rounding up adds nothing exactly where the number has no remainder, as a mask tests it
-pub up_same : {a : ℕ} (s : ℕ) → PowerOfTwo a → eqb (bit_and s (a - 1)) 0 ≡ eqb (up s a) s
+-- rounding up adds nothing exactly where the number has no remainder
+pub up_same : {a : ℕ} (s : ℕ) → PowerOfTwo a → eqb (s % a) 0 ≡ eqb (up s a) s
 up_same {a} s q =
-    agree
-    (tells_as (λ e. up_whole s a (positive q) (sym (mask_mod s q) ∙ e)) (λ e. mask_mod s q ∙ ap (λ (x : ℕ). x % a) (sym e) ∙ up_multiple s a) (tells_eq (bit_and s (a - 1)) 0))
+    agree (tells_as (λ e. up_whole s a (positive q) e) (λ e. ap (λ (x : ℕ). x % a) (sym e) ∙ up_multiple s a) (tells_eq (s % a) 0))
     (tells_eq (up s a) s)

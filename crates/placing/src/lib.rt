@@ -33,13 +33,6 @@ fn place_trailing(tail: TrailingSliceLayout<u64>, place: u64) -> Result<SizeInfo
     }))
 }
 
-// The larger of two numbers.
-fn larger(a: u64, b: u64) -> u64
-    ensures { result ≡ max a b }
-{
-    if a < b { b } else { a }
-}
-
 // The size of a layout whose last member stands at place.
 fn place_member(size_info: SizeInfo<u64>, place: u64) -> Result<SizeInfo<u64>, Refusal>
     ensures { info_says result ≡ unless (member_passes 64 place (info_of size_info) ∷ []) (placed_at place (info_of size_info)) }
@@ -47,7 +40,7 @@ fn place_member(size_info: SizeInfo<u64>, place: u64) -> Result<SizeInfo<u64>, R
     match size_info {
         SizeInfo::Sized { size } => {
             // The compiler makes one addition of this, and a test of its carry.
-            let end = std::num::wrapping_add_u64(place, size);
+            let end = place.wrapping_add(size);
             if end < place {
                 Err(Refusal::MemberPassesMax)
             } else {
@@ -58,7 +51,8 @@ fn place_member(size_info: SizeInfo<u64>, place: u64) -> Result<SizeInfo<u64>, R
     }
 }
 
-// Whether the mark stays: both had it and no gap arose.
+// Whether the mark stays: both had it and no gap arose. By ifs, here and in `either`: with `&&` and `||` a composition of eight
+// members takes 1.05 times the instructions (558 for 529).
 fn step_mark(unpadded: bool, field_unpadded: bool, preceding_size: u64, place: u64) -> bool
     ensures { result ≡ (unpadded && (field_unpadded && nat_eq place preceding_size)) }
 {
@@ -104,7 +98,7 @@ pub fn extend_at(
     );
     let size_info = place_member(field_info, place)?;
     Ok(DstLayout {
-        align: larger(own.align, field_align),
+        align: own.align.max(field_align),
         size_info,
         statically_shallow_unpadded: unpadded,
         align_modifier: either(own.align_modifier, field.align_modifier),

@@ -31,7 +31,8 @@ pub struct Words {
 // The bytes of a record.
 pub const RECORD_BYTES: usize = 48;
 
-// The kind of a record: one of these two, 1 more with the mark, and 4 more with an alignment modifier.
+// The kind of a record: one of these two, 1 more with the mark, and 4 more with an alignment modifier. Numbers and no enum, since
+// the papers give them, and a record may have any.
 pub const KIND_FIXED: u64 = 0;
 
 pub const KIND_TRAILING: u64 = 2;
@@ -42,15 +43,12 @@ pub const GREATEST_KIND: u64 = 7;
 fn later_words_zero(offset: u64, elem_size: u64, word: u64) -> bool
     ensures { result ≡ (eqb offset 0 && (eqb elem_size 0 && eqb word 0)) }
 {
-    if offset == 0 {
-        if elem_size == 0 { word == 0 } else { false }
-    } else {
-        false
-    }
+    offset == 0 && elem_size == 0 && word == 0
 }
 
-// The layout of the six words of a record. The tests stand in one function, in the order of their numbers: the compiler then
-// knows of an accepted layout what was tested, wherever this is inlined.
+// The layout of the six words of a record. The tests stand in one function, in the order of the papers: the compiler then
+// knows of an accepted layout what was tested, wherever this is inlined. No TryFrom: its promise has two clauses, by name, and an
+// impl has one.
 pub fn layout_from_words(words: Words) -> Result<DstLayout<u64>, Refusal>
     ensures answer { layout_says result ≡ words_for 64 (words_in words) }
     ensures meaning { Meets (words_causes 64 (words_in words)) (Decodes (words_in words)) (layout_says result) }
@@ -106,7 +104,7 @@ fn marked_kind(kind: u64, unpadded: bool, align_modifier: bool) -> u64
     }
 }
 
-// The six words of a layout's record.
+// The six words of a layout's record. A function and no From, as the way there is.
 pub fn words_from_layout(l: DstLayout<u64>) -> Words
     ensures { words_in result ≡ words_of (layout_of l) }
 {

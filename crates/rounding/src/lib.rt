@@ -46,7 +46,7 @@ impl RoundingAlignAndPhase<u64> {
         if word == 0 {
             return Err(Refusal::RoundingWordZero);
         }
-        let shift = 63 - u64::leading_zeros(word);
+        let shift = 63 - word.leading_zeros();
         let align = 1u64 << shift;
         Ok(Components {
             align,

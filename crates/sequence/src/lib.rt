@@ -4,7 +4,6 @@
 #![tactic(auto)]
 
 ghost use Rattle.std.specs.Prelude.{◌≡◌};
-ghost use Rattle.util_defs.specs.Power.{PowerOfTwo};
 ghost use Rattle.util_defs.specs.Refusal.{Meets};
 ghost use Rattle.util.specs.View.{decision_says};
 ghost use Rattle.trailing_defs.specs.Sequence.{same_start, same_stride, same_sequence};
@@ -18,26 +17,20 @@ use util::Refusal;
 // The part of the comparison that looks past the sizes at 0: the element size is a multiple of the larger alignment, or both
 // alignments and both phases are equal. Either is enough for equal sizes at every count, and neither is needed. The larger of
 // two alignments is a multiple of the smaller, so that a multiple of it is one of both.
-fn same_stride(elem: u64, parts: Components<u64>, other: Components<u64>) -> bool
-    requires { PowerOfTwo parts.align × PowerOfTwo other.align }
-    ensures { result ≡ same_stride elem parts.align parts.phase other.align other.phase }
+fn same_stride(first: Decoded, other: Decoded) -> bool
+    ensures { result ≡ same_stride first.layout.elem_size first.parts.align first.parts.phase other.parts.align
+        other.parts.phase }
 {
-    let Components { align, phase } = parts;
+    let elem = first.layout.elem_size;
+    let Components { align, phase } = first.parts;
     let Components {
         align: align2,
         phase: phase2,
-    } = other;
+    } = other.parts;
     if align > align2 {
-        return elem & (align - 1) == 0;
+        return first.align().remainder(elem) == 0;
     }
-    if elem & (align2 - 1) == 0 {
-        return true;
-    }
-    if align == align2 {
-        phase == phase2
-    } else {
-        false
-    }
+    other.align().remainder(elem) == 0 || (align == align2 && phase == phase2)
 }
 
 // Whether the sizes at 0 exist and are equal.
@@ -56,15 +49,9 @@ fn same_start(first: Decoded, other: Decoded) -> bool
 fn same_sequence(first: Decoded, other: Decoded) -> bool
     ensures { result ≡ same_sequence 64 (trailing_of first.layout) (trailing_of other.layout) }
 {
-    let elem = first.layout.elem_size;
-    if elem != other.layout.elem_size {
-        return false;
-    }
-    if same_start(first, other) {
-        same_stride(elem, first.parts, other.parts)
-    } else {
-        false
-    }
+    first.layout.elem_size == other.layout.elem_size
+        && same_start(first, other)
+        && same_stride(first, other)
 }
 
 // Whether the two layouts are found to have the same size at every count. A no does not mean that they have not.

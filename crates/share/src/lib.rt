@@ -121,7 +121,7 @@ fn low_answer(answer: Result<Share<u64>, RefusedAt<u64>>) -> Result<Share<u32>, 
     answer.map(low_share)
 }
 
-// The same at 32 bits.
+// The same at 32 bits. A function of its own: `sums_of_counts32` widens the layout, and the share is narrowed at the end.
 pub fn padding_of_counts32(
     layout: TrailingSliceLayout<u32>,
     counts: &[u32],

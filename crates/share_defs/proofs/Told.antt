@@ -5,8 +5,6 @@ use mathlib.Core.List.{List, [], ◌∷◌}
 use Prim.Native.Nat.{ℕ, ◌+◌, ◌-◌, ◌*◌, ◌^◌, ◌≤◌, ◌<◌}
 use native.Mathlib.Omega.{arith}
 use borrow.Author.Tests.{lt-ltb, le-ltb, eq-eqb, ne_eqb}
-use lib.Bits.{bit_and}
-use lib.Pow.{pow_mono}
 use lib.ListN.{length}
 use Rattle.util_defs.specs.Width.{M}
 use Rattle.util_defs.specs.Round.{up, down}
@@ -15,7 +13,6 @@ use Rattle.util_defs.proofs.Refusals.{tells_lt}
 use Rattle.util_defs.specs.Placed.{Placed, reached, stopped, go_on}
 use Rattle.util_defs.proofs.Tables.{answer_is}
 use Rattle.util_defs.proofs.Powers.{positive, divides}
-use Rattle.util_defs.proofs.Masks.{mask_down}
 use Rattle.util_defs.proofs.Rounding.{next_multiple, up_multiple, up_ge}
 use Rattle.rounding.specs.Word.{IsWord}
 use Rattle.rounding.proofs.Words.{parts_of_lem, at_parts, not_zero}
@@ -27,20 +24,20 @@ use Rattle.share_defs.specs.Share.{Share, share_of, sums_for, share_for}
 use Rattle.share_defs.specs.Meaning.{ShareMeans}
 use Rattle.share_defs.proofs.Meaning.{share_means}
 
--- the size with x trailing bytes by the parts a and q of the word, and by a mask where it is at most M
+-- the size with x trailing bytes by the parts a and q of the word, and so by rounding down
 pub size_by_parts : {a q : ℕ} (w : ℕ) (t : Trailing) (x : ℕ) → IsWord t.word a q → t.word < 2 ^ w → size_with t.base (A w t) (p w t) x ≡ t.base + up (q + x) a
 unfolding size_with
 size_by_parts w t x h l = at_parts w (λ a q. t.base + up (q + x) a) h l
+
+pub size_by_down : {a q : ℕ} (w : ℕ) (t : Trailing) (x : ℕ) → IsWord t.word a q → t.word < 2 ^ w → t.base + down (q + x + (a - 1)) a ≡ size_with t.base (A w t) (p w t) x
+unfolding up down
+size_by_down w t x h l = sym (size_by_parts w t x h l)
 
 pub sum_fits : {a : ℕ} (w b v : ℕ) {n q : ℕ} → IsWord n a q → n < 2 ^ w → b + up v a ≤ M w → v + (a - 1) < 2 ^ w
 sum_fits {a} w b v x h l =
     let lt : up v a < 2 ^ w = omega arith in
     let pos = positive x.power in
     omega (arith, next_multiple a (up v a) (2 ^ w) (up_multiple v a) (divides w x.power (omega (arith, x.sum))) lt, up_ge v a pos)
-
-pub up_by_mask : {a n q : ℕ} (w v : ℕ) → IsWord n a q → n < 2 ^ w → v + (a - 1) < 2 ^ w → bit_and (v + (a - 1)) ((2 ^ w - 1) - (a - 1)) ≡ up v a
-unfolding up down
-up_by_mask {a} w v x h l = mask_down w (v + (a - 1)) x.power (omega (arith, x.sum)) l
 
 -- where m is the greatest number of trailing bytes that has a size: those of up to m bytes, and those above
 module _ {a q m : ℕ} (w : ℕ) (t : Trailing) (h : IsWord t.word a q) (l : t.word < 2 ^ w) (g : GreatestIn w t (M w) m) where
@@ -65,13 +62,6 @@ module _ {a q m : ℕ} (w : ℕ) (t : Trailing) (h : IsWord t.word a q) (l : t.w
       go : {b : Bool} → Tells (M w < size_at w t n) b → M w < size_at w t n
       go (holds r) = r
       go (fails f) = absurd (omega (arith, f, g.greatest (n * t.elem) (omega (arith, f))))
-
-  -- the mask may have more bits than the width
-  pub size_by_mask : (u : ℕ) → w ≤ u → (x : ℕ) → x ≤ m → t.base + bit_and (q + x + (a - 1)) ((2 ^ u - 1) - (a - 1)) ≡ size_with t.base (A w t) (p w t) x
-  size_by_mask u j x k =
-      let g : 2 ^ w ≤ 2 ^ u = pow_mono j in
-      let f = sum_fits w t.base (q + x) h l (bytes_size x k) in
-      ap (λ (z : ℕ). t.base + z) (up_by_mask u (q + x) h (omega (arith, l, g)) (omega (arith, f, g))) ∙ sym (size_by_parts w t x h l)
 
 module _ (w : ℕ) (t : Trailing) (i n : ℕ) (x : Totals) where
   -- 39, 15, 52, and what is left where none of them comes

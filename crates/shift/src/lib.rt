@@ -3,6 +3,7 @@
 #![tactic(auto)]
 
 ghost use Rattle.std.specs.Prelude.{◌≡◌, ◌<◌};
+ghost use Rattle.std.specs.Coded.{le_prop};
 ghost use Rattle.util_defs.specs.Refusal.{Meets};
 ghost use Rattle.util.specs.View.{decision_says};
 ghost use Rattle.trailing_defs.specs.Sequence.{same_sequence};
@@ -19,6 +20,13 @@ ghost use Rattle.shift.specs.View.{mode_of, shift_in, shift_says};
 use layout::{DstLayout, SizeInfo, ValidLayout};
 use trailing::{TrailingSliceLayout, ValidTail};
 use util::Refusal;
+
+// A trailing layout that is one, and whose elements have a size.
+#[derive(Clone, Copy)]
+struct ElemTail {
+    valid: ValidTail,
+    ghost has_elem: { 0 < valid.layout.elem_size } by { le_prop },
+}
 
 // What compares the sizes of two layouts: the ported comparison, of which a no does not mean that they differ, or the full one.
 #[derive(Clone, Copy)]
@@ -78,7 +86,7 @@ fn matches<C: Compares>(src: ValidTail, dst: ValidTail, dst_base: u64) -> bool
     )
 }
 
-// The same of any two layouts, in a mode.
+// Whether the sizes of any two layouts match so in a mode.
 pub fn size_sequences_match(
     src: TrailingSliceLayout<u64>,
     dst: TrailingSliceLayout<u64>,
@@ -107,17 +115,16 @@ pub fn size_sequences_match(
 }
 
 // The first way: the difference of the size offsets in whole target elements.
-fn exact_offset_delta_elems(src: ValidTail, dst: ValidTail) -> Option<u64>
-    requires { 0 < (trailing_of dst.layout).elem }
-    ensures { shift_in result ≡ by_offset 64 (trailing_of src.layout) (trailing_of dst.layout) }
+fn exact_offset_delta_elems(src: ValidTail, dst: ElemTail) -> Option<u64>
+    ensures { shift_in result ≡ by_offset 64 (trailing_of src.layout) (trailing_of dst.valid.layout) }
 {
     let src_offset = src.layout.size_offset().ok()?;
-    let dst_offset = dst.layout.size_offset().ok()?;
+    let dst_offset = dst.valid.layout.size_offset().ok()?;
     if src_offset < dst_offset {
         return None;
     }
     let delta = src_offset - dst_offset;
-    let dst_elem_size = dst.layout.elem_size;
+    let dst_elem_size = dst.valid.layout.elem_size;
     if delta % dst_elem_size == 0 {
         Some(delta / dst_elem_size)
     } else {
@@ -136,13 +143,12 @@ fn offset_delta_by_size(src: ValidTail, dst_layout: DstLayout<u64>) -> Option<u6
 }
 
 // A shift by the first way, where the two match at it.
-fn matching_offset<C: Compares>(src: ValidTail, dst: ValidTail) -> Option<u64>
-    requires { 0 < (trailing_of dst.layout).elem }
-    ensures { shift_in result ≡ matched_shift 64 C.comparison (trailing_of src.layout) (trailing_of dst.layout)
-        (by_offset 64 (trailing_of src.layout) (trailing_of dst.layout)) }
+fn matching_offset<C: Compares>(src: ValidTail, dst: ElemTail) -> Option<u64>
+    ensures { shift_in result ≡ matched_shift 64 C.comparison (trailing_of src.layout) (trailing_of dst.valid.layout)
+        (by_offset 64 (trailing_of src.layout) (trailing_of dst.valid.layout)) }
 {
     let elems = exact_offset_delta_elems(src, dst)?;
-    if matches::<C>(src, dst, elems) {
+    if matches::<C>(src, dst.valid, elems) {
         Some(elems)
     } else {
         None
@@ -171,15 +177,14 @@ fn matching_size<C: Compares>(
 fn matching_delta_elems<C: Compares>(
     src: ValidTail,
     dst_layout: DstLayout<u64>,
-    dst: ValidTail,
+    dst: ElemTail,
 ) -> Option<u64>
-    requires { 0 < (trailing_of dst.layout).elem }
     ensures { shift_in result ≡ shift_of 64 C.comparison (trailing_of src.layout) (layout_of dst_layout)
-        (trailing_of dst.layout) }
+        (trailing_of dst.valid.layout) }
 {
     match matching_offset::<C>(src, dst) {
         Some(elems) => Some(elems),
-        None => matching_size::<C>(src, dst_layout, dst),
+        None => matching_size::<C>(src, dst_layout, dst.valid),
     }
 }
 
@@ -201,7 +206,9 @@ fn checked_delta_elems(valid_src: ValidLayout, valid_dst: ValidLayout, mode: Mod
         return None;
     }
     let src = ValidTail { layout: src };
-    let dst = ValidTail { layout: dst };
+    let dst = ElemTail {
+        valid: ValidTail { layout: dst },
+    };
     match mode {
         Mode::Ported => matching_delta_elems::<Ported>(src, dst_layout, dst),
         Mode::Full => matching_delta_elems::<Full>(src, dst_layout, dst),

@@ -1,9 +1,8 @@
 // Records of 32 bytes, short ones (document 02, request 6): the form of a layout's record without the bytes that are always 0.
 #![tactic(auto)]
 
-ghost use Rattle.std.specs.Prelude.{◌≡◌, true, ◌≤◌, ◌<◌, leb, length};
+ghost use Rattle.std.specs.Prelude.{◌≡◌, ◌≤◌, ◌<◌, leb, length};
 ghost use Rattle.std.proofs.lemmas.List.Edits.{sets};
-ghost use Rattle.util_defs.specs.Power.{power_of_two};
 ghost use Rattle.util_defs.specs.Width.{M};
 ghost use Rattle.util_defs.specs.Refusal.{unless, Meets};
 ghost use Rattle.layout.specs.View.{layout_of, layout_says};
@@ -15,9 +14,9 @@ ghost use Rattle.short_defs.specs.Short.{encoded_short_words_into, encode_short_
 ghost use Rattle.short_defs.proofs.Fields.{Holds};
 ghost use Rattle.short.specs.View.{short_in};
 
-use layout::{DstLayout, SizeInfo};
+use layout::{DstLayout, SizeInfo, ValidLayout};
 use record::{GREATEST_KIND, Words};
-use util::Refusal;
+use util::{Align, Refusal};
 
 // The fields of a short record. The last four share its last eight bytes.
 #[derive(Clone, Copy)]
@@ -40,30 +39,29 @@ pub const GREATEST_WORD: u64 = 0xffff_ffff;
 pub const GREATEST_POWER: u64 = 63;
 
 // The power of an alignment.
-fn power_of(align: u64) -> u64
-    requires { power_of_two 64 align ≡ true }
-    ensures { result ≡ exponent_of 64 align }
+fn power_of(align: Align) -> u64
+    ensures { result ≡ exponent_of 64 align.value }
 {
-    (63 - u64::leading_zeros(align)) as u64
+    (63 - align.value.leading_zeros()) as u64
 }
 
-// The short form of a record's words.
-fn short_of(words: Words) -> Short
-    requires { power_of_two 64 words.align ≡ true }
-    ensures { short_in result ≡ short_of (words_in words) }
+// The short form of a layout's record. No From, as of the words below, beside which it reads.
+fn short_of(valid: ValidLayout) -> Short
+    ensures { short_in result ≡ short_of (words_of (layout_of valid.layout)) }
 {
+    let words = record::words_from_layout(valid.layout);
     Short {
         size: words.size,
         offset: words.offset,
         elem_size: words.elem_size,
         word: words.word,
-        power: power_of(words.align),
+        power: power_of(valid.align()),
         kind: words.kind,
         spare: 0,
     }
 }
 
-// The words of a short record.
+// The words of a short record. No From: of what is read a power may be above the greatest.
 fn words_of(r: Short) -> Words
     requires { r.power ≤ 63 }
     ensures { words_in result ≡ words_from (short_in r) }
@@ -156,7 +154,7 @@ pub fn encode_short_words(w: Words, out: &mut [u8]) -> Result<(), Refusal>
     if out.len() == SHORT_BYTES {
         let l = record::layout_from_words(w)?;
         if fits_short(l) {
-            put_short(out, short_of(record::words_from_layout(l)));
+            put_short(out, short_of(ValidLayout { layout: l }));
             Ok(())
         } else {
             Err(Refusal::WordAboveShort)

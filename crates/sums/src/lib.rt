@@ -21,7 +21,7 @@ mod tested;
 pub use tested::Sums;
 use tested::Tested;
 
-// A count, of either width.
+// A count, of either width. `Steps` has the same and more; it stands above layouts, of which nothing is asked here.
 trait Count: Copy {
     ghost number: { Self → ℕ };
 
@@ -45,7 +45,8 @@ impl Count for u32 {
     }
 }
 
-// The sums with the size and the padding of the count at i.
+// The sums with the size and the padding of the count at i. The layout, the sums so far and the place go apart, here and below:
+// from count to count the sums change, and the layout does not.
 fn add_sized(l: Tested, x: Sums, i: u64, size: u64, padding: u64) -> Result<Sums, Refusal>
     requires { (padding ≤ size) × (size ≤ l.max) }
     ensures { add_says result ≡ unless (sum_passes (bits_of l) (x.sizes + size) (x.paddings + padding) ∷ [])
@@ -79,8 +80,8 @@ fn size_of(l: Tested, bytes: u64) -> u64
         → result ≡ size_at (bits_of l) (trailing_of l.decoded.layout) n) }
 {
     let Decoded { layout, parts } = l.decoded;
-    let mask = parts.align - 1;
-    layout.size_base + ((parts.phase + bytes + mask) & !mask)
+    let align = l.decoded.align();
+    layout.size_base + align.round_down(parts.phase + bytes + (align.value - 1))
 }
 
 // The sums with a count of so many trailing bytes, which have a size. The end of the elements is compared in two steps: it may
@@ -182,7 +183,7 @@ pub fn sums_of_counts(
 {
     let l = test(layout, u64::MAX, counts.len() as u64).map_err(|refusal| RefusedAt {
         refusal,
-        place: 0,
+        place: 0u64,
     })?;
     add_counts(l, counts)
 }
@@ -197,7 +198,7 @@ pub fn sums_of_counts32(
     let wide = trailing32::wide_tail(layout);
     let l = test(wide, numbers32::MAX, counts.len() as u64).map_err(|refusal| RefusedAt {
         refusal,
-        place: 0,
+        place: 0u64,
     })?;
     add_counts(l, counts)
 }

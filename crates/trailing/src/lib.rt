@@ -4,7 +4,6 @@
 
 ghost use Rattle.std.specs.Prelude.{◌≡◌, ◌*◌, ◌/◌, ◌%◌, ◌<◌};
 ghost use Rattle.std.specs.Coded.{le_prop};
-ghost use Rattle.util_defs.specs.Power.{PowerOfTwo};
 ghost use Rattle.util_defs.specs.Round.{up};
 ghost use Rattle.util_defs.specs.Refusal.{Meets};
 ghost use Rattle.util.specs.View.{says, number_says};
@@ -18,7 +17,7 @@ ghost use Rattle.trailing.specs.declared.SizeRefusal.TheVariants.{Refused};
 ghost use Rattle.trailing.specs.View.{trailing_of, no_size_says, size_says};
 
 use rounding::{Components, RoundingAlignAndPhase};
-use util::Refusal;
+use util::{Align, Refusal};
 
 #[derive(Clone, Copy)]
 pub struct TrailingSliceLayout<N> {
@@ -62,18 +61,19 @@ impl<N> From<Refusal> for SizeRefusal<N> {
     }
 }
 
-// The bytes of the elements, modulo the alignment. The product wraps, which keeps its remainder: the alignment divides 2^64.
-fn trailing_remainder(elems: u64, elem: u64, align: u64) -> u64
-    requires { PowerOfTwo align }
-    ensures { result ≡ elems * elem % align }
-{
-    let size_mask = align - 1;
-    let elem_remainder = elem & size_mask;
-    util::wrapping_mul(elems, elem_remainder) & size_mask
-}
-
-// Past the test of the word: but for `rounded_phase` and `size_at` each is a step of the layout's method of that name.
+// Past the test of the word. But for `align`, `rounded_phase`, `trailing_remainder` and `size_at` each is a step of the layout's
+// method of that name.
 impl Decoded {
+    // The alignment, which the word keeps as a power of two.
+    #[inline(always)]
+    pub fn align(self) -> Align
+        ensures { result.value ≡ self.parts.align }
+    {
+        Align {
+            value: self.parts.align,
+        }
+    }
+
     // What an empty run adds: a block of the alignment, but for phase 0 nothing.
     pub fn rounded_phase(self) -> u64
         ensures { result ≡ up self.parts.phase self.parts.align }
@@ -85,10 +85,7 @@ impl Decoded {
     fn size_offset(self) -> Result<u64, Refusal>
         ensures { number_says result ≡ size_offset_for 64 (trailing_of self.layout) }
     {
-        let aligned_base = util::round_down_to_next_multiple_of_alignment(
-            self.layout.size_base,
-            self.parts.align,
-        )?;
+        let aligned_base = self.align().round_down(self.layout.size_base);
         Ok(aligned_base + self.parts.phase)
     }
 
@@ -105,23 +102,31 @@ impl Decoded {
             return Err(Refusal::NoRoom);
         }
         let extra_bytes = available - minimum_size;
-        let Components { align, phase } = self.parts;
-        let aligned_bytes = util::round_down_to_next_multiple_of_alignment(extra_bytes, align)?;
+        let aligned_bytes = self.align().round_down(extra_bytes);
         // An empty run leaves rounded_phase - phase bytes that elements can use.
-        Ok(aligned_bytes + (rounded_phase - phase))
+        Ok(aligned_bytes + (rounded_phase - self.parts.phase))
+    }
+
+    // The bytes of the elements, modulo the alignment. The product wraps, which keeps its remainder: the alignment divides 2^64.
+    fn trailing_remainder(self, elems: u64) -> u64
+        ensures { result ≡ elems * self.layout.elem_size % self.parts.align }
+    {
+        let align = self.align();
+        let elem_remainder = align.remainder(self.layout.elem_size);
+        align.remainder(util::wrapping_mul(elems, elem_remainder))
     }
 
     fn padding_for_elems(self, elems: u64) -> Result<u64, Refusal>
         ensures { number_says result ≡ padding_for_elems 64 (trailing_of self.layout) elems }
     {
         let layout = self.layout;
-        let Components { align, phase } = self.parts;
-        let rounding_input = phase + trailing_remainder(elems, layout.elem_size, align);
-        let rounding_padding = util::padding_needed_for(rounding_input, align)?;
+        let phase = self.parts.phase;
+        let rounding_input = phase + self.trailing_remainder(elems);
+        let rounding_padding = self.align().padding_needed(rounding_input);
         // The bytes of the elements cancel out: what is left is base + phase - offset + padding.
-        let fixed = std::num::wrapping_add_u64(layout.size_base, phase);
-        let past = std::num::wrapping_sub_u64(fixed, layout.offset);
-        Ok(std::num::wrapping_add_u64(past, rounding_padding))
+        let fixed = layout.size_base.wrapping_add(phase);
+        let past = fixed.wrapping_sub(layout.offset);
+        Ok(past.wrapping_add(rounding_padding))
     }
 
     // The size where the trailing bytes are at most what fits: the end of the elements and the padding after it.
@@ -130,8 +135,8 @@ impl Decoded {
         ensures { size_says result ≡ sized (size_at 64 (trailing_of self.layout) elems) }
     {
         let padding = self.padding_for_elems(elems)?;
-        let trailing_end = std::num::wrapping_add_u64(self.layout.offset, bytes);
-        Ok(std::num::wrapping_add_u64(trailing_end, padding))
+        let trailing_end = self.layout.offset.wrapping_add(bytes);
+        Ok(trailing_end.wrapping_add(padding))
     }
 
     fn size_for_elems(self, elems: u64) -> Result<u64, SizeRefusal<u64>>

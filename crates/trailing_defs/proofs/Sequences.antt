@@ -1,18 +1,14 @@
 -- Two sequences of sizes. Assumes nothing.
 use mathlib.Core.Path.{◌≡◌, sym, ap, ap₂, ◌∙◌}
-use mathlib.Core.Bool.{true, false}
-use mathlib.Core.Logic.{◌⊎◌, inl, inr, ⊎_elim}
-use Prim.Native.Nat.{ℕ, ◌+◌, ◌-◌, ◌*◌, ◌/◌, ◌%◌, ◌^◌, ◌≤◌, ◌<◌, max}
-use native.Mathlib.Nat.{le-max_left, le-max_right, max-eq_left, max-eq_right, le_of_lt, mul_assoc, mul-mod_left}
+use mathlib.Core.Logic.{inl, inr}
+use Prim.Native.Nat.{ℕ, ◌+◌, ◌-◌, ◌*◌, ◌/◌, ◌%◌, ◌^◌, ◌<◌, max}
+use native.Mathlib.Nat.{le-max_left, le-max_right, mul_assoc, mul-mod_left}
 use native.Mathlib.Omega.{arith}
-use lib.Bits.{bit_and}
-use lib.Dec.{eqb}
 use Rattle.util_defs.specs.Power.{PowerOfTwo}
 use Rattle.util_defs.specs.Round.{up}
 use Rattle.util_defs.specs.Refusal.{Tells}
-use Rattle.util_defs.proofs.Refusals.{told_true, told_false, agree, tells_eq, tells_le, tells_and, tells_or, tells_as}
+use Rattle.util_defs.proofs.Refusals.{tells_eq, tells_le, tells_and, tells_or, tells_as}
 use Rattle.util_defs.proofs.Powers.{positive, power_divides, through, max_power}
-use Rattle.util_defs.proofs.Masks.{mask_mod}
 use Rattle.util_defs.proofs.Rounding.{multiple, up_shift}
 use Rattle.rounding.proofs.Words.{parts_of_lem}
 use Rattle.trailing_defs.specs.Size.{Trailing, A, p, size_with, size_at}
@@ -63,27 +59,3 @@ unfolding same_sequence
 tells_same w s t =
     tells_as (λ x. record { elems = x.0; start = x.1.0; stride = x.1.1 }) (λ c. (c.elems, (c.start, c.stride)))
     (tells_and (tells_eq s.elem t.elem) (tells_and (tells_start w s t) (tells_stride s.elem (A w s) (p w s) (A w t) (p w t))))
-
--- the stride's test by masks: the remainder by the larger alignment c
-larger_mask : {c : ℕ} (e a b : ℕ) → PowerOfTwo c → max a b ≡ c → bit_and e (c - 1) ≡ e % max a b
-larger_mask e a b pw m = mask_mod e pw ∙ ap (λ (x : ℕ). e % x) (sym m)
-
--- unequal alignments: a multiple of the larger, the first or the second, or not
-pub stride_first : {a : ℕ} (e b q r : ℕ) → PowerOfTwo a → b < a → eqb (bit_and e (a - 1)) 0 ≡ same_stride e a q b r
-stride_first {a} e b q r pw l =
-    let m = larger_mask e a b pw (max-eq_left (le_of_lt l)) in
-    agree (tells_as (λ z. inl (sym m ∙ z)) (⊎_elim (λ d. m ∙ d) (λ s. absurd (omega (arith, s.0)))) (tells_eq (bit_and e (a - 1)) 0)) (tells_stride e a q b r)
-
-pub stride_yes : {b : ℕ} (e a q r : ℕ) → PowerOfTwo b → a ≤ b → bit_and e (b - 1) ≡ 0 → true ≡ same_stride e a q b r
-stride_yes {b} e a q r pw l z = sym (told_true (tells_stride e a q b r) (inl (sym (larger_mask e a b pw (max-eq_right l)) ∙ z)))
-
--- no multiple of the larger: equal alignments and phases, or not
-pub stride_equal : {b : ℕ} (e a q r : ℕ) → PowerOfTwo b → a ≤ b → (bit_and e (b - 1) ≡ 0 → ⊥) → a ≡ b → eqb q r ≡ same_stride e a q b r
-stride_equal {b} e a q r pw l n s =
-    let m = larger_mask e a b pw (max-eq_right l) in
-    agree (tells_as (λ z. inr (s, z)) (⊎_elim (λ d. absurd (n (m ∙ d))) (λ x. x.1)) (tells_eq q r)) (tells_stride e a q b r)
-
-pub stride_no : {b : ℕ} (e a q r : ℕ) → PowerOfTwo b → a ≤ b → (bit_and e (b - 1) ≡ 0 → ⊥) → (a ≡ b → ⊥) → false ≡ same_stride e a q b r
-stride_no {b} e a q r pw l n u =
-    let m = larger_mask e a b pw (max-eq_right l) in
-    sym (told_false (tells_stride e a q b r) (⊎_elim (λ d. n (m ∙ d)) (λ x. u x.0)))

@@ -4,13 +4,11 @@ use Prim.Native.Nat.{ℕ, ◌+◌, ◌-◌, ◌*◌, ◌/◌, ◌%◌, ◌^◌, 
 use lib.Dec.{ltb}
 use native.Mathlib.Nat.{mul-le-mul_right, mod-add-mod, mod-eq_of_lt, mod-lt, mod_self, div-mul-le_self, le-div_iff_mul-le, le_trans, add-mul-mod_self_right, div-add-mod'}
 use native.Mathlib.Omega.{arith}
-use lib.Bits.{bit_and}
 use Rattle.util_defs.specs.Power.{PowerOfTwo}
 use Rattle.util_defs.specs.Round.{up, down, padding}
 use Rattle.util_defs.specs.Refusal.{Tells}
 use Rattle.util_defs.proofs.Refusals.{tells_lt, tells_as}
 use Rattle.util_defs.proofs.Powers.{positive, divides, mod-through}
-use Rattle.util_defs.proofs.Masks.{mask_mod}
 use Rattle.util_defs.proofs.Rounding.{next_multiple, sum_multiple, up_down, down_up, up_ge, up_mono, up_multiple, up_whole, up_shift, up_is, up_padding, down_shift, down_mod, down_multiple, down_le, down_near, mod-cancel}
 use Rattle.trailing_defs.specs.Size.{Trailing, A, p, size_with, size_at, HasSize}
 use Rattle.trailing_defs.specs.Count.{GreatestBytes, bytes_within, GreatestCount, count_within}
@@ -166,10 +164,8 @@ factor_mod n e a =
     sym (ap (λ (x : ℕ). x % a) s ∙ add-mul-mod_self_right (n * (e % a)) (n * (e / a)) a)
 
 -- the bytes of n elements, modulo the alignment, by a product that wraps of n and e's remainder
-pub remainder : {a : ℕ} (w n e r : ℕ) → PowerOfTwo a → a < 2 ^ w → r ≡ n * bit_and e (a - 1) % 2 ^ w → bit_and r (a - 1) ≡ n * e % a
-remainder {a} w n e r pw h er =
-    mask_mod r pw ∙ ap (λ (x : ℕ). x % a) er ∙ mod-through a (2 ^ w) (n * bit_and e (a - 1)) (divides w pw h)
-    ∙ ap (λ (x : ℕ). n * x % a) (mask_mod e pw) ∙ factor_mod n e a
+pub remainder : {a : ℕ} (w n e r : ℕ) → PowerOfTwo a → a < 2 ^ w → r ≡ n * (e % a) % 2 ^ w → r % a ≡ n * e % a
+remainder {a} w n e r pw h er = ap (λ (x : ℕ). x % a) er ∙ mod-through a (2 ^ w) (n * (e % a)) (divides w pw h) ∙ factor_mod n e a
 
 -- the sums of the functions fit
 pub offset_fits : {a q : ℕ} (w b : ℕ) → PowerOfTwo a → a < 2 ^ w → b < 2 ^ w → q < a → down b a + q < 2 ^ w

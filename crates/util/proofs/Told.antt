@@ -1,10 +1,9 @@
 -- What an answer tells its caller. Assumes nothing.
-use Rattle.std.proofs.Common.{◌≡◌, ℕ, ◌-◌, ◌^◌, ◌<◌, ◌≤◌, Bool, cond, sym, ap, ◌∙◌, arith}
+use Rattle.std.proofs.Common.{◌≡◌, ℕ, ◌<◌, ◌≤◌, Bool, true, false, cond, not, refl, sym, ap, ◌∙◌, arith}
 use Rattle.util_defs.specs.Width.{M, fitting, passes, checked}
-use Rattle.util_defs.specs.Power.{PowerOfTwo}
-use Rattle.util_defs.specs.Round.{down, padding}
-use Rattle.util_defs.specs.Refusal.{Outcome, answered, refused, Tells, holds, fails}
-use Rattle.util_defs.specs.Helpers.{padding_for, round_down_for}
+use Rattle.util_defs.specs.Power.{power_of_two}
+use Rattle.util_defs.specs.Refusal.{Outcome, answered, refused, unless, Tells, holds, fails}
+use Rattle.util_defs.specs.Helpers.{align_causes}
 use Rattle.std.specs.Prelude.{Option, Some, None, Result, Ok, Err}
 use Rattle.util.specs.declared.refusal.Refusal.{Refusal}
 use Rattle.util.specs.declared.refusal.RefusedAt.{RefusedAt}
@@ -12,8 +11,9 @@ use Rattle.util_defs.specs.Placed.{Placed, stopped}
 use Rattle.std.specs.Result.{IsErrAnd}
 use Rattle.std.proofs.lemmas.Result.{err_from_is_err_and}
 use Rattle.util.specs.View.{number_of, says, placed_says, number_says, product_says}
+use Rattle.util.specs.declared.align.Align.{Align}
+use Rattle.util_defs.proofs.Tables.{told_by, answer_is, apart}
 use Rattle.util_defs.proofs.Refusals.{tells_le}
-use Rattle.util_defs.proofs.Helpers.{down_answered, padding_answered}
 
 -- a refusal that is handed on is the outcome that the callee's refusal is
 pub handed_on : {T S : Type 0} {o : Outcome S} (f : T → S) (r : Result T Refusal) (k : Refusal) → IsErrAnd r (λ e. e ≡ k) → refused (number_of k) ≡ o → says f r ≡ o
@@ -34,19 +34,6 @@ number_kept {x} {k} {o} r e a g =
     let z : ◌≡◌ {A = ℕ} 0 1 = cc in
     omega arith
 
--- what the helpers tell of a power of two: the number, and no refusal
-pub down_told : {a x : ℕ} (w v : ℕ) (r : Result ℕ Refusal) → number_says r ≡ round_down_for w v a → PowerOfTwo a → a < 2 ^ w → r ≡ Ok x → x ≡ down v a
-down_told w v r e p h g = number_told r e (down_answered w v p h) g
-
-pub down_kept : {a : ℕ} {k : Refusal} (w v : ℕ) (r : Result ℕ Refusal) → number_says r ≡ round_down_for w v a → PowerOfTwo a → a < 2 ^ w → r ≡ Err k → ⊥
-down_kept w v r e p h g = number_kept r e (down_answered w v p h) g
-
-pub padding_told : {a x : ℕ} (w v : ℕ) (r : Result ℕ Refusal) → number_says r ≡ padding_for w v a → PowerOfTwo a → a < 2 ^ w → r ≡ Ok x → x ≡ padding v a
-padding_told w v r e p h g = number_told r e (padding_answered w v p h) g
-
-pub padding_kept : {a : ℕ} {k : Refusal} (w v : ℕ) (r : Result ℕ Refusal) → number_says r ≡ padding_for w v a → PowerOfTwo a → a < 2 ^ w → r ≡ Err k → ⊥
-padding_kept w v r e p h g = number_kept r e (padding_answered w v p h) g
-
 -- a product that fits is the product, and one that does not is past the greatest number
 pub product_told : {x : ℕ} (w y : ℕ) (r : Option ℕ) → product_says r ≡ checked w y → r ≡ Some x → (x ≡ y) × (y ≤ M w)
 product_told {x} w y r e g = go (tells_le y (M w)) (sym (ap product_says g) ∙ e)
@@ -61,3 +48,15 @@ product_past w y r e g = go (tells_le y (M w)) (sym (ap product_says g) ∙ e)
     go : {b : Bool} → Tells (y ≤ M w) b → passes ≡ cond b (fitting y) passes → M w < y
     go (holds l) s = let z : ◌≡◌ {A = ℕ} 0 1 = cc in absurd (omega arith)
     go (fails n) s = omega (arith, n)
+
+-- an alignment that was made is the number, and that is no power of two where none was
+pub made_align : {a : Align} (w v : ℕ) (r : Result Align Refusal) → says (λ (x : Align). x.value) r ≡ unless (align_causes w v) v → r ≡ Ok a → a.value ≡ v
+made_align w v r e g = answer_is (align_causes w v) v (told_by (says (λ (x : Align). x.value)) e g)
+
+pub no_align : {k : Refusal} (w v : ℕ) (r : Result Align Refusal) → says (λ (x : Align). x.value) r ≡ unless (align_causes w v) v → r ≡ Err k → power_of_two w v ≡ false
+unfolding unless
+no_align {k} w v r e g = go (power_of_two w v) refl (told_by (says (λ (x : Align). x.value)) e g)
+  where
+    go : (b : Bool) → power_of_two w v ≡ b → cond (not b) (refused 1) (answered v) ≡ refused (number_of k) → power_of_two w v ≡ false
+    go true t s = absurd (apart (sym s))
+    go false t s = t

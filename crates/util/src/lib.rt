@@ -1,4 +1,5 @@
-// Rounding helpers, after four functions of zerocopy's src/util/mod.rs, and the refusal numbers that every crate uses.
+// Rounding helpers, after four functions of zerocopy's src/util/mod.rs, and what every crate uses: the refusal numbers, and
+// alignments that are known to be powers of two.
 #![tactic(auto)]
 
 ghost use Rattle.std.specs.Prelude.{◌≡◌, ◌*◌, ◌%◌, ◌^◌};
@@ -10,8 +11,10 @@ ghost use Rattle.util_defs.specs.Helpers.{align_causes, aligns_causes, padding_f
 ghost use Rattle.util_defs.specs.Helpers.{min_for, Larger, Smaller};
 ghost use Rattle.util.specs.View.{number_says, product_says};
 
+mod align;
 mod refusal;
 
+pub use align::Align;
 pub use refusal::{Refusal, RefusedAt};
 
 // Whether a is a power of two: it is not 0 and has one bit.
@@ -30,12 +33,8 @@ pub fn padding_needed_for(len: u64, align: u64) -> Result<u64, Refusal>
     ensures answer { number_says result ≡ padding_for 64 len align }
     ensures meaning { Meets (align_causes 64 align) (LeastPadding 64 len align) (number_says result) }
 {
-    if is_power_of_two(align) {
-        let mask = align - 1;
-        Ok(!std::num::wrapping_sub_u64(len, 1) & mask)
-    } else {
-        Err(Refusal::AlignNotPowerOfTwo)
-    }
+    let align = Align::new(align)?;
+    Ok(align.padding_needed(len))
 }
 
 // The greatest multiple of align that is at most n.
@@ -43,12 +42,8 @@ pub fn round_down_to_next_multiple_of_alignment(n: u64, align: u64) -> Result<u6
     ensures answer { number_says result ≡ round_down_for 64 n align }
     ensures meaning { Meets (align_causes 64 align) (GreatestMultiple n align) (number_says result) }
 {
-    if is_power_of_two(align) {
-        let mask = !(align - 1);
-        Ok(n & mask)
-    } else {
-        Err(Refusal::AlignNotPowerOfTwo)
-    }
+    let align = Align::new(align)?;
+    Ok(align.round_down(n))
 }
 
 // The larger of two alignments.
@@ -56,15 +51,9 @@ pub fn max(a: u64, b: u64) -> Result<u64, Refusal>
     ensures answer { number_says result ≡ max_for 64 a b }
     ensures meaning { Meets (aligns_causes 64 a b) (Larger a b) (number_says result) }
 {
-    if is_power_of_two(a) {
-        if is_power_of_two(b) {
-            if a < b { Ok(b) } else { Ok(a) }
-        } else {
-            Err(Refusal::AlignNotPowerOfTwo)
-        }
-    } else {
-        Err(Refusal::AlignNotPowerOfTwo)
-    }
+    let a = Align::new(a)?;
+    let b = Align::new(b)?;
+    Ok(a.value.max(b.value))
 }
 
 // The smaller of two alignments.
@@ -72,19 +61,14 @@ pub fn min(a: u64, b: u64) -> Result<u64, Refusal>
     ensures answer { number_says result ≡ min_for 64 a b }
     ensures meaning { Meets (aligns_causes 64 a b) (Smaller a b) (number_says result) }
 {
-    if is_power_of_two(a) {
-        if is_power_of_two(b) {
-            if a > b { Ok(b) } else { Ok(a) }
-        } else {
-            Err(Refusal::AlignNotPowerOfTwo)
-        }
-    } else {
-        Err(Refusal::AlignNotPowerOfTwo)
-    }
+    let a = Align::new(a)?;
+    let b = Align::new(b)?;
+    Ok(a.value.min(b.value))
 }
 
 // The product, where 64 bits hold it: what it wraps to, divided by one factor, is then the other. The compiler makes one
-// multiplication and a test of its overflow of this: no division.
+// multiplication and a test of its overflow of this: no division. Not by the library's `checked_mul`, with which `size_for_elems`
+// takes 67 instructions, and so 65.
 pub fn checked_mul(a: u64, b: u64) -> Option<u64>
     ensures { product_says result ≡ checked 64 (a * b) }
 {
@@ -99,14 +83,9 @@ pub fn checked_mul(a: u64, b: u64) -> Option<u64>
     }
 }
 
-// The product modulo 2^64, by halves of 32 bits. The compiler makes one multiplication of this.
+// The product modulo 2^64.
 pub fn wrapping_mul(a: u64, b: u64) -> u64
     ensures { result ≡ a * b % 2 ^ 64 }
 {
-    let a0 = a & 0xffff_ffff;
-    let a1 = a >> 32;
-    let b0 = b & 0xffff_ffff;
-    let b1 = b >> 32;
-    let cross = std::num::wrapping_add_u64(a1 * b0, a0 * b1);
-    std::num::wrapping_add_u64(a0 * b0, cross << 32)
+    a.wrapping_mul(b)
 }

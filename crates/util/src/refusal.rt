@@ -120,9 +120,23 @@ impl Refusal {
     }
 }
 
-// A refusal about a list, and its place there.
+// A refusal about a list, and its place there. It is made by its fields where one is refused: a function of the two would say
+// no more.
 #[derive(Clone, Copy, Debug, PartialEq, Eq)]
 pub struct RefusedAt<P> {
     pub refusal: Refusal,
     pub place: P,
+}
+
+// A place among bytes, as a number of 64 bits.
+impl From<RefusedAt<usize>> for RefusedAt<u64> {
+    ghost from_gives = { λ at stop. stop ≡ at };
+
+    #[inline(always)]
+    fn from(at: RefusedAt<usize>) -> RefusedAt<u64> {
+        RefusedAt {
+            refusal: at.refusal,
+            place: at.place as u64,
+        }
+    }
 }

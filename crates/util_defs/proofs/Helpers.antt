@@ -76,7 +76,3 @@ down_answered {a} w v p h = clear (align_causes w a) (align_decided w a h, λ _.
 pub max_answered : {a b : ℕ} (w : ℕ) → PowerOfTwo a → PowerOfTwo b → a < 2 ^ w → b < 2 ^ w → max_for w a b ≡ answered (max a b)
 unfolding max_for
 max_answered {a} {b} w p q ha hb = clear (aligns_causes w a b) (aligns_decided w a b ha hb) ((λ n. n p), ((λ n. n q), tt))
-
-pub min_answered : {a b : ℕ} (w : ℕ) → PowerOfTwo a → PowerOfTwo b → a < 2 ^ w → b < 2 ^ w → min_for w a b ≡ answered (min a b)
-unfolding min_for
-min_answered {a} {b} w p q ha hb = clear (aligns_causes w a b) (aligns_decided w a b ha hb) ((λ n. n p), ((λ n. n q), tt))

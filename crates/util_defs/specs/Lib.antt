@@ -4,3 +4,4 @@ pub mod Round
 pub mod Refusal
 pub mod Helpers
 pub mod Placed
+pub mod Unique

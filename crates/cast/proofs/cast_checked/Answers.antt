@@ -4,17 +4,12 @@ use mathlib.Core.Path.{◌≡◌, refl, sym, ap, ap₂, ◌∙◌, subst}
 use mathlib.Core.Bool.{Bool, false}
 use mathlib.Core.List.{[], ◌∷◌}
 use Prim.Native.Nat.{ℕ, ◌+◌, ◌-◌, ◌%◌, ◌^◌, ◌≤◌}
-use lib.Bits.{bit_and}
 use lib.Dec.{lit<}
 use borrow.Author.Tests.{lt-ltb, le-ltb, eq-eqb, ne_eqb}
 use native.Mathlib.Omega.{arith}
-use Rattle.util_defs.specs.Power.{PowerOfTwo}
 use Rattle.util_defs.specs.Refusal.{Outcome, answered, refused, unless}
 use Rattle.util_defs.proofs.Refusals.{no}
 use Rattle.util_defs.proofs.Tables.{told_by, refused_as, accepted_as}
-use Rattle.util_defs.proofs.Powers.{positive}
-use Rattle.util_defs.proofs.Masks.{mask_mod}
-use Rattle.util_defs.proofs.Helpers.{power}
 use Rattle.trailing.specs.View.{trailing_of}
 use Rattle.layout_defs.specs.Layout.{fixed, trailing, no_word}
 use Rattle.layout.specs.declared.SizeInfo.{SizeInfo}
@@ -26,15 +21,12 @@ use Rattle.cast.proofs.Told.{fit_told, fit_within}
 use Rattle.cast.proofs.cast_checked.Goals as goal
 use Rattle.cast.proofs.cast_checked.Goals.{Start}
 
-aligned : (k : Start) → PowerOfTwo k.args.valid.layout.align
-aligned k = power 64 k.args.valid.layout.align (omega arith) k.args.valid.accepted.0
-
 abbrev tested : Start → ℕ
 tested k = tested_address (side_of k.args.cast_type) k.args.addr k.args.len
 
--- the mask of an aligned address
-straight : (k : Start) (v : ℕ) → v ≡ tested k → bit_and v (k.args.valid.layout.align - 1) ≡ 0 → tested k % k.args.valid.layout.align ≡ 0
-straight k v e z = ap (λ (x : ℕ). x % k.args.valid.layout.align) (sym e) ∙ sym (mask_mod v (aligned k)) ∙ z
+-- no remainder of the address by the alignment
+straight : (k : Start) {a v r : ℕ} → a ≡ k.args.valid.layout.align → v ≡ tested k → r ≡ v % a → r ≡ 0 → tested k % k.args.valid.layout.align ≡ 0
+straight k d e f z = sym (ap₂ (λ (x y : ℕ). x % y) e d) ∙ sym f ∙ z
 
 -- past the tests of 10, 11 and 12 only the size is left
 passed : (k : Start) {b : Bool} → b ≡ false → b ≡ is_elem_zero (info_of k.args.valid.layout.size_info) → k.args.addr + k.args.len ≤ 2 ^ 64 - 1
@@ -59,14 +51,13 @@ unfolding unless
 returns-then-addr-len c =
     simp (sym c.elem_size_zero.ensures ∙ c.if-elem_size_zero.false, lt-ltb (2 ^ 64 - 1) (c.args.addr + c.args.len) (omega arith))
 
-pub overflow_sub-layout : goal.overflow_sub-layout
-overflow_sub-layout c = positive (aligned c.before.before.before.before.before.before)
-
-pub returns-then-tested_address-layout-ne0 : goal.returns-then-tested_address-layout-ne0
+pub returns-then-remainder-ne0 : goal.returns-then-remainder-ne0
 unfolding unless
-returns-then-tested_address-layout-ne0 c =
-    let n : tested c.before.before.before.before.before.before.before % c.args.valid.layout.align ≡ 0 → ⊥ = λ z. c.if-tested_address-layout-ne0.true (mask_mod c.tested_address.result (aligned c.before.before.before.before.before.before.before) ∙ ap (λ (x : ℕ). x % c.args.valid.layout.align) c.tested_address.ensures ∙ z) in
-    simp (sym c.elem_size_zero.ensures ∙ c.if-elem_size_zero.false, le-ltb (2 ^ 64 - 1) (c.args.addr + c.args.len) (omega arith), ne_eqb (tested c.before.before.before.before.before.before.before % c.args.valid.layout.align) 0 n)
+returns-then-remainder-ne0 c =
+    let a = c.args.valid.layout.align in
+    let t = tested_address (side_of c.args.cast_type) c.args.addr c.args.len in
+    let n : t % a ≡ 0 → ⊥ = λ z. c.if-remainder-ne0.true (c.remainder.ensures ∙ ap₂ (λ (x y : ℕ). x % y) c.tested_address-tested.ensures c.align.ensures ∙ z) in
+    simp (sym c.elem_size_zero.ensures ∙ c.if-elem_size_zero.false, le-ltb (2 ^ 64 - 1) (c.args.addr + c.args.len) (omega arith), ne_eqb (t % a) 0 n)
 
 pub invariant_of-fit_trailing : goal.invariant_of-fit_trailing
 invariant_of-fit_trailing c =
@@ -91,14 +82,14 @@ unfolding unless
 returns-then-size-len c =
     let s = c.in-Sized.size in
     let u : refused 13 ≡ unless (too_small 64 (fixed s) c.args.len ∷ []) (greatest_grant 64 (fixed s) (side_of c.args.cast_type) c.args.len) = simp (lt-ltb c.args.len s c.if-size-len.true) (refl) in
-    u ∙ ap (says c.before.before.before.before.before.before.before.before.before) (sym c.in-Sized.is) ∙ sym (passed c.before.before.before.before.before.before.before.before.before c.if-elem_size_zero.false c.elem_size_zero.ensures (omega arith) (straight c.before.before.before.before.before.before.before.before.before c.tested_address.result c.tested_address.ensures c.if-tested_address-layout-ne0.false))
+    u ∙ ap (says c.before.before.before.before.before.before.before.before.before.before) (sym c.in-Sized.is) ∙ sym (passed c.before.before.before.before.before.before.before.before.before.before c.if-elem_size_zero.false c.elem_size_zero.ensures (omega arith) (straight c.before.before.before.before.before.before.before.before.before.before c.align.ensures c.tested_address-tested.ensures c.remainder.ensures c.if-remainder-ne0.false))
 
 pub returns-else-size-len : goal.returns-else-size-len
 unfolding unless
 returns-else-size-len c =
     let s = c.in-Sized.size in
     let u : answered (record { count = 0; split = split_at (side_of c.args.cast_type) c.args.len s }) ≡ unless (too_small 64 (fixed s) c.args.len ∷ []) (greatest_grant 64 (fixed s) (side_of c.args.cast_type) c.args.len) = simp (le-ltb c.args.len s c.if-size-len.false) (refl) in
-    ap (λ (x : ℕ). answered (record { count = 0; split = x })) c.split_around.ensures ∙ u ∙ ap (says c.before.before.before.before.before.before.before.before.before.before) (sym c.in-Sized.is) ∙ sym (passed c.before.before.before.before.before.before.before.before.before.before c.if-elem_size_zero.false c.elem_size_zero.ensures (omega arith) (straight c.before.before.before.before.before.before.before.before.before.before c.tested_address.result c.tested_address.ensures c.if-tested_address-layout-ne0.false))
+    ap (λ (x : ℕ). answered (record { count = 0; split = x })) c.split_around.ensures ∙ u ∙ ap (says c.before.before.before.before.before.before.before.before.before.before.before) (sym c.in-Sized.is) ∙ sym (passed c.before.before.before.before.before.before.before.before.before.before.before c.if-elem_size_zero.false c.elem_size_zero.ensures (omega arith) (straight c.before.before.before.before.before.before.before.before.before.before.before c.align.ensures c.tested_address-tested.ensures c.remainder.ensures c.if-remainder-ne0.false))
 
 pub returns-in_ok-fit-in-SliceDst : goal.returns-in_ok-fit-in-SliceDst
 returns-in_ok-fit-in-SliceDst c =
@@ -106,10 +97,10 @@ returns-in_ok-fit-in-SliceDst c =
     let f = fit_told 64 i c.args.len c.fit_trailing.result c.fit_trailing.ensures c.in_ok-fit-in-SliceDst.was in
     let ok = accepted_as (too_small 64 i c.args.len ∷ []) (greatest_grant 64 i prefix c.args.len) (greatest_grant 64 i (side_of c.args.cast_type) c.args.len) (told_by cast_says c.fit_trailing.ensures c.in_ok-fit-in-SliceDst.was) in
     ap₂ (λ (n s : ℕ). answered (record { count = n; split = s })) f.0 (c.split_around-in-SliceDst.ensures ∙ ap (split_at (side_of c.args.cast_type) c.args.len) f.1)
-    ∙ sym ok ∙ ap (says c.before.before.before.before.before.before.before.before.before.before.before.before.before) (sym c.in-SliceDst.is) ∙ sym (passed c.before.before.before.before.before.before.before.before.before.before.before.before.before c.if-elem_size_zero.false c.elem_size_zero.ensures (omega arith) (straight c.before.before.before.before.before.before.before.before.before.before.before.before.before c.tested_address.result c.tested_address.ensures c.if-tested_address-layout-ne0.false))
+    ∙ sym ok ∙ ap (says c.before.before.before.before.before.before.before.before.before.before.before.before.before.before) (sym c.in-SliceDst.is) ∙ sym (passed c.before.before.before.before.before.before.before.before.before.before.before.before.before.before c.if-elem_size_zero.false c.elem_size_zero.ensures (omega arith) (straight c.before.before.before.before.before.before.before.before.before.before.before.before.before.before c.align.ensures c.tested_address-tested.ensures c.remainder.ensures c.if-remainder-ne0.false))
 
 pub returns-in_err-fit-in-SliceDst : goal.returns-in_err-fit-in-SliceDst
 returns-in_err-fit-in-SliceDst c =
     let i = trailing (trailing_of c.in-SliceDst.tail) in
     let ok = refused_as (too_small 64 i c.args.len ∷ []) (greatest_grant 64 i prefix c.args.len) (greatest_grant 64 i (side_of c.args.cast_type) c.args.len) (told_by cast_says c.fit_trailing.ensures c.in_err-fit-in-SliceDst.was) in
-    handed_on _ c.from_residual.result _ c.from_residual.ensures.1 (sym ok ∙ ap (says c.before.before.before.before.before.before.before.before.before.before.before.before.before) (sym c.in-SliceDst.is) ∙ sym (passed c.before.before.before.before.before.before.before.before.before.before.before.before.before c.if-elem_size_zero.false c.elem_size_zero.ensures (omega arith) (straight c.before.before.before.before.before.before.before.before.before.before.before.before.before c.tested_address.result c.tested_address.ensures c.if-tested_address-layout-ne0.false)))
+    handed_on _ c.from_residual.result _ c.from_residual.ensures.1 (sym ok ∙ ap (says c.before.before.before.before.before.before.before.before.before.before.before.before.before.before) (sym c.in-SliceDst.is) ∙ sym (passed c.before.before.before.before.before.before.before.before.before.before.before.before.before.before c.if-elem_size_zero.false c.elem_size_zero.ensures (omega arith) (straight c.before.before.before.before.before.before.before.before.before.before.before.before.before.before c.align.ensures c.tested_address-tested.ensures c.remainder.ensures c.if-remainder-ne0.false)))

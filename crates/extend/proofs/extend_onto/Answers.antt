@@ -1,7 +1,6 @@
 -- `extend::extend_onto` meets its contract. Assumes nothing.
 use Rattle.util.proofs.Told.{handed_on}
 use Rattle.std.proofs.Common.{◌∙◌, arith}
-use Rattle.util_defs.proofs.Helpers.{power}
 use Rattle.util_defs.proofs.Tables.{told_by, accepted_none}
 use Rattle.layout_defs.specs.Layout.{layout_causes, check_for}
 use Rattle.layout.specs.View.{layout_of, sized_of, check_says}
@@ -9,11 +8,11 @@ use Rattle.layout_defs.proofs.Layouts.{layout_decided}
 use Rattle.layout_defs.proofs.Onto.{onto_member, onto_step}
 use Rattle.extend.proofs.extend_onto.Goals as goal
 
-pub extend_checked-requires : goal.extend_checked-requires
+pub invariant_of-extend_checked : goal.invariant_of-extend_checked
 unfolding check_for
-extend_checked-requires c =
-    let m = c.args.field in
-    power 64 m.align (omega arith) (accepted_none (layout_causes 64 (layout_of m)) tt (layout_decided 64 (layout_of m) (omega arith)) (told_by check_says c.check.ensures.answer c.in_ok-check.was)).0
+invariant_of-extend_checked c =
+    let m = layout_of c.args.field in
+    record { accepted = accepted_none (layout_causes 64 m) tt (layout_decided 64 m (omega arith)) (told_by check_says c.check.ensures.answer c.in_ok-check.was) }
 
 pub returns : goal.returns
 returns c =

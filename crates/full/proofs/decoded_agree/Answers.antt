@@ -27,5 +27,5 @@ returns-else-same_sum c =
     let s = trailing_of c.args.first.layout in
     let t = trailing_of c.args.other.layout in
     let n = no c.same_sum.ensures c.if-same_sum.false in
-    agree_apart 64 s t c.args.first.is_word c.args.other.is_word (omega arith) (word_fits 64 c.args.other.is_word (omega arith)) c.if-elem-other.false
+    c.if-same_sum.false ∙ agree_apart 64 s t c.args.first.is_word c.args.other.is_word (omega arith) (word_fits 64 c.args.other.is_word (omega arith)) c.if-elem-other.false
     (λ z. n (ap (λ (u : ℕ). s.base + u) c.rounded_phase-rounded.ensures ∙ z ∙ ap (λ (u : ℕ). t.base + u) (sym c.rounded_phase-rounded2.ensures)))

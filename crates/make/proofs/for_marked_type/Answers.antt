@@ -1,28 +1,30 @@
 -- `make::for_marked_type` meets its contract. Assumes nothing.
-use mathlib.Core.Path.{sym, ◌∙◌}
-use borrow.Author.Tests.{eq-eqb, ne_eqb}
-use Rattle.util_defs.specs.Refusal.{unless}
-use Rattle.util_defs.proofs.Powers.{positive}
-use Rattle.util_defs.proofs.Masks.{mask_mod}
-use Rattle.util_defs.proofs.Refusals.{yes}
-use Rattle.make.specs.Make.{type_for}
+use mathlib.Core.Path.{sym, ap, ◌∙◌}
+use Prim.Native.Nat.{ℕ}
+use Rattle.util_defs.specs.Refusal.{answered}
+use Rattle.util_defs.specs.Helpers.{align_causes}
+use Rattle.util_defs.proofs.Tables.{answer_is}
+use Rattle.util.proofs.Told.{handed_on}
+use Rattle.make.specs.Make.{type_layout, type_for}
+use Rattle.make.proofs.Made.{multiple, no_multiple, no_align}
 use Rattle.make.proofs.for_marked_type.Goals as goal
 
-pub overflow_sub-align : goal.overflow_sub-align
-overflow_sub-align c = positive (yes c.is_power_of_two.ensures.meaning c.if-is_power_of_two.true)
+pub returns-in_err-align : goal.returns-in_err-align
+unfolding type_for
+returns-in_err-align c =
+    let x = c.args in
+    handed_on _ c.from_residual.result _ c.from_residual.ensures.1 (sym (no_align 64 x.size x.align (type_layout x.unpadded x.size x.align) (sym c.in_err-align.ensures.answer)))
 
-pub returns-then-size-align-eq0 : goal.returns-then-size-align-eq0
-unfolding type_for unless
-returns-then-size-align-eq0 c =
-    let p = yes c.is_power_of_two.ensures.meaning c.if-is_power_of_two.true in
-    simp (sym c.is_power_of_two.ensures.answer ∙ c.if-is_power_of_two.true, eq-eqb _ 0 (sym (mask_mod c.args.size p) ∙ c.if-size-align-eq0.true))
+pub returns-then-remainder-eq0 : goal.returns-then-remainder-eq0
+unfolding type_for
+returns-then-remainder-eq0 c =
+    let x = c.args in
+    let e = sym c.in_ok-align.ensures.answer in
+    ap (λ (a : ℕ). answered (type_layout x.unpadded x.size a)) (answer_is (align_causes 64 x.align) x.align e)
+    ∙ sym (multiple 64 x.size x.align (type_layout x.unpadded x.size x.align) e (sym c.remainder.ensures ∙ c.if-remainder-eq0.true))
 
-pub returns-else-size-align-eq0 : goal.returns-else-size-align-eq0
-unfolding type_for unless
-returns-else-size-align-eq0 c =
-    let p = yes c.is_power_of_two.ensures.meaning c.if-is_power_of_two.true in
-    simp (sym c.is_power_of_two.ensures.answer ∙ c.if-is_power_of_two.true, ne_eqb _ 0 (λ e. c.if-size-align-eq0.false (mask_mod c.args.size p ∙ e)))
-
-pub returns-else-is_power_of_two : goal.returns-else-is_power_of_two
-unfolding type_for unless
-returns-else-is_power_of_two c = simp (sym c.is_power_of_two.ensures.answer ∙ c.if-is_power_of_two.false)
+pub returns-else-remainder-eq0 : goal.returns-else-remainder-eq0
+unfolding type_for
+returns-else-remainder-eq0 c =
+    let x = c.args in
+    sym (no_multiple 64 x.size x.align (type_layout x.unpadded x.size x.align) (sym c.in_ok-align.ensures.answer) (λ z. c.if-remainder-eq0.false (c.remainder.ensures ∙ z)))

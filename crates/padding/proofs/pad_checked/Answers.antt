@@ -5,11 +5,9 @@ use mathlib.Core.Bool.{Bool}
 use mathlib.Core.List.{[], ◌∷◌}
 use Prim.Native.Nat.{ℕ}
 use native.Mathlib.Omega.{arith}
-use Rattle.util_defs.specs.Power.{PowerOfTwo}
 use Rattle.util_defs.specs.Round.{up}
 use Rattle.util_defs.specs.Refusal.{Outcome, answered, unless}
 use Rattle.util.specs.View.{number_says}
-use Rattle.util_defs.proofs.Helpers.{power}
 use Rattle.util_defs.proofs.Tables.{told_by, answer_is, accepted_as, refused_as}
 use Rattle.trailing.specs.View.{trailing_of}
 use Rattle.layout_defs.specs.Layout.{Info, Layout, fixed, trailing, no_word}
@@ -17,13 +15,9 @@ use Rattle.layout_defs.specs.Extend.{rounding_passes}
 use Rattle.layout.specs.View.{info_of, info_says}
 use Rattle.layout.specs.declared.SizeInfo.{SizeInfo}
 use Rattle.layout.specs.declared.SizeInfo.TheVariants.{SliceDst}
-use Rattle.layout_defs.proofs.Passes.{round_power}
 use Rattle.padding_defs.specs.Pad.{padded_info, padded_mark, padded_tail, padded, padding_needs}
 use Rattle.padding.proofs.pad_checked.Goals as goal
 use Rattle.padding.proofs.pad_checked.Goals.{Start}
-
-aligned : (k : Start) → PowerOfTwo k.args.valid.layout.align
-aligned k = power 64 k.args.valid.layout.align (omega arith) k.args.valid.accepted.0
 
 -- the padded layout, and what padding says of it, of a size
 abbrev made : Start → Info → Layout
@@ -31,12 +25,6 @@ made k i = record { align = k.args.valid.layout.align; info = padded_info 64 k.a
 
 abbrev says : Start → SizeInfo ℕ → Outcome Layout
 says k i = unless (rounding_passes 64 (padding_needs 64 k.args.valid.layout.align (info_of i)) ∷ []) (made k (info_of i))
-
-pub pad_mark-unpadded-requires : goal.pad_mark-unpadded-requires
-pad_mark-unpadded-requires c = aligned c.before
-
-pub pad_trailing-requires : goal.pad_trailing-requires
-pad_trailing-requires c = aligned c.before.before.before.before
 
 pub invariant_of-pad_trailing : goal.invariant_of-pad_trailing
 invariant_of-pad_trailing c =
@@ -50,10 +38,10 @@ returns-in_ok-padded-in-Sized c =
     let g = c.in-Sized.is in
     let s = c.in-Sized.size in
     let cs = rounding_passes 64 (up s a) ∷ [] in
-    let e = told_by number_says (c.round_up.ensures.answer ∙ round_power 64 s (aligned c.before.before.before.before.before.before) (omega arith)) c.in_ok-padded-in-Sized.was in
-    ap₂ (λ (n : ℕ) (m : Bool). answered (record { align = a; info = fixed n; mark = m; modifier = c.args.valid.layout.align_modifier })) (answer_is cs (up s a) e) (c.pad_mark-unpadded.ensures ∙ ap (λ (i : SizeInfo ℕ). padded_mark a (info_of i) c.args.valid.layout.statically_shallow_unpadded) g)
-    ∙ sym (accepted_as cs (up s a) (made c.before.before.before.before.before.before (fixed s)) e)
-    ∙ ap (says c.before.before.before.before.before.before) (sym g)
+    let e = told_by number_says (c.round_up_to.ensures ∙ ap (λ (x : ℕ). unless (rounding_passes 64 (up s x) ∷ []) (up s x)) c.align-align.ensures) c.in_ok-padded-in-Sized.was in
+    ap₂ (λ (n : ℕ) (m : Bool). answered (record { align = a; info = fixed n; mark = m; modifier = c.args.valid.layout.align_modifier })) (answer_is cs (up s a) e) (c.pad_mark-unpadded.ensures ∙ ap (λ (x : ℕ). padded_mark x (info_of c.args.valid.layout.size_info) c.args.valid.layout.statically_shallow_unpadded) c.align-align.ensures ∙ ap (λ (i : SizeInfo ℕ). padded_mark a (info_of i) c.args.valid.layout.statically_shallow_unpadded) g)
+    ∙ sym (accepted_as cs (up s a) (made c.before.before.before.before.before.before.before (fixed s)) e)
+    ∙ ap (says c.before.before.before.before.before.before.before) (sym g)
 
 pub returns-in_err-padded-in-Sized : goal.returns-in_err-padded-in-Sized
 unfolding padded
@@ -62,8 +50,8 @@ returns-in_err-padded-in-Sized c =
     let g = c.in-Sized.is in
     let s = c.in-Sized.size in
     let cs = rounding_passes 64 (up s a) ∷ [] in
-    let e = told_by number_says (c.round_up.ensures.answer ∙ round_power 64 s (aligned c.before.before.before.before.before.before.before) (omega arith)) c.in_err-padded-in-Sized.was in
-    handed_on _ c.from_residual.result _ c.from_residual.ensures.1 (sym (refused_as cs (up s a) (made c.before.before.before.before.before.before.before (fixed s)) e) ∙ ap (says c.before.before.before.before.before.before.before) (sym g))
+    let e = told_by number_says (c.round_up_to.ensures ∙ ap (λ (x : ℕ). unless (rounding_passes 64 (up s x) ∷ []) (up s x)) c.align-align.ensures) c.in_err-padded-in-Sized.was in
+    handed_on _ c.from_residual.result _ c.from_residual.ensures.1 (sym (refused_as cs (up s a) (made c.before.before.before.before.before.before.before.before (fixed s)) e) ∙ ap (says c.before.before.before.before.before.before.before.before) (sym g))
 
 pub returns-in_ok-padded_info-in-SliceDst : goal.returns-in_ok-padded_info-in-SliceDst
 unfolding padded
@@ -72,10 +60,10 @@ returns-in_ok-padded_info-in-SliceDst c =
     let g = c.in-SliceDst.is in
     let t = trailing_of c.in-SliceDst.tail in
     let cs = rounding_passes 64 (padding_needs 64 a (trailing t)) ∷ [] in
-    let e = told_by info_says c.pad_trailing.ensures c.in_ok-padded_info-in-SliceDst.was in
-    ap₂ (λ (i : Info) (m : Bool). answered (record { align = a; info = i; mark = m; modifier = c.args.valid.layout.align_modifier })) (answer_is cs (trailing (padded_tail 64 a t)) e) (c.pad_mark-unpadded.ensures ∙ ap (λ (i : SizeInfo ℕ). padded_mark a (info_of i) c.args.valid.layout.statically_shallow_unpadded) g)
-    ∙ sym (accepted_as cs (trailing (padded_tail 64 a t)) (made c.before.before.before.before.before.before.before (trailing t)) e)
-    ∙ ap (says c.before.before.before.before.before.before.before) (sym g)
+    let e = told_by info_says (c.pad_trailing.ensures ∙ ap (λ (x : ℕ). unless (rounding_passes 64 (padding_needs 64 x (trailing t)) ∷ []) (trailing (padded_tail 64 x t))) c.align-align.ensures) c.in_ok-padded_info-in-SliceDst.was in
+    ap₂ (λ (i : Info) (m : Bool). answered (record { align = a; info = i; mark = m; modifier = c.args.valid.layout.align_modifier })) (answer_is cs (trailing (padded_tail 64 a t)) e) (c.pad_mark-unpadded.ensures ∙ ap (λ (x : ℕ). padded_mark x (info_of c.args.valid.layout.size_info) c.args.valid.layout.statically_shallow_unpadded) c.align-align.ensures ∙ ap (λ (i : SizeInfo ℕ). padded_mark a (info_of i) c.args.valid.layout.statically_shallow_unpadded) g)
+    ∙ sym (accepted_as cs (trailing (padded_tail 64 a t)) (made c.before.before.before.before.before.before.before.before (trailing t)) e)
+    ∙ ap (says c.before.before.before.before.before.before.before.before) (sym g)
 
 pub returns-in_err-padded_info-in-SliceDst : goal.returns-in_err-padded_info-in-SliceDst
 unfolding padded
@@ -84,5 +72,5 @@ returns-in_err-padded_info-in-SliceDst c =
     let g = c.in-SliceDst.is in
     let t = trailing_of c.in-SliceDst.tail in
     let cs = rounding_passes 64 (padding_needs 64 a (trailing t)) ∷ [] in
-    let e = told_by info_says c.pad_trailing.ensures c.in_err-padded_info-in-SliceDst.was in
-    handed_on _ c.from_residual-in_err-padded_info-in-SliceDst.result _ c.from_residual-in_err-padded_info-in-SliceDst.ensures.1 (sym (refused_as cs (trailing (padded_tail 64 a t)) (made c.before.before.before.before.before.before.before.before (trailing t)) e) ∙ ap (says c.before.before.before.before.before.before.before.before) (sym g))
+    let e = told_by info_says (c.pad_trailing.ensures ∙ ap (λ (x : ℕ). unless (rounding_passes 64 (padding_needs 64 x (trailing t)) ∷ []) (trailing (padded_tail 64 x t))) c.align-align.ensures) c.in_err-padded_info-in-SliceDst.was in
+    handed_on _ c.from_residual-in_err-padded_info-in-SliceDst.result _ c.from_residual-in_err-padded_info-in-SliceDst.ensures.1 (sym (refused_as cs (trailing (padded_tail 64 a t)) (made c.before.before.before.before.before.before.before.before.before (trailing t)) e) ∙ ap (says c.before.before.before.before.before.before.before.before.before) (sym g))

@@ -20,16 +20,16 @@ unfolding padded_tail
 returns-then-decoded-align c =
     let t = trailing_of c.in_ok-decoded.decoded.layout in
     let e = align_is 64 c.in_ok-decoded.decoded.is_word (omega arith) in
-    c.pad_coarser.ensures ∙ sym (simp (lt-ltb (A 64 t) c.args.align (omega (arith, e, c.if-decoded-align.true))) refl)
-    ∙ ap (λ (l : TrailingSliceLayout ℕ). unless (rounding_passes 64 (padding_needs 64 c.args.align (trailing (trailing_of l))) ∷ []) (trailing (padded_tail 64 c.args.align (trailing_of l)))) (decoded_told c.decoded.result c.decoded.ensures c.in_ok-decoded.was)
+    c.pad_coarser.ensures ∙ sym (simp (lt-ltb (A 64 t) c.args.align.value (omega (arith, e, c.if-decoded-align.true))) refl)
+    ∙ ap (λ (l : TrailingSliceLayout ℕ). unless (rounding_passes 64 (padding_needs 64 c.args.align.value (trailing (trailing_of l))) ∷ []) (trailing (padded_tail 64 c.args.align.value (trailing_of l)))) (decoded_told c.decoded.result c.decoded.ensures c.in_ok-decoded.was)
 
 pub returns-else-decoded-align : goal.returns-else-decoded-align
 unfolding padded_tail
 returns-else-decoded-align c =
     let t = trailing_of c.in_ok-decoded.decoded.layout in
     let e = align_is 64 c.in_ok-decoded.decoded.is_word (omega arith) in
-    c.pad_finer.ensures ∙ sym (simp (le-ltb (A 64 t) c.args.align (omega (arith, e, c.if-decoded-align.false))) refl)
-    ∙ ap (λ (l : TrailingSliceLayout ℕ). unless (rounding_passes 64 (padding_needs 64 c.args.align (trailing (trailing_of l))) ∷ []) (trailing (padded_tail 64 c.args.align (trailing_of l)))) (decoded_told c.decoded.result c.decoded.ensures c.in_ok-decoded.was)
+    c.pad_finer.ensures ∙ sym (simp (le-ltb (A 64 t) c.args.align.value (omega (arith, e, c.if-decoded-align.false))) refl)
+    ∙ ap (λ (l : TrailingSliceLayout ℕ). unless (rounding_passes 64 (padding_needs 64 c.args.align.value (trailing (trailing_of l))) ∷ []) (trailing (padded_tail 64 c.args.align.value (trailing_of l)))) (decoded_told c.decoded.result c.decoded.ensures c.in_ok-decoded.was)
 
 pub returns-in_err-decoded : goal.returns-in_err-decoded
 returns-in_err-decoded c = absurd (omega (arith, c.args.valid.has_word, (decoded_refused c.decoded.result c.decoded.ensures c.in_err-decoded.was).0))

@@ -24,7 +24,7 @@ returns-in-Ok g c =
     let b : c.wide-in-Ok.result ≡ end_of m.info = c.wide-in-Ok.ensures ∙ ap g.W.Steps.number c.end_of.ensures ∙ sym (g.met.W.Steps.ends c.args.field) in
     rw (c.low.ensures, c.low-in-Ok.ensures) (landed g.W.Steps.bits 64 c.args.repr_packed c.args.end m g.met.W.Steps.is_within
     (sym (ap (round_up_for 64 c.args.end) a) ∙ told_by number_says c.round_up.ensures.answer c.in-Ok.is)
-    (c.wrapping_add_u64.ensures.value ∙ ap (λ (z : ℕ). (c.in-Ok.place + z) % 2 ^ 64) b))
+    (ap (λ (z : ℕ). (c.in-Ok.place + z) % 2 ^ 64) b))
 
 pub returns-in-Err : goal.returns-in-Err
 returns-in-Err g c =

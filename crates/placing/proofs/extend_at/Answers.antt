@@ -13,7 +13,7 @@ returns c =
     let cs = member_passes 64 c.args.place m.info ∷ [] in
     let y = placed_at c.args.place m.info in
     let e = told_by info_says c.place_member.ensures c.in_ok-size_info.was in
-    (λ i. answered (record { align = c.larger.ensures i; info = answer_is cs y e i; mark = c.step_mark-unpadded.ensures i; modifier = c.either.ensures i })) ∙ sym (accepted_as cs y _ e)
+    (λ i. answered (record { align = c.max.ensures i; info = answer_is cs y e i; mark = c.step_mark-unpadded.ensures i; modifier = c.either.ensures i })) ∙ sym (accepted_as cs y _ e)
 
 pub returns-in_err-size_info : goal.returns-in_err-size_info
 returns-in_err-size_info c =

@@ -22,29 +22,29 @@ returns-in_err-src_offset c =
 
 pub returns-in_err-dst_offset : goal.returns-in_err-dst_offset
 returns-in_err-dst_offset c =
-    let t = trailing_of c.args.dst.layout in
-    absurd (ok_there c.size_offset-2.result c.size_offset-2.ensures.answer (size_offset_answered 64 t c.args.dst.has_word) (sym c.ok-2.ensures.value ∙ c.in_err-dst_offset.was))
+    let t = trailing_of c.args.dst.valid.layout in
+    absurd (ok_there c.size_offset-2.result c.size_offset-2.ensures.answer (size_offset_answered 64 t c.args.dst.valid.has_word) (sym c.ok-2.ensures.value ∙ c.in_err-dst_offset.was))
 
 pub returns-then-src_offset-dst_offset : goal.returns-then-src_offset-dst_offset
 returns-then-src_offset-dst_offset c =
     let s = trailing_of c.args.src.layout in
-    let t = trailing_of c.args.dst.layout in
+    let t = trailing_of c.args.dst.valid.layout in
     let x = c.in_ok-src_offset.src_offset in
     let y = c.in_ok-dst_offset.dst_offset in
-    simp (lt-leb y x c.if-src_offset-dst_offset.true) refl ∙ ap₂ (between t.elem) (number_told c.size_offset.result c.size_offset.ensures.answer (size_offset_answered 64 s c.args.src.has_word) (ok_some c.size_offset.result (sym c.ok.ensures.value ∙ c.in_ok-src_offset.was))) (number_told c.size_offset-2.result c.size_offset-2.ensures.answer (size_offset_answered 64 t c.args.dst.has_word) (ok_some c.size_offset-2.result (sym c.ok-2.ensures.value ∙ c.in_ok-dst_offset.was)))
+    simp (lt-leb y x c.if-src_offset-dst_offset.true) refl ∙ ap₂ (between t.elem) (number_told c.size_offset.result c.size_offset.ensures.answer (size_offset_answered 64 s c.args.src.has_word) (ok_some c.size_offset.result (sym c.ok.ensures.value ∙ c.in_ok-src_offset.was))) (number_told c.size_offset-2.result c.size_offset-2.ensures.answer (size_offset_answered 64 t c.args.dst.valid.has_word) (ok_some c.size_offset-2.result (sym c.ok-2.ensures.value ∙ c.in_ok-dst_offset.was)))
 
 pub returns-then-delta-dst_elem_size-eq0 : goal.returns-then-delta-dst_elem_size-eq0
 returns-then-delta-dst_elem_size-eq0 c =
     let s = trailing_of c.args.src.layout in
-    let t = trailing_of c.args.dst.layout in
+    let t = trailing_of c.args.dst.valid.layout in
     let x = c.in_ok-src_offset.src_offset in
     let y = c.in_ok-dst_offset.dst_offset in
-    simp (le-leb y x c.if-src_offset-dst_offset.false, eq-eqb ((x - y) % t.elem) 0 c.if-delta-dst_elem_size-eq0.true) refl ∙ ap₂ (between t.elem) (number_told c.size_offset.result c.size_offset.ensures.answer (size_offset_answered 64 s c.args.src.has_word) (ok_some c.size_offset.result (sym c.ok.ensures.value ∙ c.in_ok-src_offset.was))) (number_told c.size_offset-2.result c.size_offset-2.ensures.answer (size_offset_answered 64 t c.args.dst.has_word) (ok_some c.size_offset-2.result (sym c.ok-2.ensures.value ∙ c.in_ok-dst_offset.was)))
+    simp (le-leb y x c.if-src_offset-dst_offset.false, eq-eqb ((x - y) % t.elem) 0 c.if-delta-dst_elem_size-eq0.true) refl ∙ ap₂ (between t.elem) (number_told c.size_offset.result c.size_offset.ensures.answer (size_offset_answered 64 s c.args.src.has_word) (ok_some c.size_offset.result (sym c.ok.ensures.value ∙ c.in_ok-src_offset.was))) (number_told c.size_offset-2.result c.size_offset-2.ensures.answer (size_offset_answered 64 t c.args.dst.valid.has_word) (ok_some c.size_offset-2.result (sym c.ok-2.ensures.value ∙ c.in_ok-dst_offset.was)))
 
 pub returns-else-delta-dst_elem_size-eq0 : goal.returns-else-delta-dst_elem_size-eq0
 returns-else-delta-dst_elem_size-eq0 c =
     let s = trailing_of c.args.src.layout in
-    let t = trailing_of c.args.dst.layout in
+    let t = trailing_of c.args.dst.valid.layout in
     let x = c.in_ok-src_offset.src_offset in
     let y = c.in_ok-dst_offset.dst_offset in
-    simp (le-leb y x c.if-src_offset-dst_offset.false, ne_eqb ((x - y) % t.elem) 0 c.if-delta-dst_elem_size-eq0.false) refl ∙ ap₂ (between t.elem) (number_told c.size_offset.result c.size_offset.ensures.answer (size_offset_answered 64 s c.args.src.has_word) (ok_some c.size_offset.result (sym c.ok.ensures.value ∙ c.in_ok-src_offset.was))) (number_told c.size_offset-2.result c.size_offset-2.ensures.answer (size_offset_answered 64 t c.args.dst.has_word) (ok_some c.size_offset-2.result (sym c.ok-2.ensures.value ∙ c.in_ok-dst_offset.was)))
+    simp (le-leb y x c.if-src_offset-dst_offset.false, ne_eqb ((x - y) % t.elem) 0 c.if-delta-dst_elem_size-eq0.false) refl ∙ ap₂ (between t.elem) (number_told c.size_offset.result c.size_offset.ensures.answer (size_offset_answered 64 s c.args.src.has_word) (ok_some c.size_offset.result (sym c.ok.ensures.value ∙ c.in_ok-src_offset.was))) (number_told c.size_offset-2.result c.size_offset-2.ensures.answer (size_offset_answered 64 t c.args.dst.valid.has_word) (ok_some c.size_offset-2.result (sym c.ok-2.ensures.value ∙ c.in_ok-dst_offset.was)))

@@ -1,5 +1,5 @@
 -- `util::checked_mul` meets its contract. Assumes nothing.
-use Rattle.std.proofs.Common.{ℕ, ◌*◌, ◌/◌, ◌^◌, sym, ap, ◌∙◌, arith, rules}
+use Rattle.std.proofs.Common.{ℕ, ◌*◌, ◌/◌, ◌^◌, sym, ap, ◌∙◌, arith}
 use Rattle.util_defs.proofs.Products.{checked_wrapped, checked_past, product_within, product_past}
 use Rattle.util.proofs.checked_mul.Goals as goal
 

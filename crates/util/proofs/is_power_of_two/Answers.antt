@@ -1,5 +1,5 @@
 -- `util::is_power_of_two` meets its contract: `tells_mask`. Assumes nothing.
-use Rattle.std.proofs.Common.{false, arith, rules}
+use Rattle.std.proofs.Common.{false, arith}
 use Rattle.util_defs.specs.Refusal.{Tells, fails}
 use Rattle.util_defs.specs.Power.{PowerOfTwo}
 use Rattle.util_defs.proofs.Refusals.{agree}

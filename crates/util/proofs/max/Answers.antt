@@ -1,40 +1,43 @@
 -- `util::max` meets its contract. Assumes nothing.
-use Rattle.std.proofs.Common.{◌≡◌, sym, ap, ◌∙◌, le_of_lt, rules}
-use native.Mathlib.Nat.{max-eq_left, max-eq_right}
-use Rattle.util_defs.specs.Refusal.{answered, unless}
-use Rattle.util_defs.specs.Helpers.{max_for}
-use Rattle.util_defs.proofs.Refusals.{means, yes, told}
-use Rattle.util_defs.proofs.Helpers.{max_meets, max_answered}
+use Rattle.std.proofs.Common.{ℕ, sym, ap, ap₂, ◌∙◌}
+use Rattle.std.specs.Prelude.{max}
+use Rattle.util_defs.specs.Refusal.{answered}
+use Rattle.util_defs.specs.Helpers.{align_causes, max_for}
+use Rattle.util_defs.proofs.Refusals.{means}
+use Rattle.util_defs.proofs.Tables.{answer_is, accepted_as, accepted_first, refused_as, refused_first}
+use Rattle.util_defs.proofs.Helpers.{max_meets}
+use Rattle.util.proofs.Told.{handed_on}
 use Rattle.util.proofs.max.Goals as goal
 
-pub returns-then-a-b-clause-answer : goal.returns-then-a-b-clause-answer
-returns-then-a-b-clause-answer c =
-    let p = yes c.is_power_of_two.ensures.meaning c.if-is_power_of_two.true in
-    let q = yes c.is_power_of_two-then-is_power_of_two.ensures.meaning c.if-is_power_of_two-2.true in ap answered (sym (max-eq_right (le_of_lt c.if-a-b.true))) ∙ sym (max_answered 64 p q c.ranges.a.fits c.ranges.b.fits)
+pub returns-in_err-a-clause-answer : goal.returns-in_err-a-clause-answer
+unfolding max_for
+returns-in_err-a-clause-answer c =
+    let a = c.args.a in
+    let b = c.args.b in
+    handed_on (λ n. n) c.from_residual.result _ c.from_residual.ensures.1 (sym (refused_first (align_causes 64 a) (align_causes 64 b) a (max a b) (sym c.in_err-a.ensures.answer)))
 
-pub returns-then-a-b-clause-meaning : goal.returns-then-a-b-clause-meaning
-returns-then-a-b-clause-meaning c =
-    means (max_meets 64 c.args.a c.args.b c.ranges.a.fits c.ranges.b.fits) (returns-then-a-b-clause-answer c)
+pub returns-in_err-a-clause-meaning : goal.returns-in_err-a-clause-meaning
+returns-in_err-a-clause-meaning c = means (max_meets 64 c.args.a c.args.b c.ranges.a.fits c.ranges.b.fits) (returns-in_err-a-clause-answer c)
 
-pub returns-else-a-b-clause-answer : goal.returns-else-a-b-clause-answer
-returns-else-a-b-clause-answer c =
-    let p = yes c.is_power_of_two.ensures.meaning c.if-is_power_of_two.true in
-    let q = yes c.is_power_of_two-then-is_power_of_two.ensures.meaning c.if-is_power_of_two-2.true in ap answered (sym (max-eq_left c.if-a-b.false)) ∙ sym (max_answered 64 p q c.ranges.a.fits c.ranges.b.fits)
+pub returns-in_err-b-clause-answer : goal.returns-in_err-b-clause-answer
+unfolding max_for
+returns-in_err-b-clause-answer c =
+    let a = c.args.a in
+    let b = c.args.b in
+    handed_on (λ n. n) c.from_residual-in_err-b.result _ c.from_residual-in_err-b.ensures.1 (sym (accepted_first (align_causes 64 a) (align_causes 64 b) a (max a b) (sym c.in_ok-a.ensures.answer) ∙ refused_as (align_causes 64 b) b (max a b) (sym c.in_err-b.ensures.answer)))
 
-pub returns-else-a-b-clause-meaning : goal.returns-else-a-b-clause-meaning
-returns-else-a-b-clause-meaning c =
-    means (max_meets 64 c.args.a c.args.b c.ranges.a.fits c.ranges.b.fits) (returns-else-a-b-clause-answer c)
+pub returns-in_err-b-clause-meaning : goal.returns-in_err-b-clause-meaning
+returns-in_err-b-clause-meaning c = means (max_meets 64 c.args.a c.args.b c.ranges.a.fits c.ranges.b.fits) (returns-in_err-b-clause-answer c)
 
-pub returns-else-is_power_of_two-2-clause-answer : goal.returns-else-is_power_of_two-2-clause-answer
-unfolding max_for unless
-returns-else-is_power_of_two-2-clause-answer c = simp (sym c.is_power_of_two.ensures.answer ∙ c.if-is_power_of_two.true, sym c.is_power_of_two-then-is_power_of_two.ensures.answer ∙ c.if-is_power_of_two-2.false)
+pub returns-clause-answer : goal.returns-clause-answer
+unfolding max_for
+returns-clause-answer c =
+    let a = c.args.a in
+    let b = c.args.b in
+    let e = sym c.in_ok-a.ensures.answer in
+    let f = sym c.in_ok-b.ensures.answer in
+    ap answered c.max.ensures ∙ ap₂ (λ (x y : ℕ). answered (max x y)) (answer_is (align_causes 64 a) a e) (answer_is (align_causes 64 b) b f)
+    ∙ sym (accepted_first (align_causes 64 a) (align_causes 64 b) a (max a b) e ∙ accepted_as (align_causes 64 b) b (max a b) f)
 
-pub returns-else-is_power_of_two-2-clause-meaning : goal.returns-else-is_power_of_two-2-clause-meaning
-returns-else-is_power_of_two-2-clause-meaning c = means (max_meets 64 c.args.a c.args.b c.ranges.a.fits c.ranges.b.fits) (returns-else-is_power_of_two-2-clause-answer c)
-
-pub returns-else-is_power_of_two-clause-answer : goal.returns-else-is_power_of_two-clause-answer
-unfolding max_for unless
-returns-else-is_power_of_two-clause-answer c = simp (sym c.is_power_of_two.ensures.answer ∙ c.if-is_power_of_two.false)
-
-pub returns-else-is_power_of_two-clause-meaning : goal.returns-else-is_power_of_two-clause-meaning
-returns-else-is_power_of_two-clause-meaning c = means (max_meets 64 c.args.a c.args.b c.ranges.a.fits c.ranges.b.fits) (returns-else-is_power_of_two-clause-answer c)
+pub returns-clause-meaning : goal.returns-clause-meaning
+returns-clause-meaning c = means (max_meets 64 c.args.a c.args.b c.ranges.a.fits c.ranges.b.fits) (returns-clause-answer c)

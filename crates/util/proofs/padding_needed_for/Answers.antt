@@ -1,33 +1,29 @@
 -- `util::padding_needed_for` meets its contract. Assumes nothing.
-use Rattle.std.proofs.Common.{◌≡◌, sym, ap, ◌∙◌, arith, rules}
-use Rattle.util_defs.specs.Refusal.{answered, unless}
-use Rattle.util_defs.specs.Helpers.{padding_for}
-use Rattle.util_defs.proofs.Refusals.{means, yes, told}
-use Rattle.util_defs.proofs.Powers.{positive}
-use Rattle.util_defs.proofs.Masks.{mask_padding}
-use Rattle.util_defs.proofs.Helpers.{padding_meets, padding_answered}
+use Rattle.std.proofs.Common.{sym, ap, ◌∙◌}
+use Rattle.util_defs.specs.Round.{padding}
+use Rattle.util_defs.specs.Refusal.{answered}
+use Rattle.util_defs.specs.Helpers.{align_causes, padding_for}
+use Rattle.util_defs.proofs.Refusals.{means}
+use Rattle.util_defs.proofs.Tables.{answer_is, accepted_as, refused_as}
+use Rattle.util_defs.proofs.Helpers.{padding_meets}
+use Rattle.util.proofs.Told.{handed_on}
 use Rattle.util.proofs.padding_needed_for.Goals as goal
 
-pub overflow_sub-mask : goal.overflow_sub-mask
-overflow_sub-mask c = positive (yes c.is_power_of_two.ensures.meaning c.if-is_power_of_two.true)
+pub returns-in_err-align-clause-answer : goal.returns-in_err-align-clause-answer
+unfolding padding_for
+returns-in_err-align-clause-answer c =
+    let a = c.args.align in
+    handed_on (λ n. n) c.from_residual.result _ c.from_residual.ensures.1 (sym (refused_as (align_causes 64 a) a (padding c.args.len a) (sym c.in_err-align.ensures.answer)))
 
-pub returns-then-is_power_of_two-clause-answer : goal.returns-then-is_power_of_two-clause-answer
-returns-then-is_power_of_two-clause-answer c =
-    let a = c.args in
-    let h = c.ranges.align.fits in
-    let p = yes c.is_power_of_two.ensures.meaning c.if-is_power_of_two.true in ap answered (mask_padding 64 a.len c.wrapping_sub_u64.result p h (omega arith) c.wrapping_sub_u64.ensures.value) ∙ sym (padding_answered 64 a.len p h)
+pub returns-in_err-align-clause-meaning : goal.returns-in_err-align-clause-meaning
+returns-in_err-align-clause-meaning c = means (padding_meets 64 c.args.len c.args.align c.ranges.align.fits) (returns-in_err-align-clause-answer c)
 
-pub returns-then-is_power_of_two-clause-meaning : goal.returns-then-is_power_of_two-clause-meaning
-returns-then-is_power_of_two-clause-meaning c =
-    let a = c.args in
-    let h = c.ranges.align.fits in
-    means (padding_meets 64 a.len a.align h) (returns-then-is_power_of_two-clause-answer c)
+pub returns-clause-answer : goal.returns-clause-answer
+unfolding padding_for
+returns-clause-answer c =
+    let a = c.args.align in
+    let e = sym c.in_ok-align.ensures.answer in
+    ap answered (c.padding_needed.ensures ∙ ap (padding c.args.len) (answer_is (align_causes 64 a) a e)) ∙ sym (accepted_as (align_causes 64 a) a (padding c.args.len a) e)
 
-pub returns-else-is_power_of_two-clause-answer : goal.returns-else-is_power_of_two-clause-answer
-unfolding padding_for unless
-returns-else-is_power_of_two-clause-answer c =
-    simp (sym c.is_power_of_two.ensures.answer ∙ c.if-is_power_of_two.false)
-
-pub returns-else-is_power_of_two-clause-meaning : goal.returns-else-is_power_of_two-clause-meaning
-returns-else-is_power_of_two-clause-meaning c =
-    let a = c.args in means (padding_meets 64 a.len a.align c.ranges.align.fits) (returns-else-is_power_of_two-clause-answer c)
+pub returns-clause-meaning : goal.returns-clause-meaning
+returns-clause-meaning c = means (padding_meets 64 c.args.len c.args.align c.ranges.align.fits) (returns-clause-answer c)

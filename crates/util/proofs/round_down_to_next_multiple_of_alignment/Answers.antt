@@ -1,33 +1,29 @@
 -- `util::round_down_to_next_multiple_of_alignment` meets its contract. Assumes nothing.
-use Rattle.std.proofs.Common.{◌≡◌, sym, ap, ◌∙◌, rules}
-use Rattle.util_defs.specs.Refusal.{answered, unless}
-use Rattle.util_defs.specs.Helpers.{round_down_for}
-use Rattle.util_defs.proofs.Refusals.{means, yes, told}
-use Rattle.util_defs.proofs.Powers.{positive}
-use Rattle.util_defs.proofs.Masks.{mask_down}
-use Rattle.util_defs.proofs.Helpers.{down_meets, down_answered}
+use Rattle.std.proofs.Common.{sym, ap, ◌∙◌}
+use Rattle.util_defs.specs.Round.{down}
+use Rattle.util_defs.specs.Refusal.{answered}
+use Rattle.util_defs.specs.Helpers.{align_causes, round_down_for}
+use Rattle.util_defs.proofs.Refusals.{means}
+use Rattle.util_defs.proofs.Tables.{answer_is, accepted_as, refused_as}
+use Rattle.util_defs.proofs.Helpers.{down_meets}
+use Rattle.util.proofs.Told.{handed_on}
 use Rattle.util.proofs.round_down_to_next_multiple_of_alignment.Goals as goal
 
-pub overflow_sub-mask : goal.overflow_sub-mask
-overflow_sub-mask c = positive (yes c.is_power_of_two.ensures.meaning c.if-is_power_of_two.true)
+pub returns-in_err-align-clause-answer : goal.returns-in_err-align-clause-answer
+unfolding round_down_for
+returns-in_err-align-clause-answer c =
+    let a = c.args.align in
+    handed_on (λ n. n) c.from_residual.result _ c.from_residual.ensures.1 (sym (refused_as (align_causes 64 a) a (down c.args.n a) (sym c.in_err-align.ensures.answer)))
 
-pub returns-then-is_power_of_two-clause-answer : goal.returns-then-is_power_of_two-clause-answer
-returns-then-is_power_of_two-clause-answer c =
-    let a = c.args in
-    let h = c.ranges.align.fits in
-    let p = yes c.is_power_of_two.ensures.meaning c.if-is_power_of_two.true in ap answered (mask_down 64 a.n p h c.ranges.n.fits) ∙ sym (down_answered 64 a.n p h)
+pub returns-in_err-align-clause-meaning : goal.returns-in_err-align-clause-meaning
+returns-in_err-align-clause-meaning c = means (down_meets 64 c.args.n c.args.align c.ranges.align.fits) (returns-in_err-align-clause-answer c)
 
-pub returns-then-is_power_of_two-clause-meaning : goal.returns-then-is_power_of_two-clause-meaning
-returns-then-is_power_of_two-clause-meaning c =
-    let a = c.args in
-    let h = c.ranges.align.fits in
-    means (down_meets 64 a.n a.align h) (returns-then-is_power_of_two-clause-answer c)
+pub returns-clause-answer : goal.returns-clause-answer
+unfolding round_down_for
+returns-clause-answer c =
+    let a = c.args.align in
+    let e = sym c.in_ok-align.ensures.answer in
+    ap answered (c.round_down.ensures ∙ ap (down c.args.n) (answer_is (align_causes 64 a) a e)) ∙ sym (accepted_as (align_causes 64 a) a (down c.args.n a) e)
 
-pub returns-else-is_power_of_two-clause-answer : goal.returns-else-is_power_of_two-clause-answer
-unfolding round_down_for unless
-returns-else-is_power_of_two-clause-answer c =
-    simp (sym c.is_power_of_two.ensures.answer ∙ c.if-is_power_of_two.false)
-
-pub returns-else-is_power_of_two-clause-meaning : goal.returns-else-is_power_of_two-clause-meaning
-returns-else-is_power_of_two-clause-meaning c =
-    let a = c.args in means (down_meets 64 a.n a.align c.ranges.align.fits) (returns-else-is_power_of_two-clause-answer c)
+pub returns-clause-meaning : goal.returns-clause-meaning
+returns-clause-meaning c = means (down_meets 64 c.args.n c.args.align c.ranges.align.fits) (returns-clause-answer c)

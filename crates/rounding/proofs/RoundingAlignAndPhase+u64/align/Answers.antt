@@ -2,7 +2,6 @@
 use mathlib.Core.Path.{ap, ◌∙◌}
 use native.Mathlib.Omega.{arith}
 use borrow.Author.Tests.{eq-eqb, ne_eqb}
-use borrow.Author.Rules.{rules}
 use Rattle.util_defs.specs.Refusal.{answered, refused, unless}
 use Rattle.util_defs.proofs.Refusals.{means}
 use Rattle.util.proofs.Told.{handed_on}

@@ -5,10 +5,9 @@ use lib.Bits.{bit_xor}
 use native.Mathlib.Omega.{arith}
 use borrow.Author.Tests.{eq-eqb, ne_eqb}
 use Rattle.util_defs.specs.Refusal.{answered, unless}
-use Rattle.util_defs.proofs.Refusals.{means, told}
+use Rattle.util_defs.proofs.Refusals.{means}
 use Rattle.rounding.specs.Word.{align_of, components_for}
 use Rattle.rounding.proofs.Words.{components_meets, parts_of_lem, top_bit, xor_phase, zeros_below}
-use borrow.Author.Rules.{rules}
 use Rattle.rounding.proofs.RoundingAlignAndPhase+u64.components.Goals as goal
 
 pub returns-then-word-eq0-clause-answer : goal.returns-then-word-eq0-clause-answer

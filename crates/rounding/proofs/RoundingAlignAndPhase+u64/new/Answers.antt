@@ -3,11 +3,10 @@ use mathlib.Core.Path.{sym, ◌∙◌}
 use native.Mathlib.Omega.{arith}
 use borrow.Author.Tests.{le-leb, lt-leb}
 use Rattle.util_defs.specs.Refusal.{unless}
-use Rattle.util_defs.proofs.Refusals.{means, yes, told}
+use Rattle.util_defs.proofs.Refusals.{means, yes}
 use Rattle.util_defs.proofs.Powers.{double}
 use Rattle.rounding.specs.Word.{new_for}
 use Rattle.rounding.proofs.Words.{new_meets}
-use borrow.Author.Rules.{rules}
 use Rattle.rounding.proofs.RoundingAlignAndPhase+u64.new.Goals as goal
 
 pub overflow_add-result : goal.overflow_add-result
