@@ -1,5 +1,4 @@
-// Nested type descriptions, read into layouts, at either width by one body (narrow: words of 32 bits). The stack of open parts
-// is that of the calls.
+// Nested type descriptions, read into layouts, at either width by one body. The stack of open parts is that of the calls.
 #![tactic(auto)]
 
 ghost use Rattle.std.specs.Prelude.{◌≡◌, ◌^◌, ◌<◌};
@@ -16,6 +15,7 @@ ghost use Rattle.describe.specs.View.{part_says, read_says};
 use heads::{COUNT_BYTES, PartHead};
 use layout::{DstLayout, SizeInfo};
 use util::{Refusal, RefusedAt};
+use width::AtWidth;
 
 // As many structs, arrays and slices may be open.
 pub const MAX_DEPTH: usize = 16;
@@ -43,24 +43,23 @@ fn at_tag(
 }
 
 // The head of a part.
-fn head_of(narrow: bool, s: &[u8], at: usize, depth: usize) -> Result<PartHead, RefusedAt<usize>>
-    ensures answer { head_says result ≡ head_at (bits_of narrow) depth s.now at }
-    ensures meaning { HeadMeans (bits_of narrow) depth s.now at (head_says result) }
+fn head_of<W: AtWidth>(s: &[u8], at: usize, depth: usize) -> Result<PartHead, RefusedAt<usize>>
+    ensures answer { head_says result ≡ head_at (bits_of W.narrow) depth s.now at }
+    ensures meaning { HeadMeans (bits_of W.narrow) depth s.now at (head_says result) }
 {
-    heads::head(width::bits(narrow), s, at, depth)
+    heads::head(W::bits(), s, at, depth)
 }
 
 // An array of an element that was read.
-fn array_part(
-    narrow: bool,
+fn array_part<W: AtWidth>(
     element: Result<ReadPart<u64>, RefusedAt<usize>>,
     count: u64,
     tag: usize,
 ) -> Result<ReadPart<u64>, RefusedAt<usize>>
-    ensures { part_says result ≡ go_on (part_says element) (made tag (λ l. width_array narrow l count)) }
+    ensures { part_says result ≡ go_on (part_says element) (made tag (λ l. width_array W.narrow l count)) }
 {
     let read = element?;
-    at_tag(width::for_array(narrow, read.layout, count), read.next, tag)
+    at_tag(W::for_array(read.layout, count), read.next, tag)
 }
 
 // A slice of it.
@@ -75,38 +74,31 @@ fn slice_part(
 }
 
 // A struct whose members were read: closing padding.
-fn struct_part(
-    narrow: bool,
+fn struct_part<W: AtWidth>(
     members: Result<ReadPart<u64>, RefusedAt<usize>>,
     tag: usize,
 ) -> Result<ReadPart<u64>, RefusedAt<usize>>
-    ensures { part_says result ≡ go_on (part_says members) (made tag (width_pad narrow)) }
+    ensures { part_says result ≡ go_on (part_says members) (made tag (width_pad W.narrow)) }
 {
     let read = members?;
-    at_tag(width::pad_to_align(narrow, read.layout), read.next, tag)
+    at_tag(W::pad_to_align(read.layout), read.next, tag)
 }
 
 // The part at at, with depth parts more that may be open. It may open a struct.
 #[cycle(add_members_part)]
-pub fn part(
-    narrow: bool,
+pub fn part<W: AtWidth>(
     s: &[u8],
     at: usize,
     depth: usize,
 ) -> Result<ReadPart<u64>, RefusedAt<usize>>
-    ensures answer { part_says result ≡ part_for (bits_of narrow) (target_of narrow) depth s.now at }
-    ensures meaning { PartMeans (bits_of narrow) (target_of narrow) s.now depth at (part_says result) }
+    ensures answer { part_says result ≡ part_for (bits_of W.narrow) (target_of W.narrow) depth s.now at }
+    ensures meaning { PartMeans (bits_of W.narrow) (target_of W.narrow) s.now depth at (part_says result) }
 {
-    let head = head_of(narrow, s, at, depth)?;
+    let head = head_of::<W>(s, at, depth)?;
     match head {
-        PartHead::Scalar(code) => at_tag(width::scalar(narrow, code), at + 1, at),
+        PartHead::Scalar(code) => at_tag(W::scalar(code), at + 1, at),
         PartHead::Array { count } => {
-            array_part(
-                narrow,
-                part(narrow, s, at + 1 + COUNT_BYTES, depth - 1),
-                count,
-                at,
-            )
+            array_part::<W>(part::<W>(s, at + 1 + COUNT_BYTES, depth - 1), count, at)
         }
         PartHead::Struct {
             align,
@@ -115,21 +107,19 @@ pub fn part(
             first,
         } => {
             let empty = make::new_zst(align).map_err(|refusal| RefusedAt { refusal, place: at })?;
-            struct_part(
-                narrow,
-                add_members(narrow, s, first, depth - 1, count, empty, packed, at),
+            struct_part::<W>(
+                add_members::<W>(s, first, depth - 1, count, empty, packed, at),
                 at,
             )
         }
-        PartHead::Slice => slice_part(part(narrow, s, at + 1, depth - 1), at),
+        PartHead::Slice => slice_part(part::<W>(s, at + 1, depth - 1), at),
     }
 }
 
 // The members of a struct whose tag is at tag, the first one at first: each read whole, then added to the layout. A loop, so that
 // the calls are as deep as the parts that are open.
 #[cycle(add_members_part)]
-fn add_members(
-    narrow: bool,
+fn add_members<W: AtWidth>(
     s: &[u8],
     first: usize,
     depth: usize,
@@ -138,15 +128,16 @@ fn add_members(
     packed: u64,
     tag: usize,
 ) -> Result<ReadPart<u64>, RefusedAt<usize>>
-    requires { Held narrow (layout_of empty) × (packed < 2 ^ bits_of narrow) }
-    ensures { part_says result ≡ add_read (bits_of narrow) (part_for (bits_of narrow) (target_of narrow) depth s.now) packed tag
-        count (layout_of empty) first }
+    requires { Held W.narrow (layout_of empty) × (packed < 2 ^ bits_of W.narrow) }
+    ensures { part_says result
+        ≡ add_read (bits_of W.narrow) (part_for (bits_of W.narrow) (target_of W.narrow) depth s.now) packed tag count
+        (layout_of empty) first }
 {
     let mut own = empty;
     let mut at = first;
     for _ in 0..count {
-        let read = part(narrow, s, at, depth)?;
-        own = width::extend(narrow, own, read.layout, packed).map_err(|refusal| RefusedAt {
+        let read = part::<W>(s, at, depth)?;
+        own = W::extend(own, read.layout, packed).map_err(|refusal| RefusedAt {
             refusal,
             place: tag,
         })?;
@@ -159,16 +150,11 @@ fn add_members(
 }
 
 // The layout that the bytes describe.
-pub fn read(narrow: bool, description: &[u8]) -> Result<DstLayout<u64>, RefusedAt<u64>>
-    ensures answer { read_says result ≡ described_for (bits_of narrow) (target_of narrow) description.now }
-    ensures meaning { ReadMeans (bits_of narrow) (target_of narrow) description.now (read_says result) }
+pub fn read<W: AtWidth>(description: &[u8]) -> Result<DstLayout<u64>, RefusedAt<u64>>
+    ensures answer { read_says result ≡ described_for (bits_of W.narrow) (target_of W.narrow) description.now }
+    ensures meaning { ReadMeans (bits_of W.narrow) (target_of W.narrow) description.now (read_says result) }
 {
-    let ReadPart { layout, next } = part(narrow, description, 0, MAX_DEPTH).map_err(
-        |stop| RefusedAt {
-            refusal: stop.refusal,
-            place: stop.place as u64,
-        },
-    )?;
+    let ReadPart { layout, next } = part::<W>(description, 0, MAX_DEPTH)?;
     if next == description.len() {
         Ok(layout)
     } else {

@@ -2,12 +2,11 @@
 use mathlib.Core.Path.{◌≡◌, refl, sym, ap, ◌∙◌}
 use mathlib.Core.List.{List}
 use Prim.Native.Nat.{ℕ}
-use Rattle.util_defs.specs.Placed.{Placed, reached, stopped, go_on}
+use Rattle.util_defs.specs.Placed.{Placed, reached, stopped}
 use Rattle.layout_defs.specs.Layout.{Layout}
-use Rattle.describe_defs.specs.Describe.{Part, wholly, part_for, described_for}
+use Rattle.describe_defs.specs.Describe.{Part, part_for, described_for}
 use Rattle.describe_defs.specs.Faults.{PartMeans, ReadMeans}
 use Rattle.describe_defs.proofs.Reading.{part_means, read_means}
-use Rattle.widths_layouts_defs.specs.Low.{low_layout}
 use Rattle.widths_layouts_defs.proofs.Layouts.{low_layout_lem}
 use Rattle.scalar32.specs.Target.{target32}
 use Rattle.scalar32.proofs.Accepted.{scalars32}

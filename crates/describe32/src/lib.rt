@@ -1,6 +1,5 @@
-// Nested type descriptions at 32 bits: the reader of both widths, whose layouts 32 bits then hold. Each is a function of its
-// own, and no instance of a generic one: it widens, calls that of 64 bits, and narrows or refuses what comes back, and at 64
-// bits there would be none of these steps.
+// Nested type descriptions at 32 bits: the reader of both widths, whose layouts 32 bits then hold. Each call at 32 bits is a
+// function of its own, and no instance of a generic one: it narrows what comes back, which at 64 bits there is no need of.
 #![tactic(auto)]
 
 ghost use Rattle.std.specs.Prelude.{◌≡◌};
@@ -14,7 +13,7 @@ use describe::ReadPart;
 use layout::{DstLayout, SizeInfo};
 use util::RefusedAt;
 
-// A part of 64 bits narrowed. No TryFrom, as `numbers32::low_word`.
+// A part of 64 bits narrowed. No From: neither the trait nor a type of the impl would be of this crate.
 pub fn low_part(
     answer: Result<ReadPart<u64>, RefusedAt<usize>>,
 ) -> Result<ReadPart<u32>, RefusedAt<usize>>
@@ -26,7 +25,7 @@ pub fn low_part(
     })
 }
 
-// A description of 64 bits narrowed. No TryFrom, as `numbers32::low_word`.
+// A description of 64 bits narrowed. No From: neither the trait nor a type of the impl would be of this crate.
 fn low_read(
     answer: Result<DstLayout<u64>, RefusedAt<u64>>,
 ) -> Result<DstLayout<u32>, RefusedAt<u64>>
@@ -40,7 +39,7 @@ pub fn part(s: &[u8], at: usize, depth: usize) -> Result<ReadPart<u32>, RefusedA
     ensures answer { part_says result ≡ part_for 32 target32 depth s.now at }
     ensures meaning { PartMeans 32 target32 s.now depth at (part_says result) }
 {
-    low_part(describe::part(true, s, at, depth))
+    low_part(describe::part::<u32>(s, at, depth))
 }
 
 // The layout that the bytes describe.
@@ -48,5 +47,5 @@ pub fn read(description: &[u8]) -> Result<DstLayout<u32>, RefusedAt<u64>>
     ensures answer { read_says result ≡ described_for 32 target32 description.now }
     ensures meaning { ReadMeans 32 target32 description.now (read_says result) }
 {
-    low_read(describe::read(true, description))
+    low_read(describe::read::<u32>(description))
 }

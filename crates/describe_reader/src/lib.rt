@@ -26,35 +26,36 @@ pub fn part_at(
 ) -> Result<ReadPart<u64>, RefusedAt<usize>>
     ensures { part_says result ≡ read_at width description.now place }
 {
-    describe::part(width::narrow(width), description, place, MAX_DEPTH)
-}
-
-// A reader at the first byte. The width is chosen here, once for all its parts.
-pub fn new<'a>(width: Width, description: &'a [u8]) -> Reader<'a>
-    ensures { (result.width ≡ width) × ((result.description ≡ description.entry) × (result.place ≡ 0)) }
-{
-    Reader {
-        width,
-        description,
-        place: 0,
+    match width {
+        Width::Bits32 => describe::part::<u32>(description, place, MAX_DEPTH),
+        Width::Bits64 => describe::part::<u64>(description, place, MAX_DEPTH),
     }
 }
 
-// The part at the reader's place.
-pub fn next<'a>(reader: Reader<'a>) -> Result<ReadPart<u64>, RefusedAt<usize>>
-    ensures { part_says result ≡ read_at reader.entry.width reader.entry.description.now reader.entry.place }
-{
-    part_at(reader.width, reader.description, reader.place)
-}
+impl<'a> Reader<'a> {
+    // A reader at the first byte. The width is chosen here for all its parts, when the program runs.
+    pub fn new(width: Width, description: &'a [u8]) -> Reader<'a>
+        ensures { (result.width ≡ width) × ((result.description ≡ description.entry) × (result.place ≡ 0)) }
+    {
+        Reader {
+            width,
+            description,
+            place: 0,
+        }
+    }
 
-// The reader at another place, as behind the part that was read.
-pub fn moved<'a>(reader: Reader<'a>, place: usize) -> Reader<'a>
-    ensures { (result.width ≡ reader.entry.width) × ((result.description ≡ reader.entry.description) × (result.place ≡ place)) }
-{
-    Reader {
-        width: reader.width,
-        description: reader.description,
-        place,
+    // The part at the reader's place.
+    pub fn next(self) -> Result<ReadPart<u64>, RefusedAt<usize>>
+        ensures { part_says result ≡ read_at self.entry.width self.entry.description.now self.entry.place }
+    {
+        part_at(self.width, self.description, self.place)
+    }
+
+    // The reader at another place, as behind the part that was read.
+    pub fn moved(self, place: usize) -> Reader<'a>
+        ensures { (result.width ≡ self.entry.width) × ((result.description ≡ self.entry.description) × (result.place ≡ place)) }
+    {
+        Reader { place, ..self }
     }
 }
 
@@ -62,5 +63,5 @@ pub fn moved<'a>(reader: Reader<'a>, place: usize) -> Reader<'a>
 pub fn first(width: Width, description: &[u8]) -> Result<ReadPart<u64>, RefusedAt<usize>>
     ensures { part_says result ≡ read_at width description.now 0 }
 {
-    next(new(width, description))
+    Reader::new(width, description).next()
 }

@@ -28,7 +28,7 @@ pub extern "C" fn lukaripe32_lengthen_counts(description: &[u8], out: &mut [u8])
     ensures out_after { out.new ≡ filled (rewrite_for 32 target32 longer description.now (length out.old))
         out.old }
 {
-    let answer = rewrite::lengthen_counts(true, description, out);
+    let answer = rewrite::lengthen_counts::<u32>(description, out);
     MovedOut::from(answer)
 }
 
@@ -39,6 +39,6 @@ pub extern "C" fn lukaripe32_shorten_counts(description: &[u8], out: &mut [u8]) 
     ensures out_after { out.new ≡ filled (rewrite_for 32 target32 shorter description.now (length out.old))
         out.old }
 {
-    let answer = rewrite::shorten_counts(true, description, out);
+    let answer = rewrite::shorten_counts::<u32>(description, out);
     MovedOut::from(answer)
 }

@@ -15,5 +15,5 @@ use exports_layouts::ComposedOut;
 pub extern "C" fn lukaripe_read(description: &[u8]) -> ComposedOut
     ensures { result ≡ composed_out (as_composed (described_for 64 target64 description.now)) }
 {
-    ComposedOut::from(describe::read(false, description))
+    ComposedOut::from(describe::read::<u64>(description))
 }

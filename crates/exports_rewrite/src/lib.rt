@@ -15,7 +15,7 @@ pub extern "C" fn lukaripe_lengthen_counts(description: &[u8], out: &mut [u8]) -
     ensures out_after { out.new ≡ filled (rewrite_for 64 target64 longer description.now (length out.old))
         out.old }
 {
-    let answer = rewrite::lengthen_counts(false, description, out);
+    let answer = rewrite::lengthen_counts::<u64>(description, out);
     MovedOut::from(answer)
 }
 
@@ -26,6 +26,6 @@ pub extern "C" fn lukaripe_shorten_counts(description: &[u8], out: &mut [u8]) ->
     ensures out_after { out.new ≡ filled (rewrite_for 64 target64 shorter description.now (length out.old))
         out.old }
 {
-    let answer = rewrite::shorten_counts(false, description, out);
+    let answer = rewrite::shorten_counts::<u64>(description, out);
     MovedOut::from(answer)
 }

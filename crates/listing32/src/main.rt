@@ -10,7 +10,8 @@ const INPUT_BYTES: usize = 65536;
 const LINE_BYTES: usize = 4096;
 
 // Where the input or the output fails, a line on standard error says so, and no layout is printed.
-// The programs of the two widths have one text but for that: a function of both would be public, with nothing to promise.
+// The programs of the two widths have one text but for that and the width: a function of both would be public, with nothing to
+// promise.
 fn main(rt: HostRuntime) -> io::Result<()> {
     let mut list = [0u8; INPUT_BYTES];
     let n = match reading::read_full(&mut rt.stdin(), &mut list) {
@@ -20,7 +21,7 @@ fn main(rt: HostRuntime) -> io::Result<()> {
         }
     };
     let mut text = [0u8; LINE_BYTES];
-    let len = listing_line::line(true, &list[..n], &mut text);
+    let len = listing_line::line::<u32>(&list[..n], &mut text);
     if let Err(error) = rt.stdout().write_all(&text[..len]) {
         return eprintln!(rt; "listing32: standard output: {error}");
     }

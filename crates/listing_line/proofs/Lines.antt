@@ -12,7 +12,7 @@ use lib.Seq.{sets, sets-eq, length-sets, length-take-le}
 use Rattle.io.specs.Counts.{IsPrefixLen}
 use Rattle.compose_defs.specs.Compose.{Composed, refused_at, ported, struct_for}
 use Rattle.words.proofs.LittleEndian.{sets_sets}
-use Rattle.listing_line.specs.Line.{digits_of, decimal, at_text, line_of, list_for, line_length, line_into}
+use Rattle.listing_line.specs.Line.{digits_of, decimal, line_of, list_for, line_length, line_into}
 
 pub digits_one : (k n : ℕ) → 0 < k → n < 10 → digits_of k n ≡ (48 + n) ∷ []
 digits_one zero n p h = absurd (omega arith)
@@ -72,13 +72,6 @@ joined l x y D E p q f g = (omega (arith, length-append D E, f.0, g.0), g.1 ∙ 
 
 pub begun : (l x D : List ℕ) (p : ℕ) → (p ≡ 0 + length D) × (x ≡ sets l 0 D) → (p ≡ length D) × (x ≡ sets l 0 D)
 begun l x D p f = (omega (arith, f.0), f.1)
-
--- the stores of a text, as code makes them, are one run
-pub stores_at : (l : List ℕ) (i : ℕ) → set (set (set l i 97) (i + 1) 116) (i + 2) 32 ≡ sets l i at_text
-stores_at l i =
-    let s1 : i + 1 ≡ suc i = omega arith in
-    let s2 : i + 2 ≡ suc (suc i) = omega arith in
-    rw (s1, s2)
 
 -- a list that is too long, and one that is not
 pub list_long : (w : ℕ) (s : List ℕ) → 65520 < length s → list_for w s ≡ refused_at 20 0

@@ -1,13 +1,12 @@
 // The listing: what a member list composes to at either width, as one line of text.
 #![tactic(auto)]
 
-ghost use Rattle.std.specs.Prelude.{◌≡◌, ◌+◌, ◌≤◌, ◌<◌, ◌^◌, length};
+ghost use Rattle.std.specs.Prelude.{◌≡◌, ℕ, ◌+◌, ◌≤◌, ◌<◌, ◌^◌, length};
 ghost use Rattle.std.proofs.lemmas.List.Edits.{sets};
 ghost use Rattle.io.specs.Counts.{IsPrefixLen};
 ghost use Rattle.record.specs.View.{words_in};
 ghost use Rattle.compose_defs.specs.Compose.{ported, struct_for};
 ghost use Rattle.compose.specs.View.{compose_says};
-ghost use Rattle.width.specs.Width.{bits_of};
 ghost use Rattle.listing_line.specs.Line.{digits_of, token, words_line, refused_text, at_text, refused_line, list_for};
 ghost use Rattle.listing_line.specs.Line.{line_length, line_into};
 
@@ -24,7 +23,8 @@ pub const LINE_ROOM: usize = 126;
 // The most digits that a number of 64 bits has.
 const PLACES: usize = 20;
 
-// n in decimal from at on, in at most places digits: the place behind them.
+// n in decimal from at on, in at most places digits: the place behind them. Digit by digit: `write!` would want a type of its own
+// that writes into the lent bytes, since nothing here has a heap, and a proof that its digits are those of the specs.
 fn digits(out: &mut [u8], at: usize, n: u64, places: usize) -> usize
     requires { (n < 10 ^ places) × (0 < places) × (at + places ≤ length out.old) }
     ensures { (result ≡ at + length (digits_of places n)) × (out.new ≡ sets out.old at (digits_of places n)) }
@@ -67,23 +67,14 @@ fn put_refused_text(out: &mut [u8])
     requires { 8 ≤ length out.old }
     ensures { out.new ≡ sets out.old 0 refused_text }
 {
-    out[0] = b'r';
-    out[1] = b'e';
-    out[2] = b'f';
-    out[3] = b'u';
-    out[4] = b's';
-    out[5] = b'e';
-    out[6] = b'd';
-    out[7] = b' ';
+    out[..8].copy_from_slice(b"refused ");
 }
 
 fn put_at_text(out: &mut [u8], at: usize)
     requires { at + 3 ≤ length out.old }
     ensures { out.new ≡ sets out.old at at_text }
 {
-    out[at] = b'a';
-    out[at + 1] = b't';
-    out[at + 2] = b' ';
+    out[at..at + 3].copy_from_slice(b"at ");
 }
 
 // A refusal as one line: its length.
@@ -104,24 +95,37 @@ fn wide_composed(
 ) -> Result<DstLayout<u64>, RefusedAt<u64>>
     ensures { compose_says result ≡ compose_says answer }
 {
-    let l = answer?;
-    Ok(layouts32::wide_layout(l))
+    answer.map(layouts32::wide_layout)
 }
 
-// The composition at a width, without alignment or packing.
-fn compose_at(narrow: bool, list: &[u8]) -> Result<DstLayout<u64>, RefusedAt<u64>>
-    ensures { compose_says result ≡ struct_for (bits_of narrow) ported 0 0 list.now }
-{
-    if narrow {
-        wide_composed(compose::for_repr_c_struct::<u32>(0, 0, list))
-    } else {
+// The composition at a width, by the type of its numbers, without alignment or packing. Not `Lists`, whose layout at 32 bits has
+// no words.
+pub trait Listed {
+    ghost bits: { ℕ };
+
+    fn compose(list: &[u8]) -> Result<DstLayout<u64>, RefusedAt<u64>>
+        ensures { compose_says result ≡ struct_for bits ported 0 0 list.now };
+}
+
+impl Listed for u64 {
+    ghost bits = { 64 };
+
+    fn compose(list: &[u8]) -> Result<DstLayout<u64>, RefusedAt<u64>> {
         compose::for_repr_c_struct::<u64>(0, 0, list)
     }
 }
 
+impl Listed for u32 {
+    ghost bits = { 32 };
+
+    fn compose(list: &[u8]) -> Result<DstLayout<u64>, RefusedAt<u64>> {
+        wide_composed(compose::for_repr_c_struct::<u32>(0, 0, list))
+    }
+}
+
 // What the members compose to; a list that is too long is refused.
-fn compose_list(narrow: bool, list: &[u8]) -> Result<DstLayout<u64>, RefusedAt<u64>>
-    ensures { compose_says result ≡ list_for (bits_of narrow) list.now }
+fn compose_list<W: Listed>(list: &[u8]) -> Result<DstLayout<u64>, RefusedAt<u64>>
+    ensures { compose_says result ≡ list_for W.bits list.now }
 {
     if list.len() > MAX_LIST_BYTES {
         Err(RefusedAt {
@@ -129,20 +133,20 @@ fn compose_list(narrow: bool, list: &[u8]) -> Result<DstLayout<u64>, RefusedAt<u
             place: 0,
         })
     } else {
-        compose_at(narrow, list)
+        W::compose(list)
     }
 }
 
 // Writes the line of a member list and gives its length; into fewer than LINE_ROOM bytes it writes nothing and gives 0.
-pub fn line(narrow: bool, list: &[u8], out: &mut [u8]) -> usize
-    ensures answer { result ≡ line_length (bits_of narrow) list.now out.old }
-    ensures bytes { out.new ≡ line_into (bits_of narrow) list.now out.old }
+pub fn line<W: Listed>(list: &[u8], out: &mut [u8]) -> usize
+    ensures answer { result ≡ line_length W.bits list.now out.old }
+    ensures bytes { out.new ≡ line_into W.bits list.now out.old }
     ensures within { IsPrefixLen result out.new }
 {
     if out.len() < LINE_ROOM {
         return 0;
     }
-    match compose_list(narrow, list) {
+    match compose_list::<W>(list) {
         Ok(l) => put_words(out, record::words_from_layout(l)),
         Err(at) => put_refusal(out, at.refusal.number(), at.place),
     }

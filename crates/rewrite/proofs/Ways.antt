@@ -1,35 +1,20 @@
 -- A head at a place: its bytes, its count, and what is put for it. Assumes nothing.
 use mathlib.Core.Path.{◌≡◌, refl, sym, ap, subst, ◌∙◌}
-use mathlib.Core.Bool.{Bool, true, false}
+use mathlib.Core.Bool.{true, false}
 use mathlib.Core.List.{List, [], ◌∷◌, ◌++◌}
-use Prim.Native.Nat.{ℕ, suc, ◌+◌, ◌-◌, ◌*◌, ◌≤◌, ◌<◌}
+use Prim.Native.Nat.{ℕ, suc, ◌+◌, ◌*◌, ◌≤◌, ◌<◌}
 use native.Mathlib.Omega.{arith}
-use borrow.Author.Tests.{le-leb, lt-leb, eqb-true, leb-true, leb-false}
-use lib.Dec.{eqb, ltb, leb}
+use borrow.Author.Tests.{eqb-true}
+use lib.Dec.{eqb, ltb}
 use lib.ListN.{length, take, drop, get_or, set, length-drop}
 use lib.Seq.{sets, drop-cons, length-take-le}
+use Rattle.std.specs.Int.{from_le_bytes, w16}
 use Rattle.words.proofs.LittleEndian.{sets_sets}
 use Rattle.words.specs.Bytes.{value_of}
-use Rattle.describe_defs.specs.Describe.{by_one, by_two, struct_tag, array, struct, slice, Tag, code, opens, unknown, tag_of}
-use Rattle.describe_defs.proofs.Steps.{TagMeans, tag_means}
+use Rattle.describe_defs.specs.Describe.{struct_tag, tag_of}
 use Rattle.rewrite_defs.specs.Heads.{behind_tag, has_tag}
 use Rattle.rewrite_defs.specs.Rewrite.{Way, longer, shorter, from, turned_head, count_above}
-use Rattle.rewrite.specs.View.{way_of, head_at, HeadIn, tagged, struct_put, length_to}
-
--- ---- the bytes of a head by its tag
-pub bytes_of : {b : ℕ} (c : ℕ) → b ≡ c → 1 + behind_tag (tag_of c) ≡ 1 + behind_tag (tag_of b)
-bytes_of c e = rw e
-
-pub one_byte : (b : ℕ) → (b ≡ 16 → ⊥) → (b ≡ 17 → ⊥) → (b ≡ 19 → ⊥) → 1 ≡ 1 + behind_tag (tag_of b)
-one_byte b p q r = go (tag_of b) (tag_means b)
-  where
-    go : (t : Tag) → TagMeans b t → 1 ≡ 1 + behind_tag t
-    go code m = refl
-    go (opens array) m = absurd (p m)
-    go (opens (struct by_one)) m = absurd (q m)
-    go (opens (struct by_two)) m = absurd (r m)
-    go (opens slice) m = refl
-    go unknown m = refl
+use Rattle.rewrite.specs.View.{head_at, HeadIn, tagged, struct_put}
 
 -- ---- its bytes one by one
 take_cons : (s : List ℕ) (n i j : ℕ) → i < length s → j ≡ suc i → take (suc n) (drop i s) ≡ get_or s i 0 ∷ take n (drop j s)
@@ -81,57 +66,46 @@ kept_is way s i h e = let f = head_tag (struct_tag (from way)) s i h.0 ∙ e in 
 pub above_never : {way : Way} (h : List ℕ) → way ≡ longer → false ≡ count_above way h
 above_never h e = rw e
 
-pub above_is : {way : Way} (s : List ℕ) (i : ℕ) {low high : ℕ} → way ≡ shorter → HeadIn s i → eqb (get_or s i 0) (struct_tag (from way)) ≡ true
-    → low ≡ get_or s (i + 3) 0 → high ≡ get_or s (i + 4) 0 → ltb 255 (low + 256 * high) ≡ count_above way (head_at s i)
+pub above_is : {way : Way} (s : List ℕ) (i : ℕ) {count : ℕ} → way ≡ shorter → HeadIn s i → eqb (get_or s i 0) (struct_tag (from way)) ≡ true
+    → count ≡ from_le_bytes w16 (get_or s (i + 3) 0 ∷ get_or s (i + 4) 0 ∷ []) → ltb 255 count ≡ count_above way (head_at s i)
 unfolding value_of
-above_is s i {low} {high} w h e p q =
+above_is s i {count} w h e p =
     let x = (head_five s i h (eqb-true (get_or s i 0) 19 (rw w at e))).1 in
-    let z : low + 256 * high ≡ get_or s (i + 3) 0 + 256 * (get_or s (i + 4) 0 + 256 * 0) = omega (arith, p, q) in
+    let z : count ≡ get_or s (i + 3) 0 + 256 * (get_or s (i + 4) 0 + 256 * 0) = omega (arith, p) in
     rw (w, x) (ap (ltb 255) z)
 
-pub stores : (l : List ℕ) (i a b c d : ℕ) → set (set (set (set l i a) (i + 1) b) (i + 2) c) (i + 3) d ≡ sets l i (a ∷ b ∷ c ∷ d ∷ [])
-stores l i a b c d =
-    let s1 : i + 1 ≡ suc i = omega arith in
-    let s2 : i + 2 ≡ suc (suc i) = omega arith in
-    let s3 : i + 3 ≡ suc (suc (suc i)) = omega arith in
-    rw (s1, s2, s3)
+three : (s : List ℕ) (i : ℕ) → i + 4 ≤ length s → take 3 (drop (i + 1) s) ≡ get_or s (i + 1) 0 ∷ get_or s (i + 2) 0 ∷ get_or s (i + 3) 0 ∷ []
+three s i h =
+    rw (take_cons s 2 (i + 1) (i + 2) (omega arith) (omega arith), take_cons s 1 (i + 2) (i + 3) (omega arith) (omega arith), take_cons s 0 (i + 3) (i + 4) (omega arith) (omega arith))
+    refl
 
--- ---- whether the result has room
-module _ {b : Bool} (len turned room : ℕ) where
-  pub room_none : b ≡ true → room < len → false ≡ leb (length_to (way_of b) len turned) room
-  room_none e h = rw e (sym (lt-leb (len + turned) room (omega arith)))
-
-  pub room_long : b ≡ true → len ≤ room → leb turned (room - len) ≡ leb (length_to (way_of b) len turned) room
-  room_long e h = rw e (go (leb turned (room - len)) refl)
-    where
-      go : (t : Bool) → leb turned (room - len) ≡ t → t ≡ leb (len + turned) room
-      go true f = sym (le-leb (len + turned) room (omega (arith, leb-true turned (room - len) f)))
-      go false f = sym (lt-leb (len + turned) room (omega (arith, leb-false turned (room - len) f)))
-
-  pub room_short : b ≡ false → leb (len - turned) room ≡ leb (length_to (way_of b) len turned) room
-  room_short e = rw e
+-- a tag, and the three bytes behind that of a head
+pub stores : (l s : List ℕ) (to at tag : ℕ) → at + 4 ≤ length s → sets (set l to tag) (to + 1) (take 3 (drop (at + 1) s)) ≡ sets l to (tagged tag s at)
+stores l s to at tag h =
+    let e : to + 1 ≡ suc to = omega arith in
+    rw (three s at h, e)
 
 -- ---- a byte more behind four
 pub put_more : (l : List ℕ) (to a b c d e : ℕ) → set (sets l to (a ∷ b ∷ c ∷ d ∷ [])) (to + 4) e ≡ sets l to (a ∷ b ∷ c ∷ d ∷ e ∷ [])
 put_more l to a b c d e = sets_sets (a ∷ b ∷ c ∷ d ∷ []) (e ∷ []) l to (to + 4) refl
 
 -- ---- what is put for a struct
-module _ {b : Bool} (s : List ℕ) (at : ℕ) where
-  pub long_room : b ≡ true → length (struct_put (way_of b) s at) ≡ 5
+module _ {way : Way} (s : List ℕ) (at : ℕ) where
+  pub long_room : way ≡ longer → length (struct_put way s at) ≡ 5
   long_room e = rw e refl
 
-  pub short_room : b ≡ false → length (struct_put (way_of b) s at) ≡ 4
+  pub short_room : way ≡ shorter → length (struct_put way s at) ≡ 4
   short_room e = rw e refl
 
 module _ (s out₀ : List ℕ) (at to : ℕ) where
   -- what comes back and what stands in the output
-  abbrev Puts : Bool → ℕ → List ℕ → Type 0
-  Puts c r out = (r ≡ to + length (struct_put (way_of c) s at)) × (out ≡ sets out₀ to (struct_put (way_of c) s at))
+  abbrev Puts : Way → ℕ → List ℕ → Type 0
+  Puts way r out = (r ≡ to + length (struct_put way s at)) × (out ≡ sets out₀ to (struct_put way s at))
 
-  pub put_long : {b : Bool} {out : List ℕ} → b ≡ true → out ≡ sets out₀ to (tagged 19 s at) → Puts b (to + 5) (set out (to + 4) 0)
+  pub put_long : {way : Way} {out : List ℕ} → way ≡ longer → out ≡ sets out₀ to (tagged 19 s at) → Puts way (to + 5) (set out (to + 4) 0)
   put_long e f = rw (e, f) (refl, put_more out₀ to 19 (get_or s (at + 1) 0) (get_or s (at + 2) 0) (get_or s (at + 3) 0) 0)
 
-  pub put_short_lem : {b : Bool} {out : List ℕ} → b ≡ false → out ≡ sets out₀ to (tagged 17 s at) → Puts b (to + 4) out
+  pub put_short_lem : {way : Way} {out : List ℕ} → way ≡ shorter → out ≡ sets out₀ to (tagged 17 s at) → Puts way (to + 4) out
   put_short_lem e f = rw (e, f) (refl, refl)
 
 -- ---- what is put for a head, by whether it is turned

@@ -2,7 +2,9 @@
 use Rattle.std.specs.Prelude.{Result}
 use Rattle.util.specs.View.{placed_says}
 use Rattle.util.specs.declared.refusal.RefusedAt.{RefusedAt}
-use Rattle.std.specs.Prelude.{◌≡◌, Bool, true, false, List, [], ◌∷◌, ◌++◌, ℕ, ◌+◌, ◌-◌, ◌≤◌, ◌<◌, length, take, drop, get_or}
+use Rattle.rewrite.specs.declared.Way as Declared
+use Rattle.rewrite.specs.declared.Way.TheVariants as WayIs
+use Rattle.std.specs.Prelude.{◌≡◌, List, [], ◌∷◌, ◌++◌, ℕ, ◌+◌, ◌-◌, ◌≤◌, ◌<◌, length, take, drop, get_or}
 use Rattle.util_defs.specs.Placed.{Placed, reached, stopped}
 use Rattle.layout_defs.specs.Layout.{Layout}
 use Rattle.describe_defs.specs.Describe.{tag_of}
@@ -10,10 +12,9 @@ use Rattle.rewrite_defs.specs.Heads.{behind_tag, heads_of, joined}
 use Rattle.rewrite_defs.specs.Rewrite.{Way, longer, shorter}
 use Rattle.rewrite_defs.proofs.Whole.{AllWhole}
 
--- whether counts get two bytes
-abbrev pub way_of : Bool → Way
-way_of true = longer
-way_of false = shorter
+abbrev pub way_of : Declared.Way → Way
+way_of WayIs.Longer = longer
+way_of WayIs.Shorter = shorter
 
 -- the head at a place
 abbrev pub head_at : List ℕ → ℕ → List ℕ

@@ -16,62 +16,64 @@ ghost use Rattle.rewrite.specs.View.{Read, length_to, turned_says, rewrite_says}
 
 use heads::{ARRAY_TAG, LONG_STRUCT_TAG, STRUCT_TAG};
 use util::{Refusal, RefusedAt};
+use width::AtWidth;
 
 // The greatest count of one byte.
-const GREATEST_BYTE: u64 = 255;
+const GREATEST_BYTE: u16 = 255;
+
+// The way that member counts are turned: to two bytes, or back to one. A value that the functions match on: of what a trait would
+// have for each way, no part is more than a line or two.
+#[derive(Clone, Copy)]
+enum Way {
+    Longer,
+    Shorter,
+}
 
 // The bytes of a head, by its tag.
 fn head_bytes(tag: u8) -> usize
     ensures { result ≡ 1 + behind_tag (tag_of tag) }
 {
-    if tag == ARRAY_TAG {
-        return 5;
+    match tag {
+        STRUCT_TAG => 4,
+        ARRAY_TAG | LONG_STRUCT_TAG => 5,
+        _ => 1,
     }
-    if tag == STRUCT_TAG {
-        return 4;
-    }
-    if tag == LONG_STRUCT_TAG {
-        return 5;
-    }
-    1
 }
 
 // Whether a head of this tag is turned.
-fn turns(tag: u8, long: bool) -> bool
-    ensures { result ≡ eqb tag (struct_tag (from (way_of long))) }
+fn turns(tag: u8, way: Way) -> bool
+    ensures { result ≡ eqb tag (struct_tag (from (way_of way))) }
 {
-    if long {
-        return tag == STRUCT_TAG;
+    match way {
+        Way::Longer => tag == STRUCT_TAG,
+        Way::Shorter => tag == LONG_STRUCT_TAG,
     }
-    tag == LONG_STRUCT_TAG
 }
 
 // Whether the count of a struct that is turned does not fit.
-fn count_above(s: &[u8], at: usize, long: bool) -> bool
-    requires { HeadIn s.now at × (eqb (get_or s.now at 0) (struct_tag (from (way_of long))) ≡ true) }
-    ensures { result ≡ count_above (way_of long) (head_at s.now at) }
+fn count_above(s: &[u8], at: usize, way: Way) -> bool
+    requires { HeadIn s.now at × (eqb (get_or s.now at 0) (struct_tag (from (way_of way))) ≡ true) }
+    ensures { result ≡ count_above (way_of way) (head_at s.now at) }
 {
-    if long {
-        return false;
+    match way {
+        Way::Longer => false,
+        Way::Shorter => u16::from_le_bytes([s[at + 3], s[at + 4]]) > GREATEST_BYTE,
     }
-    let low = heads::wide(s[at + 3]);
-    let high = heads::wide(s[at + 4]);
-    low + 0x100 * high > GREATEST_BYTE
 }
 
 // How many heads are turned. A count that does not fit is met before any byte is written.
-fn count_turned(s: &[u8], long: bool) -> Result<usize, RefusedAt<u64>>
+fn count_turned(s: &[u8], way: Way) -> Result<usize, RefusedAt<u64>>
     requires { Whole s.now }
-    ensures { turned_says result ≡ go_on (counts_fit (way_of long) 0 (heads_of s.now))
-        (λ _. reached (tags_in (struct_tag (from (way_of long))) s.now)) }
+    ensures { turned_says result ≡ go_on (counts_fit (way_of way) 0 (heads_of s.now))
+        (λ _. reached (tags_in (struct_tag (from (way_of way))) s.now)) }
 {
     let mut at = 0;
     let mut turned = 0;
     // Heads have lengths of their own, so that the place moves by what was read: no `for` says that.
     while at < s.len() {
         let tag = s[at];
-        if turns(tag, long) {
-            if count_above(s, at, long) {
+        if turns(tag, way) {
+            if count_above(s, at, way) {
                 return Err(RefusedAt {
                     refusal: Refusal::CountAboveByte,
                     place: at as u64,
@@ -92,41 +94,44 @@ fn copy(s: &[u8], at: usize, count: usize, out: &mut [u8], to: usize)
     out[to..to + count].copy_from_slice(&s[at..at + count]);
 }
 
-// Writes a struct's tag, and its alignment, packing and first count byte behind it.
+// Writes a struct's tag, and its alignment, packing and first count byte behind it. What is read and what is written have a place
+// each, here and below, since the one moves by another length than the other.
 fn put_tagged(s: &[u8], at: usize, out: &mut [u8], to: usize, tag: u8)
     requires { (at + 4 ≤ length s.now) × (to + 4 ≤ length out.old) }
     ensures { out.new ≡ sets out.old to (tagged tag s.now at) }
 {
     out[to] = tag;
-    out[to + 1] = s[at + 1];
-    out[to + 2] = s[at + 2];
-    out[to + 3] = s[at + 3];
+    copy(s, at + 1, 3, out, to + 1);
 }
 
 // Writes the head of a struct that is turned, and gives the place behind it.
-fn put_struct(s: &[u8], at: usize, out: &mut [u8], to: usize, long: bool) -> usize
-    requires { (at + 4 ≤ length s.now) × (to + length (struct_put (way_of long) s.now at) ≤ length out.old) }
-    ensures { (result ≡ to + length (struct_put (way_of long) s.now at))
-        × (out.new ≡ sets out.old to (struct_put (way_of long) s.now at)) }
+fn put_struct(s: &[u8], at: usize, out: &mut [u8], to: usize, way: Way) -> usize
+    requires { (at + 4 ≤ length s.now) × (to + length (struct_put (way_of way) s.now at) ≤ length out.old) }
+    ensures { (result ≡ to + length (struct_put (way_of way) s.now at))
+        × (out.new ≡ sets out.old to (struct_put (way_of way) s.now at)) }
 {
-    if long {
-        put_tagged(s, at, out, to, LONG_STRUCT_TAG);
-        out[to + 4] = 0;
-        return to + 5;
+    match way {
+        Way::Longer => {
+            put_tagged(s, at, out, to, LONG_STRUCT_TAG);
+            out[to + 4] = 0;
+            to + 5
+        }
+        Way::Shorter => {
+            put_tagged(s, at, out, to, STRUCT_TAG);
+            to + 4
+        }
     }
-    put_tagged(s, at, out, to, STRUCT_TAG);
-    to + 4
 }
 
 // Writes a head, turned or as it is, and gives the place behind it.
-fn put_head(s: &[u8], at: usize, out: &mut [u8], to: usize, long: bool) -> usize
-    requires { HeadIn s.now at × (to + length (turned_head (way_of long) (head_at s.now at)) ≤ length out.old) }
-    ensures { (result ≡ to + length (turned_head (way_of long) (head_at s.now at)))
-        × (out.new ≡ sets out.old to (turned_head (way_of long) (head_at s.now at))) }
+fn put_head(s: &[u8], at: usize, out: &mut [u8], to: usize, way: Way) -> usize
+    requires { HeadIn s.now at × (to + length (turned_head (way_of way) (head_at s.now at)) ≤ length out.old) }
+    ensures { (result ≡ to + length (turned_head (way_of way) (head_at s.now at)))
+        × (out.new ≡ sets out.old to (turned_head (way_of way) (head_at s.now at))) }
 {
     let tag = s[at];
-    if turns(tag, long) {
-        return put_struct(s, at, out, to, long);
+    if turns(tag, way) {
+        return put_struct(s, at, out, to, way);
     }
     let count = head_bytes(tag);
     copy(s, at, count, out, to);
@@ -134,51 +139,50 @@ fn put_head(s: &[u8], at: usize, out: &mut [u8], to: usize, long: bool) -> usize
 }
 
 // Writes every head into the front of out.
-fn write_heads(s: &[u8], out: &mut [u8], long: bool)
-    requires { Whole s.now × (length (rewritten (way_of long) s.now) ≤ length out.old) }
-    ensures { out.new ≡ filled (reached (rewritten (way_of long) s.now)) out.old }
+fn write_heads(s: &[u8], out: &mut [u8], way: Way)
+    requires { Whole s.now × (length (rewritten (way_of way) s.now) ≤ length out.old) }
+    ensures { out.new ≡ filled (reached (rewritten (way_of way) s.now)) out.old }
 {
     let mut at = 0;
     let mut to = 0;
     // As above: the place moves by the length of a head.
     while at < s.len() {
-        to = put_head(s, at, out, to, long);
+        to = put_head(s, at, out, to, way);
         at += head_bytes(s[at]);
     }
 }
 
 // Whether the result has room: a sum of lengths can pass the greatest number, so that they are compared by a difference.
-fn has_room(len: usize, turned: usize, room: usize, long: bool) -> bool
+fn has_room(len: usize, turned: usize, room: usize, way: Way) -> bool
     requires { turned ≤ len }
-    ensures { result ≡ leb (length_to (way_of long) len turned) room }
+    ensures { result ≡ leb (length_to (way_of way) len turned) room }
 {
-    if long {
-        if room < len {
-            return false;
-        }
-        return turned <= room - len;
+    match way {
+        Way::Longer => len <= room && turned <= room - len,
+        Way::Shorter => len - turned <= room,
     }
-    len - turned <= room
 }
 
 // The rewriting of a description that is read at a width, which the heads then do not hang on.
-fn rewrite_read(
-    narrow: bool,
+fn rewrite_read<W: AtWidth>(
     description: &[u8],
     out: &mut [u8],
-    long: bool,
+    way: Way,
 ) -> Result<u64, RefusedAt<u64>>
-    requires { Read (described_for (bits_of narrow) (target_of narrow) description.now) }
-    ensures result_value { rewrite_says result ≡ bytes_for (bits_of narrow) (target_of narrow) (way_of long) description.now
+    requires { Read (described_for (bits_of W.narrow) (target_of W.narrow) description.now) }
+    ensures result_value { rewrite_says result ≡ bytes_for (bits_of W.narrow) (target_of W.narrow) (way_of way) description.now
         (length out.old) }
-    ensures out_after { out.new ≡ filled (rewrite_for (bits_of narrow) (target_of narrow) (way_of long) description.now
+    ensures out_after { out.new ≡ filled (rewrite_for (bits_of W.narrow) (target_of W.narrow) (way_of way) description.now
         (length out.old)) out.old }
 {
-    let turned = count_turned(description, long)?;
+    let turned = count_turned(description, way)?;
     let len = description.len();
-    if has_room(len, turned, out.len(), long) {
-        write_heads(description, out, long);
-        let bytes = if long { len + turned } else { len - turned };
+    if has_room(len, turned, out.len(), way) {
+        write_heads(description, out, way);
+        let bytes = match way {
+            Way::Longer => len + turned,
+            Way::Shorter => len - turned,
+        };
         Ok(bytes as u64)
     } else {
         Err(RefusedAt {
@@ -189,49 +193,39 @@ fn rewrite_read(
 }
 
 // The rewriting either way.
-fn rewrite(
-    narrow: bool,
-    description: &[u8],
-    out: &mut [u8],
-    long: bool,
-) -> Result<u64, RefusedAt<u64>>
-    ensures result_value { rewrite_says result ≡ bytes_for (bits_of narrow) (target_of narrow) (way_of long) description.now
+fn rewrite<W: AtWidth>(description: &[u8], out: &mut [u8], way: Way) -> Result<u64, RefusedAt<u64>>
+    ensures result_value { rewrite_says result ≡ bytes_for (bits_of W.narrow) (target_of W.narrow) (way_of way) description.now
         (length out.old) }
-    ensures out_after { out.new ≡ filled (rewrite_for (bits_of narrow) (target_of narrow) (way_of long) description.now
+    ensures out_after { out.new ≡ filled (rewrite_for (bits_of W.narrow) (target_of W.narrow) (way_of way) description.now
         (length out.old)) out.old }
 {
-    describe::read(narrow, description)?;
-    rewrite_read(narrow, description, out, long)
+    describe::read::<W>(description)?;
+    rewrite_read::<W>(description, out, way)
 }
 
 // Turns every 17 into 19, whose member count has two bytes, into the front of out; behind the result it stays as it was.
-pub fn lengthen_counts(
-    narrow: bool,
+pub fn lengthen_counts<W: AtWidth>(
     description: &[u8],
     out: &mut [u8],
 ) -> Result<u64, RefusedAt<u64>>
-    ensures answer { rewrite_says result ≡ bytes_for (bits_of narrow) (target_of narrow) longer description.now
+    ensures answer { rewrite_says result ≡ bytes_for (bits_of W.narrow) (target_of W.narrow) longer description.now
         (length out.old) }
-    ensures bytes { out.new ≡ filled (rewrite_for (bits_of narrow) (target_of narrow) longer description.now
+    ensures bytes { out.new ≡ filled (rewrite_for (bits_of W.narrow) (target_of W.narrow) longer description.now
         (length out.old)) out.old }
-    ensures meaning { RewriteMeans (bits_of narrow) (target_of narrow) longer description.now out.old out.new
+    ensures meaning { RewriteMeans (bits_of W.narrow) (target_of W.narrow) longer description.now out.old out.new
         (rewrite_says result) }
 {
-    rewrite(narrow, description, out, true)
+    rewrite::<W>(description, out, Way::Longer)
 }
 
 // Turns every 19 into 17, whose member count has one byte.
-pub fn shorten_counts(
-    narrow: bool,
-    description: &[u8],
-    out: &mut [u8],
-) -> Result<u64, RefusedAt<u64>>
-    ensures answer { rewrite_says result ≡ bytes_for (bits_of narrow) (target_of narrow) shorter description.now
+pub fn shorten_counts<W: AtWidth>(description: &[u8], out: &mut [u8]) -> Result<u64, RefusedAt<u64>>
+    ensures answer { rewrite_says result ≡ bytes_for (bits_of W.narrow) (target_of W.narrow) shorter description.now
         (length out.old) }
-    ensures bytes { out.new ≡ filled (rewrite_for (bits_of narrow) (target_of narrow) shorter description.now
+    ensures bytes { out.new ≡ filled (rewrite_for (bits_of W.narrow) (target_of W.narrow) shorter description.now
         (length out.old)) out.old }
-    ensures meaning { RewriteMeans (bits_of narrow) (target_of narrow) shorter description.now out.old out.new
+    ensures meaning { RewriteMeans (bits_of W.narrow) (target_of W.narrow) shorter description.now out.old out.new
         (rewrite_says result) }
 {
-    rewrite(narrow, description, out, false)
+    rewrite::<W>(description, out, Way::Shorter)
 }

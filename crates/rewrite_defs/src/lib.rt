@@ -1,2 +1,2 @@
-// Definitions and laws of type descriptions, and of arrays and slices of a layout: there is no code here.
+// Definitions and laws of descriptions rewritten: there is no code here.
 #![tactic(auto)]

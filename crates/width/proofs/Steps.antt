@@ -1,8 +1,8 @@
 -- The steps of a loop that serves both widths, on layouts whose numbers the width holds: they are those of the width, and what they
 -- give is held. Assumes nothing.
 use mathlib.Core.Bool.{Bool, true, false}
-use mathlib.Core.Path.{◌≡◌, refl, sym, ap, subst, ◌∙◌}
-use Prim.Native.Nat.{ℕ, ◌^◌, ◌≤◌, ◌<◌}
+use mathlib.Core.Path.{◌≡◌, refl, sym, subst, ◌∙◌}
+use Prim.Native.Nat.{ℕ, ◌^◌, ◌<◌}
 use native.Mathlib.Nat.{mod-lt}
 use native.Mathlib.Omega.{arith}
 use lib.Pow.{pow_pos}
@@ -12,8 +12,7 @@ use Rattle.util_defs.proofs.Tables.{apart}
 use Rattle.layout_defs.specs.Layout.{Info, fixed, trailing, Layout}
 use Rattle.layout_defs.specs.Extend.{extend_for}
 use Rattle.padding_defs.specs.Pad.{pad_for}
-use Rattle.make.specs.Make.{asked, new_zst_for}
-use Rattle.scalar.specs.Scalar.{scalar_layout}
+use Rattle.make.specs.Make.{new_zst_for}
 use Rattle.describe_defs.specs.Elements.{array_for, slice_of_for}
 use Rattle.describe_defs.specs.Faults.{ScalarsAccepted}
 use Rattle.describe_defs.proofs.Accepted.{scalars64}
@@ -22,9 +21,9 @@ use Rattle.widths_layouts_defs.specs.Low.{low_layout, InfoIn, LayoutIn}
 use Rattle.widths_layouts_defs.specs.Within.{step_within}
 use Rattle.widths_layouts_defs.proofs.Made.{zst_low, asked_in, zst_same}
 use Rattle.widths_layouts_defs.proofs.Step.{extend_narrows, extend_low}
-use Rattle.widths_layouts_defs.proofs.Closing.{pad_narrows, pad_low}
-use Rattle.scalar32.proofs.Accepted.{scalars32, held32}
-use Rattle.elements32.proofs.Narrowed.{array_narrows, array_low, slice_same, slice_low}
+use Rattle.widths_layouts_defs.proofs.Closing.{pad_narrows}
+use Rattle.scalar32.proofs.Accepted.{scalars32}
+use Rattle.elements32.proofs.Narrowed.{array_narrows, slice_same}
 use Rattle.width.specs.Width.{bits_of, target_of, width_extend, width_pad, width_array, Held}
 
 -- ---- what v bits keep, they hold: so they hold what is answered at v bits

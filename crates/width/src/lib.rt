@@ -2,10 +2,10 @@
 // that of the width.
 #![tactic(auto)]
 
-ghost use Rattle.std.specs.Prelude.{◌≡◌};
+ghost use Rattle.std.specs.Prelude.{◌≡◌, Bool, true, false};
 ghost use Rattle.layout.specs.View.{layout_of, layout_says};
 ghost use Rattle.scalar.specs.Scalar.{scalar_for};
-ghost use Rattle.width.specs.Width.{narrow_of, bits_of, target_of, width_extend, width_pad, width_array};
+ghost use Rattle.width.specs.Width.{bits_of, target_of, width_extend, width_pad, width_array};
 
 use layout::DstLayout;
 use scalar::GREATEST_SCALAR_CODE;
@@ -17,60 +17,94 @@ pub enum Width {
     Bits64,
 }
 
-// Whether a width is the narrow one. The steps below, and the loops of describe and rewrite, take this and no enum: where it is a
-// constant, the compiler carries it into a loop, and what the other width needs is gone. With an enum, which it does not carry,
-// the reader took half as many instructions more.
-pub fn narrow(width: Width) -> bool
-    ensures { result ≡ narrow_of width }
-{
-    match width {
-        Width::Bits32 => true,
-        Width::Bits64 => false,
+// The steps at a width, by the type of its numbers. The loop of describe takes this type, so that there is one of each width, in
+// which what the other needs is gone. Not `Steps`, whose layouts are of the width's own numbers: a step would widen and narrow.
+pub trait AtWidth {
+    // Whether it is the narrow one.
+    ghost narrow: { Bool };
+
+    // The bits of a word.
+    fn bits() -> u8
+        ensures { result ≡ bits_of narrow };
+
+    // The layout with one member more.
+    fn extend(
+        own: DstLayout<u64>,
+        field: DstLayout<u64>,
+        repr_packed: u64,
+    ) -> Result<DstLayout<u64>, Refusal>
+        ensures { layout_says result ≡ width_extend narrow (layout_of own) (layout_of field) repr_packed };
+
+    // The layout with its size rounded up to its alignment at every count.
+    fn pad_to_align(layout: DstLayout<u64>) -> Result<DstLayout<u64>, Refusal>
+        ensures { layout_says result ≡ width_pad narrow (layout_of layout) };
+
+    // The layout of an array.
+    fn for_array(elem: DstLayout<u64>, count: u64) -> Result<DstLayout<u64>, Refusal>
+        ensures { layout_says result ≡ width_array narrow (layout_of elem) count };
+
+    // The layout of a scalar, by its code.
+    fn scalar(code: u64) -> Result<DstLayout<u64>, Refusal>
+        ensures { layout_says result ≡ scalar_for (target_of narrow) code };
+}
+
+impl AtWidth for u64 {
+    ghost narrow = { false };
+
+    fn bits() -> u8 {
+        64
     }
-}
 
-// The bits of a word.
-pub fn bits(narrow: bool) -> u8
-    ensures { result ≡ bits_of narrow }
-{
-    if narrow { 32 } else { 64 }
-}
-
-// The layout with one member more.
-pub fn extend(
-    narrow: bool,
-    own: DstLayout<u64>,
-    field: DstLayout<u64>,
-    repr_packed: u64,
-) -> Result<DstLayout<u64>, Refusal>
-    ensures { layout_says result ≡ width_extend narrow (layout_of own) (layout_of field) repr_packed }
-{
-    if narrow {
-        steps32::extend_within(own, field, repr_packed, numbers32::MAX)
-    } else {
+    fn extend(
+        own: DstLayout<u64>,
+        field: DstLayout<u64>,
+        repr_packed: u64,
+    ) -> Result<DstLayout<u64>, Refusal> {
         extend::extend(own, field, repr_packed)
     }
-}
 
-// The layout with its size rounded up to its alignment at every count.
-pub fn pad_to_align(narrow: bool, layout: DstLayout<u64>) -> Result<DstLayout<u64>, Refusal>
-    ensures { layout_says result ≡ width_pad narrow (layout_of layout) }
-{
-    if narrow {
-        steps32::pad_within(layout, numbers32::MAX)
-    } else {
+    fn pad_to_align(layout: DstLayout<u64>) -> Result<DstLayout<u64>, Refusal> {
         padding::pad_to_align(layout)
+    }
+
+    fn for_array(elem: DstLayout<u64>, count: u64) -> Result<DstLayout<u64>, Refusal> {
+        elements::for_array(elem, count)
+    }
+
+    fn scalar(code: u64) -> Result<DstLayout<u64>, Refusal> {
+        scalar::scalar(code)
     }
 }
 
-// The layout of an array.
-pub fn for_array(narrow: bool, elem: DstLayout<u64>, count: u64) -> Result<DstLayout<u64>, Refusal>
-    ensures { layout_says result ≡ width_array narrow (layout_of elem) count }
-{
-    if narrow {
+impl AtWidth for u32 {
+    ghost narrow = { true };
+
+    fn bits() -> u8 {
+        32
+    }
+
+    fn extend(
+        own: DstLayout<u64>,
+        field: DstLayout<u64>,
+        repr_packed: u64,
+    ) -> Result<DstLayout<u64>, Refusal> {
+        steps32::extend_within(own, field, repr_packed, numbers32::MAX)
+    }
+
+    fn pad_to_align(layout: DstLayout<u64>) -> Result<DstLayout<u64>, Refusal> {
+        steps32::pad_within(layout, numbers32::MAX)
+    }
+
+    fn for_array(elem: DstLayout<u64>, count: u64) -> Result<DstLayout<u64>, Refusal> {
         elements32::array_within(elem, count, numbers32::MAX)
-    } else {
-        elements::for_array(elem, count)
+    }
+
+    fn scalar(code: u64) -> Result<DstLayout<u64>, Refusal> {
+        if code > GREATEST_SCALAR_CODE {
+            Err(Refusal::ScalarCode)
+        } else {
+            wide_answer(scalar32::scalar(code as u32))
+        }
     }
 }
 
@@ -78,21 +112,5 @@ pub fn for_array(narrow: bool, elem: DstLayout<u64>, count: u64) -> Result<DstLa
 fn wide_answer(answer: Result<DstLayout<u32>, Refusal>) -> Result<DstLayout<u64>, Refusal>
     ensures { layout_says result ≡ layout_says answer }
 {
-    let layout = answer?;
-    Ok(layouts32::wide_layout(layout))
-}
-
-// The layout of a scalar, by its code.
-pub fn scalar(narrow: bool, code: u64) -> Result<DstLayout<u64>, Refusal>
-    ensures { layout_says result ≡ scalar_for (target_of narrow) code }
-{
-    if narrow {
-        if code > GREATEST_SCALAR_CODE {
-            Err(Refusal::ScalarCode)
-        } else {
-            wide_answer(scalar32::scalar(code as u32))
-        }
-    } else {
-        scalar::scalar(code)
-    }
+    answer.map(layouts32::wide_layout)
 }

@@ -5,7 +5,7 @@ use Rattle.util_defs.proofs.Mapped.{mapped_ok, mapped_err}
 use Rattle.util.specs.View.{number_of}
 use Rattle.util.proofs.Told.{handed_on_at}
 use Rattle.std.specs.Prelude.{Ok}
-use mathlib.Core.Path.{refl, sym, ap, ◌∙◌}
+use mathlib.Core.Path.{sym, ap, ◌∙◌}
 use native.Mathlib.Omega.{arith}
 use Rattle.util_defs.specs.Refusal.{Outcome}
 use Rattle.util_defs.specs.Placed.{Placed, reached, stopped, at_place, go_on}
@@ -28,14 +28,14 @@ use Prim.Native.Nat.{◌+◌, ◌-◌}
 use Rattle.describe.proofs.+add_members_part.Goals as goal
 
 pub add_members-loop-init : goal.add_members-loop-init
-add_members-loop-init t c = let e : c.args.count - 0 ≡ c.args.count = omega arith in (omega arith, (c.requires.0, rw e))
+add_members-loop-init g t c = let e : c.args.count - 0 ≡ c.args.count = omega arith in (omega arith, (c.requires.0, rw e))
 
 pub add_members-part-requires : goal.add_members-part-requires
-add_members-part-requires t c = (omega (arith, c.loop.invariant.0), tt)
+add_members-part-requires g t c = λ κs h. (omega (arith, c.loop.invariant.0), h)
 
 pub add_members-loop-preserved : goal.add_members-loop-preserved
-add_members-loop-preserved t c =
-    let k = c.args.narrow in
+add_members-loop-preserved g t c =
+    let k = g.W.AtWidth.narrow in
     let f : c.args.count - c.loop.counter - 1 ≡ c.args.count - (c.loop.counter + 1) = omega arith in
     let l = layout_of c.loop.own in
     let m = layout_of c.in_ok-read.read.layout in
@@ -52,8 +52,8 @@ add_members-loop-preserved t c =
     )
 
 pub add_members-returns-in_err-own : goal.add_members-returns-in_err-own
-add_members-returns-in_err-own t c =
-    let k = c.args.narrow in
+add_members-returns-in_err-own g t c =
+    let k = g.W.AtWidth.narrow in
     let l = layout_of c.loop.own in
     let m = layout_of c.in_ok-read.read.layout in
     let read = sym c.part.ensures.answer ∙ ap part_says c.in_ok-read.was in
@@ -66,68 +66,68 @@ add_members-returns-in_err-own t c =
     (ap (λ k. stopped (number_of k.refusal) k.place) r.2 ∙ sym (add_off (bits_of k) (part_for (bits_of k) (target_of k) c.args.depth c.args.s.now) c.args.packed c.args.tag l c.loop.at (c.args.count - c.loop.counter) (λ z. omega (arith, c.loop-test.true)) read (step_is (bits_of k) c.args.packed l m (extend_at k l m c.args.packed hl hm hp ∙ e))) ∙ c.loop.invariant.1.1)
 
 pub add_members-returns-in_err-read : goal.add_members-returns-in_err-read
-add_members-returns-in_err-read t c =
-    handed_on_at _ c.from_residual.result _ c.from_residual.ensures.1 (sym (add_stop (bits_of c.args.narrow) (part_for (bits_of c.args.narrow) (target_of c.args.narrow) c.args.depth c.args.s.now) c.args.packed c.args.tag (layout_of c.loop.own) c.loop.at (c.args.count - c.loop.counter) (λ z. omega (arith, c.loop-test.true)) (sym c.part.ensures.answer ∙ ap part_says c.in_err-read.was)) ∙ c.loop.invariant.1.1)
+add_members-returns-in_err-read g t c =
+    handed_on_at _ c.from_residual.result _ c.from_residual.ensures.1 (sym (add_stop (bits_of g.W.AtWidth.narrow) (part_for (bits_of g.W.AtWidth.narrow) (target_of g.W.AtWidth.narrow) c.args.depth c.args.s.now) c.args.packed c.args.tag (layout_of c.loop.own) c.loop.at (c.args.count - c.loop.counter) (λ z. omega (arith, c.loop-test.true)) (sym c.part.ensures.answer ∙ ap part_says c.in_err-read.was)) ∙ c.loop.invariant.1.1)
 
 pub add_members-returns : goal.add_members-returns
-add_members-returns t c =
-    sym (add_none (bits_of c.args.narrow) (part_for (bits_of c.args.narrow) (target_of c.args.narrow) c.args.depth c.args.s.now) c.args.packed c.args.tag (layout_of c.loop.own) c.loop.at (c.args.count - c.loop.counter) (omega (arith, c.loop-test.false))) ∙ c.loop.invariant.1.1
+add_members-returns g t c =
+    sym (add_none (bits_of g.W.AtWidth.narrow) (part_for (bits_of g.W.AtWidth.narrow) (target_of g.W.AtWidth.narrow) c.args.depth c.args.s.now) c.args.packed c.args.tag (layout_of c.loop.own) c.loop.at (c.args.count - c.loop.counter) (omega (arith, c.loop-test.false))) ∙ c.loop.invariant.1.1
 
 pub part-overflow_add-at : goal.part-overflow_add-at
-part-overflow_add-at t c =
-    omega (arith, head_room (bits_of c.args.narrow) c.args.s.now c.args.at c.args.depth (sym c.head_of.ensures.answer ∙ ap head_says (c.in_ok-head.was ∙ ap Ok c.in-Scalar.is)))
+part-overflow_add-at g t c =
+    omega (arith, head_room (bits_of g.W.AtWidth.narrow) c.args.s.now c.args.at c.args.depth (sym c.head_of.ensures.answer ∙ ap head_says (c.in_ok-head.was ∙ ap Ok c.in-Scalar.is)))
 
 pub part-overflow_add-at-in-Array : goal.part-overflow_add-at-in-Array
-part-overflow_add-at-in-Array t c =
-    omega (arith, head_room (bits_of c.args.narrow) c.args.s.now c.args.at c.args.depth (sym c.head_of.ensures.answer ∙ ap head_says (c.in_ok-head.was ∙ ap Ok c.in-Array.is)))
+part-overflow_add-at-in-Array g t c =
+    omega (arith, head_room (bits_of g.W.AtWidth.narrow) c.args.s.now c.args.at c.args.depth (sym c.head_of.ensures.answer ∙ ap head_says (c.in_ok-head.was ∙ ap Ok c.in-Array.is)))
 
 pub part-overflow_add-at-in-Array-2 : goal.part-overflow_add-at-in-Array-2
-part-overflow_add-at-in-Array-2 t c =
-    omega (arith, head_room (bits_of c.args.narrow) c.args.s.now c.args.at c.args.depth (sym c.head_of.ensures.answer ∙ ap head_says (c.in_ok-head.was ∙ ap Ok c.in-Array.is)))
+part-overflow_add-at-in-Array-2 g t c =
+    omega (arith, head_room (bits_of g.W.AtWidth.narrow) c.args.s.now c.args.at c.args.depth (sym c.head_of.ensures.answer ∙ ap head_says (c.in_ok-head.was ∙ ap Ok c.in-Array.is)))
 
 pub part-overflow_sub-depth : goal.part-overflow_sub-depth
-part-overflow_sub-depth t c =
-    (head_room (bits_of c.args.narrow) c.args.s.now c.args.at c.args.depth (sym c.head_of.ensures.answer ∙ ap head_says (c.in_ok-head.was ∙ ap Ok c.in-Array.is))).0
+part-overflow_sub-depth g t c =
+    (head_room (bits_of g.W.AtWidth.narrow) c.args.s.now c.args.at c.args.depth (sym c.head_of.ensures.answer ∙ ap head_says (c.in_ok-head.was ∙ ap Ok c.in-Array.is))).0
 
 pub part-part-requires : goal.part-part-requires
-part-part-requires t c =
-    (omega (arith, head_room (bits_of c.args.narrow) c.args.s.now c.args.at c.args.depth (sym c.head_of.ensures.answer ∙ ap head_says (c.in_ok-head.was ∙ ap Ok c.in-Array.is))), tt)
+part-part-requires g t c = λ κs h.
+    (omega (arith, head_room (bits_of g.W.AtWidth.narrow) c.args.s.now c.args.at c.args.depth (sym c.head_of.ensures.answer ∙ ap head_says (c.in_ok-head.was ∙ ap Ok c.in-Array.is))), h)
 
 pub part-overflow_sub-depth-in-Struct : goal.part-overflow_sub-depth-in-Struct
-part-overflow_sub-depth-in-Struct t c =
-    (head_room (bits_of c.args.narrow) c.args.s.now c.args.at c.args.depth (sym c.head_of.ensures.answer ∙ ap head_says (c.in_ok-head.was ∙ ap Ok c.in-Struct.is))).0
+part-overflow_sub-depth-in-Struct g t c =
+    (head_room (bits_of g.W.AtWidth.narrow) c.args.s.now c.args.at c.args.depth (sym c.head_of.ensures.answer ∙ ap head_says (c.in_ok-head.was ∙ ap Ok c.in-Struct.is))).0
 
 pub part-add_members-requires : goal.part-add_members-requires
-part-add_members-requires t c =
+part-add_members-requires g t c =
     let e = sym c.head_of.ensures.answer ∙ ap head_says (c.in_ok-head.was ∙ ap Ok c.in-Struct.is) in
-    let h = head_held c.args.narrow c.args.s.now c.args.depth c.args.at e in (
-      omega (arith, head_room (bits_of c.args.narrow) c.args.s.now c.args.at c.args.depth e),
-      (zst_held c.args.narrow c.in-Struct.align h.0 (told_by layout_says c.new_zst.ensures.answer (mapped_ok c.new_zst.result _ _ c.map_err.ensures.cases c.in_ok-empty-in-Struct.was)), h.1),
+    let h = head_held g.W.AtWidth.narrow c.args.s.now c.args.depth c.args.at e in λ κs within. (
+      omega (arith, head_room (bits_of g.W.AtWidth.narrow) c.args.s.now c.args.at c.args.depth e),
+      (within, (zst_held g.W.AtWidth.narrow c.in-Struct.align h.0 (told_by layout_says c.new_zst.ensures.answer (mapped_ok c.new_zst.result _ _ c.map_err.ensures.cases c.in_ok-empty-in-Struct.was)), h.1)),
     )
 
 pub part-overflow_add-at-in-Slice : goal.part-overflow_add-at-in-Slice
-part-overflow_add-at-in-Slice t c =
-    omega (arith, head_room (bits_of c.args.narrow) c.args.s.now c.args.at c.args.depth (sym c.head_of.ensures.answer ∙ ap head_says (c.in_ok-head.was ∙ ap Ok c.in-Slice.is)))
+part-overflow_add-at-in-Slice g t c =
+    omega (arith, head_room (bits_of g.W.AtWidth.narrow) c.args.s.now c.args.at c.args.depth (sym c.head_of.ensures.answer ∙ ap head_says (c.in_ok-head.was ∙ ap Ok c.in-Slice.is)))
 
 pub part-overflow_sub-depth-in-Slice : goal.part-overflow_sub-depth-in-Slice
-part-overflow_sub-depth-in-Slice t c =
-    (head_room (bits_of c.args.narrow) c.args.s.now c.args.at c.args.depth (sym c.head_of.ensures.answer ∙ ap head_says (c.in_ok-head.was ∙ ap Ok c.in-Slice.is))).0
+part-overflow_sub-depth-in-Slice g t c =
+    (head_room (bits_of g.W.AtWidth.narrow) c.args.s.now c.args.at c.args.depth (sym c.head_of.ensures.answer ∙ ap head_says (c.in_ok-head.was ∙ ap Ok c.in-Slice.is))).0
 
 pub part-part-requires-in-Slice : goal.part-part-requires-in-Slice
-part-part-requires-in-Slice t c =
-    (omega (arith, head_room (bits_of c.args.narrow) c.args.s.now c.args.at c.args.depth (sym c.head_of.ensures.answer ∙ ap head_says (c.in_ok-head.was ∙ ap Ok c.in-Slice.is))), tt)
+part-part-requires-in-Slice g t c = λ κs h.
+    (omega (arith, head_room (bits_of g.W.AtWidth.narrow) c.args.s.now c.args.at c.args.depth (sym c.head_of.ensures.answer ∙ ap head_says (c.in_ok-head.was ∙ ap Ok c.in-Slice.is))), h)
 
 pub part-returns-in-Scalar : goal.part-returns-in-Scalar
-part-returns-in-Scalar t c =
-    let k = c.args.narrow in
+part-returns-in-Scalar g t c =
+    let k = g.W.AtWidth.narrow in
     let e = sym c.head_of.ensures.answer ∙ ap head_says (c.in_ok-head.was ∙ ap Ok c.in-Scalar.is) in let told_here = part_told (bits_of k) (target_of k) (scalars_at k) c.args.depth c.args.s.now c.args.at
     (c.at_tag.ensures
     ∙ ap (λ (o : Outcome Layout). at_place c.args.at o (λ l. reached (l, c.args.at + 1))) (c.scalar.ensures ∙ code_scalar (target_of k) c.in-Scalar.code (head_room (bits_of k) c.args.s.now c.args.at c.args.depth e).1)
     ∙ sym (by_head (bits_of k) (target_of k) c.args.depth c.args.s.now c.args.at e)) in record { answer = told_here.0; meaning = told_here.1 }
 
 pub part-returns-in-Array : goal.part-returns-in-Array
-part-returns-in-Array t c =
-    let k = c.args.narrow in
+part-returns-in-Array g t c =
+    let k = g.W.AtWidth.narrow in
     let e = sym c.head_of.ensures.answer ∙ ap head_says (c.in_ok-head.was ∙ ap Ok c.in-Array.is) in
     let n = c.in-Array.count in let told_here = part_told (bits_of k) (target_of k) (scalars_at k) c.args.depth c.args.s.now c.args.at
     (c.array_part.ensures
@@ -136,8 +136,8 @@ part-returns-in-Array t c =
     ∙ sym (by_head (bits_of k) (target_of k) c.args.depth c.args.s.now c.args.at e)) in record { answer = told_here.0; meaning = told_here.1 }
 
 pub part-returns-in_ok-empty-in-Struct : goal.part-returns-in_ok-empty-in-Struct
-part-returns-in_ok-empty-in-Struct t c =
-    let k = c.args.narrow in
+part-returns-in_ok-empty-in-Struct g t c =
+    let k = g.W.AtWidth.narrow in
     let e = sym c.head_of.ensures.answer ∙ ap head_says (c.in_ok-head.was ∙ ap Ok c.in-Struct.is) in
     let h = head_held k c.args.s.now c.args.depth c.args.at e in
     let z = told_by layout_says c.new_zst.ensures.answer (mapped_ok c.new_zst.result _ _ c.map_err.ensures.cases c.in_ok-empty-in-Struct.was) in
@@ -149,8 +149,8 @@ part-returns-in_ok-empty-in-Struct t c =
     ∙ body_on (bits_of k) (part_for (bits_of k) (target_of k) (c.args.depth - 1) c.args.s.now) c.args.at c.in-Struct.first c.in-Struct.align c.in-Struct.packed c.in-Struct.count (zst_at k c.in-Struct.align h.0 ∙ z))) in record { answer = told_here.0; meaning = told_here.1 }
 
 pub part-returns-in_err-empty-in-Struct : goal.part-returns-in_err-empty-in-Struct
-part-returns-in_err-empty-in-Struct t c =
-    let k = c.args.narrow in
+part-returns-in_err-empty-in-Struct g t c =
+    let k = g.W.AtWidth.narrow in
     let e = sym c.head_of.ensures.answer ∙ ap head_says (c.in_ok-head.was ∙ ap Ok c.in-Struct.is) in
     let m = mapped_err c.new_zst.result _ _ (λ e. record { refusal = e; place = c.args.at }) (λ e q. search rules) c.map_err.ensures.cases c.in_err-empty-in-Struct.was in
     let z = told_by layout_says c.new_zst.ensures.answer m.1 in let told_here = part_told (bits_of k) (target_of k) (scalars_at k) c.args.depth c.args.s.now c.args.at
@@ -158,8 +158,8 @@ part-returns-in_err-empty-in-Struct t c =
     ∙ body_off (bits_of k) (part_for (bits_of k) (target_of k) (c.args.depth - 1) c.args.s.now) c.args.at c.in-Struct.first c.in-Struct.align c.in-Struct.packed c.in-Struct.count (zst_at k c.in-Struct.align (head_held k c.args.s.now c.args.depth c.args.at e).0 ∙ z)))) in record { answer = told_here.0; meaning = told_here.1 }
 
 pub part-returns-in-Slice : goal.part-returns-in-Slice
-part-returns-in-Slice t c =
-    let k = c.args.narrow in
+part-returns-in-Slice g t c =
+    let k = g.W.AtWidth.narrow in
     let e = sym c.head_of.ensures.answer ∙ ap head_says (c.in_ok-head.was ∙ ap Ok c.in-Slice.is) in let told_here = part_told (bits_of k) (target_of k) (scalars_at k) c.args.depth c.args.s.now c.args.at
     (c.slice_part.ensures
     ∙ made_alike (part_says c.part-in-Slice.result) c.args.at (slice_of_for 64) (slice_of_for (bits_of k)) (λ l j f. sym (slice_at k l (part_held k c.args.s.now (c.args.depth - 1) (c.args.at + 1) (sym c.part-in-Slice.ensures.answer ∙ f))))
@@ -167,7 +167,7 @@ part-returns-in-Slice t c =
     ∙ sym (by_head (bits_of k) (target_of k) c.args.depth c.args.s.now c.args.at e)) in record { answer = told_here.0; meaning = told_here.1 }
 
 pub part-returns-in_err-head : goal.part-returns-in_err-head
-part-returns-in_err-head t c =
-    let k = c.args.narrow in
+part-returns-in_err-head g t c =
+    let k = g.W.AtWidth.narrow in
     let e = sym c.head_of.ensures.answer ∙ ap head_says c.in_err-head.was in let told_here = part_told (bits_of k) (target_of k) (scalars_at k) c.args.depth c.args.s.now c.args.at
     (handed_on_at _ c.from_residual.result _ c.from_residual.ensures.1 (sym (by_head (bits_of k) (target_of k) c.args.depth c.args.s.now c.args.at e))) in record { answer = told_here.0; meaning = told_here.1 }

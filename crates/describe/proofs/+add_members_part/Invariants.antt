@@ -6,14 +6,14 @@ use Rattle.describe_defs.specs.Describe.{add_read, part_for}
 use Rattle.describe.proofs.+add_members_part.Given as goal
 
 abbrev pub decreases-add_members : goal.decreases-add_members
-decreases-add_members l = 2 * (length l.s.now - l.first) + 1
+decreases-add_members g l = 2 * (length l.s.now - l.first) + 1
 
 abbrev pub decreases-part : goal.decreases-part
-decreases-part l = 2 * (length l.s.now - l.at)
+decreases-part g l = 2 * (length l.s.now - l.at)
 
 abbrev pub invariant-add_members-loop : goal.invariant-add_members-loop
-invariant-add_members-loop l =
-    let read = part_for (bits_of l.narrow) (target_of l.narrow) l.depth l.s in
-    (l.first ≤ l.at) × (Held l.narrow (layout_of l.own)
-    × (add_read (bits_of l.narrow) read l.packed l.tag (l.count - l.counter) (layout_of l.own) l.at
-    ≡ add_read (bits_of l.narrow) read l.packed l.tag l.count (layout_of l.initial.own) l.first))
+invariant-add_members-loop g l =
+    let read = part_for (bits_of g.W.AtWidth.narrow) (target_of g.W.AtWidth.narrow) l.depth l.s in
+    (l.first ≤ l.at) × (Held g.W.AtWidth.narrow (layout_of l.own)
+    × (add_read (bits_of g.W.AtWidth.narrow) read l.packed l.tag (l.count - l.counter) (layout_of l.own) l.at
+    ≡ add_read (bits_of g.W.AtWidth.narrow) read l.packed l.tag l.count (layout_of l.initial.own) l.first))

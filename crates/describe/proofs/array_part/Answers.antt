@@ -11,10 +11,10 @@ use Rattle.width.specs.Width.{width_array}
 use Rattle.describe.proofs.array_part.Goals as goal
 
 pub returns : goal.returns
-returns c =
+returns g c =
     c.at_tag.ensures ∙ ap (λ (o : Outcome Layout). at_place c.args.tag o (λ l. reached (l, c.in_ok-read.read.next))) c.for_array.ensures
-    ∙ sym (ap (λ (p : Placed Part). go_on p (made c.args.tag (λ l. width_array c.args.narrow l c.args.count))) (ap part_says c.in_ok-read.was))
+    ∙ sym (ap (λ (p : Placed Part). go_on p (made c.args.tag (λ l. width_array g.W.AtWidth.narrow l c.args.count))) (ap part_says c.in_ok-read.was))
 
 pub returns-in_err-read : goal.returns-in_err-read
-returns-in_err-read c =
-    handed_on_at _ c.from_residual.result _ c.from_residual.ensures.1 (sym (ap (λ (p : Placed Part). go_on p (made c.args.tag (λ l. width_array c.args.narrow l c.args.count))) (ap part_says c.in_err-read.was)))
+returns-in_err-read g c =
+    handed_on_at _ c.from_residual.result _ c.from_residual.ensures.1 (sym (ap (λ (p : Placed Part). go_on p (made c.args.tag (λ l. width_array g.W.AtWidth.narrow l c.args.count))) (ap part_says c.in_err-read.was)))

@@ -1,20 +1,11 @@
 -- `rewrite::copy` meets its contract. Assumes nothing.
-use mathlib.Core.Path.{◌≡◌, sym, ap, ap₂, ◌∙◌}
-use mathlib.Core.List.{List, ◌++◌, append_assoc}
-use Prim.Native.Nat.{ℕ, ◌+◌, ◌-◌, ◌≤◌}
+use mathlib.Core.Path.{◌≡◌, ap, ◌∙◌}
+use Prim.Native.Nat.{ℕ, ◌+◌, ◌-◌}
 use native.Mathlib.Omega.{arith}
 use lib.ListN.{length, take, drop}
-use lib.Seq.{sets}
-use Rattle.std.proofs.lemmas.List.{length-take-le, length-drop, drop-drop}
-use Rattle.std.proofs.lemmas.List.Edits.{sets-eq}
+use Rattle.std.proofs.lemmas.List.{length-take-le, length-drop}
+use Rattle.words.proofs.LittleEndian.{replaced}
 use Rattle.rewrite.proofs.copy.Goals as goal
-
--- a part of a list replaced by as many bytes
-replaced : (to k : ℕ) (out v y : List ℕ) → k ≡ length v → y ≡ v → to + length v ≤ length out → take to out ++ (y ++ drop k (drop to out)) ≡ sets out to v
-replaced to k out v y n e h =
-    ap₂ (λ (z : List ℕ) (j : ℕ). take to out ++ (z ++ drop j (drop to out))) e n
-    ∙ ap (λ (z : List ℕ). take to out ++ (v ++ z)) (drop-drop (length v) to out)
-    ∙ sym (append_assoc (take to out) v (drop (to + length v) out)) ∙ sym (sets-eq v out to h)
 
 pub returns : goal.returns
 returns c =

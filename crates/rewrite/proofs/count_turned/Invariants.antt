@@ -6,7 +6,7 @@ use Rattle.rewrite.proofs.Loops.{Counting}
 use Rattle.rewrite.proofs.count_turned.Given as goal
 
 abbrev pub invariant-loop-at : goal.invariant-loop-at
-invariant-loop-at l = Counting (way_of l.long) l.s l.at l.turned
+invariant-loop-at l = Counting (way_of l.way) l.s l.at l.turned
 
 abbrev pub decreases-loop-at : goal.decreases-loop-at
 decreases-loop-at l = length l.s - l.at

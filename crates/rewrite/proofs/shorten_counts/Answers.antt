@@ -5,4 +5,4 @@ use Rattle.rewrite.proofs.Ends.{told}
 use Rattle.rewrite.proofs.shorten_counts.Goals as goal
 
 pub returns : goal.returns
-returns c = let told_here = told (bits_of c.args.narrow) (target_of c.args.narrow) shorter c.args.description.now c.args.out.now c.rewrite.ensures.result_value c.rewrite.ensures.out_after in record { answer = told_here.0; bytes = told_here.1.0; meaning = told_here.1.1 }
+returns g c = let told_here = told (bits_of g.W.AtWidth.narrow) (target_of g.W.AtWidth.narrow) shorter c.args.description.now c.args.out.now c.rewrite.ensures.result_value c.rewrite.ensures.out_after in record { answer = told_here.0; bytes = told_here.1.0; meaning = told_here.1.1 }
