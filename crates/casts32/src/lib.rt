@@ -1,6 +1,7 @@
-// Casts at 32 bits, by those at 64. An address that passes 32 bits with the length is given to them as one that passes 64, so
-// that it is refused in its turn. Each is a function of its own, and no instance of a generic one: it widens, calls that of 64
-// bits, and narrows or refuses what comes back, and at 64 bits there would be none of these steps.
+// Casts at 32 bits, by those at 64. An address that passes 32 bits with the length is given to them as one that passes 64,
+// so that it is refused in its turn. Each call at 32 bits is a function of its own, and no instance of a generic one: it
+// widens what it is given, calls that of 64 bits, and of numbers that come back narrows or refuses those, and at 64 bits
+// there would be none of these steps.
 #![tactic(auto)]
 
 ghost use Rattle.layout.specs.View.{layout_of};
@@ -18,7 +19,7 @@ use cast::{CastType, Granted};
 use layout::DstLayout;
 use util::Refusal;
 
-// A grant of 64 bits narrowed. No TryFrom, as `numbers32::low_word`.
+// A grant of 64 bits narrowed. No From: neither the trait nor a type of the impl would be of this crate.
 fn low_grant(answer: Result<Granted<u64>, Refusal>) -> Result<Granted<u32>, Refusal>
     ensures { cast_says result ≡ mapped (low_grant 32) (cast_says answer) }
 {

@@ -1,5 +1,6 @@
-// Conversions at 32 bits, by those at 64, in every mode. Each is a function of its own, and no instance of a generic one: it
-// widens, calls that of 64 bits, and narrows or refuses what comes back, and at 64 bits there would be none of these steps.
+// Conversions at 32 bits, by those at 64, in every mode. Each call at 32 bits is a function of its own, and no instance of a
+// generic one: it widens what it is given, calls that of 64 bits, and of numbers that come back narrows or refuses those,
+// and at 64 bits there would be none of these steps.
 #![tactic(auto)]
 
 ghost use Rattle.layout.specs.View.{layout_of};
@@ -22,7 +23,7 @@ use layout::DstLayout;
 use shift::Mode;
 use util::Refusal;
 
-// A conversion of 64 bits narrowed. No TryFrom, as `numbers32::low_word`.
+// A conversion of 64 bits narrowed. No From: neither the trait nor a type of the impl would be of this crate.
 fn low_params(params: CastParamsInner<u64>) -> CastParamsInner<u32>
     ensures { params_in result ≡ low_params 32 (params_in params) }
 {

@@ -1,26 +1,17 @@
-// Arrays and slices of a layout at 32 bits, by those at 64. Each is a function of its own, and no instance of a generic one:
-// it widens, calls that of 64 bits, and narrows or refuses what comes back, and at 64 bits there would be none of these steps.
+// Arrays and slices of a layout at 32 bits, by those at 64. Each call at 32 bits is a function of its own, and no instance
+// of a generic one: it widens what it is given, calls that of 64 bits, and of numbers that come back narrows or refuses
+// those, and at 64 bits there would be none of these steps. Those named `.._within` go by a greatest number, for the loops
+// of either width.
 #![tactic(auto)]
 
 ghost use Rattle.std.specs.Prelude.{◌≡◌};
 ghost use Rattle.util_defs.specs.Refusal.{Meets};
-ghost use Rattle.layout.specs.View.{info_of, layout_of, layout_says};
+ghost use Rattle.layout.specs.View.{layout_of, layout_says};
 ghost use Rattle.describe_defs.specs.Elements.{element_causes, array_causes, array_layout, array_for, slice_of, slice_of_for};
-ghost use Rattle.widths_layouts_defs.specs.Within.{closed_within};
 ghost use Rattle.elements32.specs.Within.{array_within};
 
-use layout::{DstLayout, SizeInfo};
-use trailing::TrailingSliceLayout;
+use layout::DstLayout;
 use util::Refusal;
-
-fn info_within(size_info: SizeInfo<u64>, max: u64) -> bool
-    ensures { result ≡ closed_within max (info_of size_info) }
-{
-    match size_info {
-        SizeInfo::Sized { size } => size <= max,
-        SizeInfo::SliceDst(tail) => tail.size_base <= max,
-    }
-}
 
 // An array of any width up to 64 bits, by its greatest number.
 pub fn array_within(elem: DstLayout<u64>, count: u64, max: u64) -> Result<DstLayout<u64>, Refusal>
@@ -28,7 +19,7 @@ pub fn array_within(elem: DstLayout<u64>, count: u64, max: u64) -> Result<DstLay
 {
     let array = elements::for_array(elem, count)?;
     let size_info = array.size_info;
-    if info_within(size_info, max) {
+    if layouts32::closed_within(size_info, max) {
         Ok(array)
     } else {
         Err(Refusal::ArrayPassesMax)

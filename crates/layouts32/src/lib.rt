@@ -1,6 +1,7 @@
-// Whole layouts at 32 bits, by those at 64: made of numbers, checked, and asked for their padding. Each is a function of its
-// own, and no instance of a generic one: it widens, calls that of 64 bits, and narrows or refuses what comes back, and at 64
-// bits there would be none of these steps.
+// Whole layouts at 32 bits, by those at 64: made of numbers, checked, and asked for their padding. Each call at 32 bits is a
+// function of its own, and no instance of a generic one: it widens what it is given, calls that of 64 bits, and of numbers
+// that come back narrows or refuses those, and at 64 bits there would be none of these steps. Those named `.._within` go by
+// a greatest number, for the loops of either width.
 #![tactic(auto)]
 
 ghost use Rattle.std.specs.Prelude.{◌≡◌, true, false};
@@ -13,12 +14,14 @@ ghost use Rattle.padding_defs.specs.Pad.{static_for, DynamicPadding, dynamic_for
 ghost use Rattle.make.specs.Make.{asked, empty_layout, new_zst_for, type_causes, type_layout, type_for, slice_layout, slice_for};
 ghost use Rattle.widths_defs.specs.Low.{mapped};
 ghost use Rattle.widths_layouts_defs.specs.Low.{low_info, low_layout, InfoIn, LayoutIn};
+ghost use Rattle.widths_layouts_defs.specs.Within.{closed_within};
 
 use layout::{DstLayout, SizeInfo};
 use trailing::TrailingSliceLayout;
 use util::Refusal;
 
-// A size of 32 bits widened to 64. No From: an impl stands in the crate of a type, below what this promises of 32 bits.
+// A size of 32 bits widened to 64. No From: an impl would stand in the crate of the type, below the definition of what this
+// promises of 32 bits.
 fn wide_info(size_info: SizeInfo<u32>) -> SizeInfo<u64>
     ensures { (info_of result ≡ info_of size_info) × InfoIn 32 (info_of size_info) }
 {
@@ -28,7 +31,7 @@ fn wide_info(size_info: SizeInfo<u32>) -> SizeInfo<u64>
     }
 }
 
-// A size of 64 bits narrowed. No TryFrom, as `numbers32::low_word`.
+// A size of 64 bits narrowed. No From: neither the trait nor a type of the impl would be of this crate.
 fn low_info(size_info: SizeInfo<u64>) -> SizeInfo<u32>
     ensures { info_of result ≡ low_info 32 (info_of size_info) }
 {
@@ -40,8 +43,8 @@ fn low_info(size_info: SizeInfo<u64>) -> SizeInfo<u32>
     }
 }
 
-// A layout of 32 bits widened to 64, which hold the same numbers. No From: an impl stands in the crate of a type, below what
-// this promises of 32 bits.
+// A layout of 32 bits widened to 64, which hold the same numbers. No From: an impl would stand in the crate of the type,
+// below the definition of what this promises of 32 bits.
 pub fn wide_layout(layout: DstLayout<u32>) -> DstLayout<u64>
     ensures { (layout_of result ≡ layout_of layout) × LayoutIn 32 (layout_of layout) }
 {
@@ -54,7 +57,7 @@ pub fn wide_layout(layout: DstLayout<u32>) -> DstLayout<u64>
     }
 }
 
-// A layout of 64 bits narrowed. No TryFrom, as `numbers32::low_word`.
+// A layout of 64 bits narrowed. No From: neither the trait nor a type of the impl would be of this crate.
 pub fn low_layout(layout: DstLayout<u64>) -> DstLayout<u32>
     ensures { layout_of result ≡ low_layout 32 (layout_of layout) }
 {
@@ -67,11 +70,21 @@ pub fn low_layout(layout: DstLayout<u64>) -> DstLayout<u32>
     }
 }
 
-// An answer of 64 bits narrowed. No TryFrom, as `numbers32::low_word`.
+// An answer of 64 bits narrowed. No From: neither the trait nor a type of the impl would be of this crate.
 pub fn low_answer(answer: Result<DstLayout<u64>, Refusal>) -> Result<DstLayout<u32>, Refusal>
     ensures { layout_says result ≡ mapped (low_layout 32) (layout_says answer) }
 {
     answer.map(low_layout)
+}
+
+// Whether the size of a layout is at most a number, or of a trailing one its base.
+pub fn closed_within(size_info: SizeInfo<u64>, max: u64) -> bool
+    ensures { result ≡ closed_within max (info_of size_info) }
+{
+    match size_info {
+        SizeInfo::Sized { size } => size <= max,
+        SizeInfo::SliceDst(tail) => tail.size_base <= max,
+    }
 }
 
 // Whether the layout is one: its alignment is a power of two and its rounding word, if it has one, is not 0.

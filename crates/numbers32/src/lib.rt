@@ -1,6 +1,7 @@
 // Rounding helpers and rounding words at 32 bits, by those at 64: the numbers are widened, and the lower half of what comes
-// back is the answer, since 32 bits hold it. Each is a function of its own, and no instance of a generic one: it widens, calls
-// that of 64 bits, and narrows or refuses what comes back, and at 64 bits there would be none of these steps.
+// back is the answer, since 32 bits hold it. Each call at 32 bits is a function of its own, and no instance of a generic
+// one: it widens what it is given, calls that of 64 bits, and of numbers that come back narrows or refuses those, and at 64
+// bits there would be none of these steps.
 #![tactic(auto)]
 
 ghost use Rattle.std.specs.Prelude.{◌≡◌};
@@ -27,14 +28,14 @@ pub fn low_word(x: u64) -> u32
     (x % 0x1_0000_0000) as u32
 }
 
-// A number of 64 bits narrowed. No TryFrom, as `low_word`.
+// A number of 64 bits narrowed. No From: neither the trait nor a type of the impl would be of this crate.
 pub fn low_number(answer: Result<u64, Refusal>) -> Result<u32, Refusal>
     ensures { number_says result ≡ mapped (low 32) (number_says answer) }
 {
     answer.map(low_word)
 }
 
-// A word that was made, narrowed. No TryFrom, as `low_word`.
+// A word that was made, narrowed. No From: neither the trait nor a type of the impl would be of this crate.
 fn low_new(
     answer: Result<RoundingAlignAndPhase<u64>, Refusal>,
 ) -> Result<RoundingAlignAndPhase<u32>, Refusal>
@@ -43,7 +44,7 @@ fn low_new(
     answer.map(|word| RoundingAlignAndPhase(low_word(word.0)))
 }
 
-// The parts of a word narrowed. No TryFrom, as `low_word`.
+// The parts of a word narrowed. No From: neither the trait nor a type of the impl would be of this crate.
 fn low_components(answer: Result<Components<u64>, Refusal>) -> Result<Components<u32>, Refusal>
     ensures { components_says result ≡ mapped (low_parts 32) (components_says answer) }
 {

@@ -1,6 +1,7 @@
 // Records of layouts at 32 bits, by those at 64: a record keeps 64-bit fields, and a number that 32 bits do not hold is
-// refused after the record's own tests. Each is a function of its own, and no instance of a generic one: it widens, calls that
-// of 64 bits, and narrows or refuses what comes back, and at 64 bits there would be none of these steps.
+// refused after the record's own tests. Each call at 32 bits is a function of its own, and no instance of a generic one: it
+// calls that of 64 bits, and widens a layout before or refuses and narrows one after, and at 64 bits there would be none of
+// these steps.
 #![tactic(auto)]
 
 ghost use Rattle.std.specs.Prelude.{◌≡◌, length};
@@ -18,23 +19,11 @@ use util::Refusal;
 pub fn fits(words: Words) -> bool
     ensures { result ≡ fits_in 32 (words_in words) }
 {
-    if words.align <= numbers32::MAX {
-        if words.size <= numbers32::MAX {
-            if words.offset <= numbers32::MAX {
-                if words.elem_size <= numbers32::MAX {
-                    words.word <= numbers32::MAX
-                } else {
-                    false
-                }
-            } else {
-                false
-            }
-        } else {
-            false
-        }
-    } else {
-        false
-    }
+    words.align <= numbers32::MAX
+        && words.size <= numbers32::MAX
+        && words.offset <= numbers32::MAX
+        && words.elem_size <= numbers32::MAX
+        && words.word <= numbers32::MAX
 }
 
 // The layout of a record.
@@ -42,15 +31,10 @@ pub fn decode(s: &[u8]) -> Result<DstLayout<u32>, Refusal>
     ensures answer { layout_says result ≡ decode_for 32 s.now }
     ensures meaning { Meets (record_causes 32 s.now) (Decodes (words_at s.now 0)) (layout_says result) }
 {
-    let layout = record::decode(s)?;
-    if fits(record::words_from_layout(layout)) {
-        layouts32::low_answer(Ok(layout))
-    } else {
-        Err(Refusal::NumberPassesWidth)
-    }
+    fitting(record::decode(s))
 }
 
-// A layout that was read of another form of record, at 32 bits.
+// A layout that was read of a record, of either form, at 32 bits.
 pub fn fitting(answer: Result<DstLayout<u64>, Refusal>) -> Result<DstLayout<u32>, Refusal>
     ensures { layout_says result ≡ fitted 32 (layout_says answer) }
 {

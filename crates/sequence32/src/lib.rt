@@ -1,6 +1,6 @@
-// The sizes of two trailing layouts compared, and the normal form of one, at 32 bits, by those at 64. Each is a function of
-// its own, and no instance of a generic one: it widens, calls that of 64 bits, and narrows or refuses what comes back, and at
-// 64 bits there would be none of these steps.
+// The sizes of two trailing layouts compared, and the normal form of one, at 32 bits, by those at 64. Each call at 32 bits
+// is a function of its own, and no instance of a generic one: it widens what it is given, calls that of 64 bits, and of
+// numbers that come back narrows or refuses those, and at 64 bits there would be none of these steps.
 #![tactic(auto)]
 
 ghost use Rattle.trailing.specs.View.{trailing_of};
@@ -62,7 +62,7 @@ pub fn sizes_agree(
     full::sizes_agree(trailing32::wide_tail(first), trailing32::wide_tail(other))
 }
 
-// A form of 64 bits narrowed. No TryFrom, as `numbers32::low_word`.
+// A form of 64 bits narrowed. No From: neither the trait nor a type of the impl would be of this crate.
 fn low_form(form: NormalForm<u64>) -> NormalForm<u32>
     ensures { form_in result ≡ low_form 32 (form_in form) }
 {

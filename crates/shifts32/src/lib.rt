@@ -1,5 +1,6 @@
-// The shift of a conversion at 32 bits, by that at 64. Each is a function of its own, and no instance of a generic one: it
-// widens, calls that of 64 bits, and narrows or refuses what comes back, and at 64 bits there would be none of these steps.
+// The shift of a conversion at 32 bits, by that at 64. Each call at 32 bits is a function of its own, and no instance of a
+// generic one: it widens what it is given, calls that of 64 bits, and of numbers that come back narrows or refuses those,
+// and at 64 bits there would be none of these steps.
 #![tactic(auto)]
 
 ghost use Rattle.layout.specs.View.{info_of, layout_of};
@@ -51,14 +52,11 @@ pub fn size_sequences_match(
     )
 }
 
-// A shift of 64 bits narrowed. No TryFrom, as `numbers32::low_word`.
+// A shift of 64 bits narrowed. No From: neither the trait nor a type of the impl would be of this crate.
 fn low_shift(shift: Option<u64>) -> Option<u32>
     ensures { shift_in result ≡ low_shift 32 (shift_in shift) }
 {
-    match shift {
-        Some(elems) => Some(numbers32::low_word(elems)),
-        None => None,
-    }
+    shift.map(numbers32::low_word)
 }
 
 // There is no shift where the source has no size at 0.

@@ -1,5 +1,5 @@
-// The steps of a composition at a width of numbers, 64 bits and 32: what it calls for each member, each the function of that
-// width. What is composed of them is one function for both.
+// The steps of a composition at a width of numbers, 64 bits and 32, each the function of that width: what it calls once and what
+// for each member. What is composed of them is one function for both.
 #![tactic(auto)]
 
 ghost use Rattle.std.specs.Prelude.{◌≡◌, refl, ℕ, ◌%◌, ◌^◌, ◌≤◌, List, length, set};
@@ -54,8 +54,10 @@ pub trait Steps: Copy {
     fn pad_to_align(own: DstLayout<Self>) -> Result<DstLayout<Self>, Refusal>
         ensures { says layout result ≡ pad_for bits (layout own) };
 
+    // A number goes into 64 bits, in which the loop counts.
     ghost is_within: { bits ≤ 64 };
 
+    // The laws: the modifier, the alignment and the end of a layout are those of its fields; numbers of a slice go one by one.
     ghost marked: { (l : DstLayout Self) → (layout l).modifier ≡ l.align_modifier };
 
     ghost aligned: { (l : DstLayout Self) → (layout l).align ≡ number l.align };

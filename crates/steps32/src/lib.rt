@@ -1,6 +1,7 @@
-// The member step, rounding up and final padding at 32 bits, by those at 64. Each is a function of its own, and no instance of a
-// generic one: it widens, calls that of 64 bits, and narrows or refuses what comes back, and at 64 bits there would be none of
-// these steps.
+// The member step, rounding up and final padding at 32 bits, by those at 64. Each call at 32 bits is a function of its own,
+// and no instance of a generic one: it widens what it is given, calls that of 64 bits, and of numbers that come back narrows
+// or refuses those, and at 64 bits there would be none of these steps. Those named `.._within` go by a greatest number, for
+// the loops of either width.
 #![tactic(auto)]
 
 ghost use Rattle.std.specs.Prelude.{◌≡◌};
@@ -9,7 +10,7 @@ ghost use Rattle.util.specs.View.{number_says};
 ghost use Rattle.layout_defs.specs.Extend.{extend_causes, extend_for, Extended, round_up_causes, round_up_for, LeastPlace};
 ghost use Rattle.layout.specs.View.{info_of, layout_of, layout_says};
 ghost use Rattle.padding_defs.specs.Pad.{pad_causes, pad_for, Padded};
-ghost use Rattle.widths_layouts_defs.specs.Within.{start_of, info_within, placed_within, step_within, closed_within, pad_within};
+ghost use Rattle.widths_layouts_defs.specs.Within.{start_of, info_within, placed_within, step_within, pad_within};
 
 use layout::{DstLayout, SizeInfo};
 use trailing::TrailingSliceLayout;
@@ -30,13 +31,7 @@ fn info_within(size_info: SizeInfo<u64>, max: u64) -> bool
 {
     match size_info {
         SizeInfo::Sized { size } => size <= max,
-        SizeInfo::SliceDst(tail) => {
-            if tail.offset <= max {
-                tail.size_base <= max
-            } else {
-                false
-            }
-        }
+        SizeInfo::SliceDst(tail) => tail.offset <= max && tail.size_base <= max,
     }
 }
 
@@ -92,22 +87,13 @@ pub fn extend(
     ))
 }
 
-fn closed_within(size_info: SizeInfo<u64>, max: u64) -> bool
-    ensures { result ≡ closed_within max (info_of size_info) }
-{
-    match size_info {
-        SizeInfo::Sized { size } => size <= max,
-        SizeInfo::SliceDst(tail) => tail.size_base <= max,
-    }
-}
-
 // Final padding of any width up to 64 bits, by its greatest number.
 pub fn pad_within(layout: DstLayout<u64>, max: u64) -> Result<DstLayout<u64>, Refusal>
     ensures { layout_says result ≡ pad_within max (pad_for 64 (layout_of layout)) }
 {
     let padded = padding::pad_to_align(layout)?;
     let size_info = padded.size_info;
-    if closed_within(size_info, max) {
+    if layouts32::closed_within(size_info, max) {
         Ok(padded)
     } else {
         Err(Refusal::RoundingPassesMax)

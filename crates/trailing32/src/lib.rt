@@ -1,6 +1,7 @@
-// Trailing layouts at 32 bits, by those at 64. Where 32 bits do not hold what comes back it is refused, by the number that the
-// papers give it. Each is a function of its own, and no instance of a generic one: it widens, calls that of 64 bits, and
-// narrows or refuses what comes back, and at 64 bits there would be none of these steps.
+// Trailing layouts at 32 bits, by those at 64. Where 32 bits do not hold what comes back it is refused, by the number that
+// the papers give it. Each call at 32 bits is a function of its own, and no instance of a generic one: it widens what it is
+// given, calls that of 64 bits, and of numbers that come back narrows or refuses those, and at 64 bits there would be none
+// of these steps.
 #![tactic(auto)]
 
 ghost use Rattle.util.specs.View.{number_says};
@@ -20,8 +21,8 @@ use rounding::RoundingAlignAndPhase;
 use trailing::{SizeRefusal, TrailingSliceLayout};
 use util::Refusal;
 
-// A layout of 32 bits widened to 64, which hold the same numbers. No From: an impl stands in the crate of a type, below what
-// this promises of 32 bits.
+// A layout of 32 bits widened to 64, which hold the same numbers. No From: an impl would stand in the crate of the type,
+// below the definition of what this promises of 32 bits.
 pub fn wide_tail(tail: TrailingSliceLayout<u32>) -> TrailingSliceLayout<u64>
     ensures { (trailing_of result ≡ trailing_of tail) × TailIn 32 (trailing_of tail) }
 {
@@ -34,7 +35,7 @@ pub fn wide_tail(tail: TrailingSliceLayout<u32>) -> TrailingSliceLayout<u64>
     }
 }
 
-// A layout of 64 bits narrowed. No TryFrom, as `numbers32::low_word`.
+// A layout of 64 bits narrowed. No From: neither the trait nor a type of the impl would be of this crate.
 pub fn low_tail(tail: TrailingSliceLayout<u64>) -> TrailingSliceLayout<u32>
     ensures { trailing_of result ≡ low_tail 32 (trailing_of tail) }
 {
@@ -52,12 +53,12 @@ fn none_within(tail: TrailingSliceLayout<u64>) -> Result<u32, SizeRefusal<u32>>
     requires { ((trailing_of tail).word < 2 ^ 32) × (size_at 64 (trailing_of tail) 0 ≤ M 32 → 0 < (trailing_of tail).elem) }
     ensures { size_says result ≡ none_within (trailing_of tail).elem (max_trailing_for 64 (trailing_of tail) (M 32)) }
 {
-    match tail.max_trailing_bytes(numbers32::MAX) {
-        Ok(bytes) => Err(SizeRefusal::NoSize {
-            greatest: (bytes / tail.elem_size) as u32,
-        }),
-        Err(_) => Err(SizeRefusal::Refused(Refusal::NoSizeAtZero)),
-    }
+    let Ok(bytes) = tail.max_trailing_bytes(numbers32::MAX) else {
+        return Err(SizeRefusal::Refused(Refusal::NoSizeAtZero));
+    };
+    Err(SizeRefusal::NoSize {
+        greatest: (bytes / tail.elem_size) as u32,
+    })
 }
 
 // The layout advanced, where its base does not pass: base and phase pass where the base does.

@@ -8,18 +8,18 @@ use Rattle.layout.specs.View.{layout_of, layout_says}
 use Rattle.elements32.specs.Within.{array_within}
 use Rattle.elements32.proofs.array_within.Goals as goal
 
-pub returns-then-info_within : goal.returns-then-info_within
-returns-then-info_within c =
+pub returns-then-closed_within : goal.returns-then-closed_within
+returns-then-closed_within c =
     let l = layout_of c.in_ok-array.array in
     let e = told_by layout_says c.for_array.ensures.answer c.in_ok-array.was in
-    let b = sym c.info_within.ensures ∙ c.if-info_within.true in
+    let b = sym c.closed_within.ensures ∙ c.if-closed_within.true in
     sym (ap (array_within c.args.max) e ∙ ap (λ (x : Bool). cond x (answered l) (refused 37)) b)
 
-pub returns-else-info_within : goal.returns-else-info_within
-returns-else-info_within c =
+pub returns-else-closed_within : goal.returns-else-closed_within
+returns-else-closed_within c =
     let l = layout_of c.in_ok-array.array in
     let e = told_by layout_says c.for_array.ensures.answer c.in_ok-array.was in
-    let b = sym c.info_within.ensures ∙ c.if-info_within.false in
+    let b = sym c.closed_within.ensures ∙ c.if-closed_within.false in
     sym (ap (array_within c.args.max) e ∙ ap (λ (x : Bool). cond x (answered l) (refused 37)) b)
 
 pub returns-in_err-array : goal.returns-in_err-array

@@ -19,8 +19,8 @@ overflow_cast-result c =
     let m = (room_holds 64 (trailing_of c.args.tail) (M 32) (omega (arith, c.requires.0)) (told_by number_says c.max_trailing_bytes.ensures.answer c.in-Ok.is)).1 in
     omega (arith, m, div-le_self c.in-Ok.bytes c.args.tail.elem_size)
 
-pub returns-in-Ok : goal.returns-in-Ok
-returns-in-Ok c = ap (none_within (trailing_of c.args.tail).elem) (sym (told_by number_says c.max_trailing_bytes.ensures.answer c.in-Ok.is))
+pub returns : goal.returns
+returns c = ap (none_within (trailing_of c.args.tail).elem) (sym (told_by number_says c.max_trailing_bytes.ensures.answer c.in-Ok.is))
 
-pub returns-in-Err : goal.returns-in-Err
-returns-in-Err c = ap (none_within (trailing_of c.args.tail).elem) (sym (told_by number_says c.max_trailing_bytes.ensures.answer c.in-Err.is))
+pub returns-in_default : goal.returns-in_default
+returns-in_default c = ap (none_within (trailing_of c.args.tail).elem) (sym (told_by number_says c.max_trailing_bytes.ensures.answer c.in_default.is))

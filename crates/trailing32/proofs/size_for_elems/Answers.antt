@@ -1,7 +1,6 @@
 -- `trailing32::size_for_elems` meets its contract. Assumes nothing.
 use Rattle.trailing.specs.declared.SizeRefusal.{SizeRefusal}
 use Prim.Native.Nat.{ℕ}
-use Rattle.util.specs.declared.refusal.Refusal.{Refusal}
 use Rattle.std.specs.Prelude.{Result}
 use mathlib.Core.Path.{sym, ap, subst, ◌∙◌}
 use Prim.Native.Nat.{◌^◌, ◌<◌}
