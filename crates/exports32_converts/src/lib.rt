@@ -1,5 +1,6 @@
 // The functions of casts and conversions at 32 bits for C and Rust: no logic of their own. include/lukaripe32.h is their C
-// side. C has each function by its name, so that none is an instance of a generic one.
+// side. C has each function by its name, so that none is an instance of a generic one; nor is what stands beside them over
+// the structs that it has by name.
 #![tactic(auto)]
 
 ghost use Rattle.convert.specs.View.{params_in, compute_says};
@@ -14,7 +15,7 @@ ghost use Rattle.convert_defs.specs.Convert.{compute_for, metadata_for};
 ghost use Rattle.exports_converts.specs.Converts.{side_given};
 ghost use Rattle.exports32_numbers.specs.Numbers.{number_out32};
 ghost use Rattle.exports32_layouts.specs.Layouts.{with_layout32};
-ghost use Rattle.exports32_converts.specs.Converts.{cast_out32, params_given32, params_numbers32, no_params32};
+ghost use Rattle.exports32_converts.specs.Converts.{cast_out32, params_given32, params_numbers32};
 ghost use Rattle.exports32_converts.specs.Converts.{params_out32};
 
 use cast::Granted;
@@ -27,7 +28,7 @@ use util::Refusal;
 
 // C has it by value and by name, so that it is no Result and has no type parameter.
 #[repr(C)]
-#[derive(Clone, Copy)]
+#[derive(Clone, Copy, Default)]
 pub struct CastOut32 {
     pub refusal: u64,
     pub count: u32,
@@ -36,7 +37,7 @@ pub struct CastOut32 {
 
 // C has it by name, so that it has no type parameter.
 #[repr(C)]
-#[derive(Clone, Copy)]
+#[derive(Clone, Copy, Default)]
 pub struct CastParams32 {
     pub kind: u32,
     pub offset_delta_elems: u32,
@@ -66,8 +67,7 @@ impl From<Result<Granted<u32>, Refusal>> for CastOut32 {
             },
             Err(refusal) => CastOut32 {
                 refusal: refusal.number(),
-                count: 0,
-                split: 0,
+                ..CastOut32::default()
             },
         }
     }
@@ -94,20 +94,8 @@ impl From<CastParamsInner<u32>> for CastParams32 {
                 elem_multiple: 0,
                 dst_meta,
             },
-            CastParamsInner::SizedToSized => no_params(),
+            CastParamsInner::SizedToSized => CastParams32::default(),
         }
-    }
-}
-
-// What stands in place of parameters beside a refusal; those of fixed to fixed are the same.
-fn no_params() -> CastParams32
-    ensures { result ≡ no_params32 }
-{
-    CastParams32 {
-        kind: 0,
-        offset_delta_elems: 0,
-        elem_multiple: 0,
-        dst_meta: 0,
     }
 }
 
@@ -124,7 +112,7 @@ impl From<Result<CastParamsInner<u32>, Refusal>> for CastParamsOut32 {
             },
             Err(refusal) => CastParamsOut32 {
                 refusal: refusal.number(),
-                params: no_params(),
+                params: CastParams32::default(),
             },
         }
     }
@@ -135,17 +123,15 @@ impl From<CastParams32> for CastParamsInner<u32> {
     ghost from_gives = { λ q params. params_in params ≡ params_given32 q };
 
     fn from(q: CastParams32) -> CastParamsInner<u32> {
-        if q.kind == 0 {
-            return CastParamsInner::SizedToSized;
-        }
-        if q.kind == 1 {
-            return CastParamsInner::SizedToUnsized {
+        match q.kind {
+            0 => CastParamsInner::SizedToSized,
+            1 => CastParamsInner::SizedToUnsized {
                 dst_meta: q.dst_meta,
-            };
-        }
-        CastParamsInner::UnsizedToUnsized {
-            offset_delta_elems: q.offset_delta_elems,
-            elem_multiple: q.elem_multiple,
+            },
+            _ => CastParamsInner::UnsizedToUnsized {
+                offset_delta_elems: q.offset_delta_elems,
+                elem_multiple: q.elem_multiple,
+            },
         }
     }
 }

@@ -31,23 +31,22 @@ impl From<Serving<u32>> for ServingOut32 {
     #[inline(always)]
     fn from(a: Serving<u32>) -> ServingOut32 {
         match a {
-            Serving::Map { elems, split_at } => ServingOut32 {
+            Serving::Map(granted) => ServingOut32 {
                 map_refusal: 0,
                 spare_refusal: 0,
                 serves: 1,
-                count: elems,
-                split: split_at,
+                count: granted.elems,
+                split: granted.split_at,
             },
             Serving::Spare {
                 map_refusal,
-                elems,
-                split_at,
+                granted,
             } => ServingOut32 {
                 map_refusal: map_refusal.number(),
                 spare_refusal: 0,
                 serves: 2,
-                count: elems,
-                split: split_at,
+                count: granted.elems,
+                split: granted.split_at,
             },
             Serving::Neither {
                 map_refusal,

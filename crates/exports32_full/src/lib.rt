@@ -17,7 +17,7 @@ use util::Refusal;
 // A normal form has no offset and no alignment. C has it by value and by name, so that it is no Result and has no type
 // parameter.
 #[repr(C)]
-#[derive(Clone, Copy)]
+#[derive(Clone, Copy, Default)]
 pub struct NormalFormOut32 {
     pub refusal: u64,
     pub size_base: u32,
@@ -42,9 +42,7 @@ impl From<Result<NormalForm<u32>, Refusal>> for NormalFormOut32 {
             }
             Err(refusal) => NormalFormOut32 {
                 refusal: refusal.number(),
-                size_base: 0,
-                elem_size: 0,
-                word: 0,
+                ..NormalFormOut32::default()
             },
         }
     }

@@ -1,6 +1,7 @@
-// The conversion guarantee at 32 bits for C and Rust: no logic of its own. include/lukaripe32.h is its C side. It stands apart,
-// so that in the exports of casts and conversions each of these functions is called once, and inlined. C has each function by
-// its name, so that none is an instance of a generic one.
+// The conversion guarantee at 32 bits for C and Rust: no logic of its own. include/lukaripe32.h is its C side. It stands
+// apart, so that in the exports of casts and conversions each of these functions is called once, and inlined. C has each
+// function by its name, so that none is an instance of a generic one; nor is what stands beside them over the structs that
+// it has by name.
 #![tactic(auto)]
 
 ghost use Rattle.guarantee.specs.View.{answers_in};
@@ -37,15 +38,12 @@ impl From<Result<Carried<u32>, Refusal>> for CarriedOut32 {
     ghost from_gives = { λ a out. out ≡ carried_out32 (says answers_in a) };
 
     fn from(a: Result<Carried<u32>, Refusal>) -> CarriedOut32 {
-        let carried = match a {
-            Ok(carried) => carried,
-            Err(refusal) => Carried {
-                computed: Err(refusal),
-                count: Err(refusal),
-                first: Err(refusal),
-                second: Err(refusal),
-            },
-        };
+        let carried = a.unwrap_or_else(|refusal| Carried {
+            computed: Err(refusal),
+            count: Err(refusal),
+            first: Err(refusal),
+            second: Err(refusal),
+        });
         CarriedOut32 {
             computed: CastParamsOut32::from(carried.computed),
             count: Number32::from(carried.count),

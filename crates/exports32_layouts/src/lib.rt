@@ -12,7 +12,7 @@ ghost use Rattle.record_defs.specs.Record.{words_of, words_for};
 ghost use Rattle.record.specs.View.{words_in};
 ghost use Rattle.scalar32.specs.Target.{target32};
 ghost use Rattle.exports32_numbers.specs.Numbers.{decision_out32};
-ghost use Rattle.exports32_layouts.specs.Layouts.{low_words, words_given32, words_out32, no_layout32, layout_out32};
+ghost use Rattle.exports32_layouts.specs.Layouts.{low_words, words_given32, words_out32, layout_out32};
 ghost use Rattle.exports32_layouts.specs.Layouts.{with_layout32};
 
 use exports32_numbers::Number32;
@@ -22,7 +22,7 @@ use util::Refusal;
 
 // A layout, as the six words of its record. C has it by name, so that it has no type parameter.
 #[repr(C)]
-#[derive(Clone, Copy)]
+#[derive(Clone, Copy, Default)]
 pub struct Layout32 {
     pub align: u32,
     pub kind: u32,
@@ -91,20 +91,6 @@ impl From<DstLayout<u32>> for Layout32 {
     }
 }
 
-// What stands in place of a layout beside a refusal.
-pub fn no_layout() -> Layout32
-    ensures { result ≡ no_layout32 }
-{
-    Layout32 {
-        align: 0,
-        kind: 0,
-        size_base: 0,
-        offset: 0,
-        elem_size: 0,
-        word: 0,
-    }
-}
-
 // A layout as it crosses to C.
 impl From<Result<DstLayout<u32>, Refusal>> for LayoutOut32 {
     ghost from_gives = { λ a out. out ≡ layout_out32 (layout_says a) };
@@ -118,7 +104,7 @@ impl From<Result<DstLayout<u32>, Refusal>> for LayoutOut32 {
             },
             Err(refusal) => LayoutOut32 {
                 refusal: refusal.number(),
-                layout: no_layout(),
+                layout: Layout32::default(),
             },
         }
     }

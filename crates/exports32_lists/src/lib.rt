@@ -38,7 +38,7 @@ impl From<Result<DstLayout<u32>, RefusedAt<u64>>> for ComposedOut32 {
             Err(RefusedAt { refusal, place }) => ComposedOut32 {
                 refusal: refusal.number(),
                 place,
-                layout: exports32_layouts::no_layout(),
+                layout: Layout32::default(),
             },
         }
     }

@@ -2,16 +2,17 @@
 // their C side. C has each function by its name, so that none is an instance of a generic one.
 #![tactic(auto)]
 
-ghost use Rattle.trailing.specs.View.{trailing_of, advance_says};
+ghost use Rattle.trailing.specs.View.{trailing_of, advance_says, size_says};
 ghost use Rattle.std.specs.Prelude.{◌≡◌};
 ghost use Rattle.util_defs.specs.Power.{power_of_two};
 ghost use Rattle.util_defs.specs.Helpers.{padding_for, round_down_for, max_for, min_for};
 ghost use Rattle.util.specs.View.{decision_says, number_says};
+ghost use Rattle.rounding.specs.View.{components_says};
 ghost use Rattle.rounding.specs.Word.{new_for, components_for, align_for};
 ghost use Rattle.trailing_defs.specs.Calls.{size_offset_for, max_trailing_for, padding_for_elems, advance_for, same_for};
 ghost use Rattle.trailing_defs.specs.Sized.{size_given};
 ghost use Rattle.exports32_numbers.specs.Numbers.{number_out32, size_out32, decision_out32, components_out32};
-ghost use Rattle.exports32_numbers.specs.Numbers.{trailing_in32, trailing_words32, no_trailing32, trailing_out32};
+ghost use Rattle.exports32_numbers.specs.Numbers.{trailing_in32, trailing_words32, trailing_out32};
 
 use rounding::RoundingAlignAndPhase;
 use trailing::{SizeRefusal, TrailingSliceLayout};
@@ -27,7 +28,7 @@ pub struct Number32 {
 
 // C has it by value and by name, so that it is no Result and has no type parameter.
 #[repr(C)]
-#[derive(Clone, Copy)]
+#[derive(Clone, Copy, Default)]
 pub struct Components32 {
     pub refusal: u64,
     pub align: u32,
@@ -36,7 +37,7 @@ pub struct Components32 {
 
 // A trailing layout: the last four words of its record. C has it by name, so that it has no type parameter.
 #[repr(C)]
-#[derive(Clone, Copy)]
+#[derive(Clone, Copy, Default)]
 pub struct Trailing32 {
     pub size_base: u32,
     pub offset: u32,
@@ -75,22 +76,51 @@ impl From<Result<bool, Refusal>> for Number32 {
     #[inline(always)]
     fn from(a: Result<bool, Refusal>) -> Number32 {
         match a {
-            Ok(yes) => {
-                if yes {
-                    Number32 {
-                        refusal: 0,
-                        value: 1,
-                    }
-                } else {
-                    Number32 {
-                        refusal: 0,
-                        value: 0,
-                    }
-                }
-            }
+            Ok(yes) => Number32 {
+                refusal: 0,
+                value: u32::from(yes),
+            },
             Err(refusal) => Number32 {
                 refusal: refusal.number(),
                 value: 0,
+            },
+        }
+    }
+}
+
+// A size; beside 15 the value is the greatest count that has one.
+impl From<Result<u32, SizeRefusal<u32>>> for Number32 {
+    ghost from_gives = { λ a number. number ≡ size_out32 (size_says a) };
+
+    fn from(a: Result<u32, SizeRefusal<u32>>) -> Number32 {
+        match a {
+            Ok(value) => Number32 { refusal: 0, value },
+            Err(SizeRefusal::NoSize { greatest }) => Number32 {
+                refusal: Refusal::NoSize.number(),
+                value: greatest,
+            },
+            Err(SizeRefusal::Refused(refusal)) => Number32 {
+                refusal: refusal.number(),
+                value: 0,
+            },
+        }
+    }
+}
+
+// The parts of a rounding word.
+impl From<Result<rounding::Components<u32>, Refusal>> for Components32 {
+    ghost from_gives = { λ a out. out ≡ components_out32 (components_says a) };
+
+    fn from(a: Result<rounding::Components<u32>, Refusal>) -> Components32 {
+        match a {
+            Ok(rounding::Components { align, phase }) => Components32 {
+                refusal: 0,
+                align,
+                phase,
+            },
+            Err(refusal) => Components32 {
+                refusal: refusal.number(),
+                ..Components32::default()
             },
         }
     }
@@ -125,18 +155,6 @@ impl From<TrailingSliceLayout<u32>> for Trailing32 {
     }
 }
 
-// What stands in place of a layout beside a refusal.
-fn no_trailing() -> Trailing32
-    ensures { result ≡ no_trailing32 }
-{
-    Trailing32 {
-        size_base: 0,
-        offset: 0,
-        elem_size: 0,
-        word: 0,
-    }
-}
-
 impl From<Result<TrailingSliceLayout<u32>, Refusal>> for TrailingAnswer32 {
     ghost from_gives = { λ a out. out ≡ trailing_out32 (advance_says a) };
 
@@ -148,7 +166,7 @@ impl From<Result<TrailingSliceLayout<u32>, Refusal>> for TrailingAnswer32 {
             },
             Err(refusal) => TrailingAnswer32 {
                 refusal: refusal.number(),
-                layout: no_trailing(),
+                layout: Trailing32::default(),
             },
         }
     }
@@ -202,16 +220,7 @@ pub extern "C" fn lukaripe32_min(a: u32, b: u32) -> Number32
 pub extern "C" fn lukaripe32_rounding_new(align: u32, phase: u32) -> Number32
     ensures { result ≡ number_out32 (new_for 32 align phase) }
 {
-    match numbers32::new(align, phase) {
-        Ok(word) => Number32 {
-            refusal: 0,
-            value: word.0,
-        },
-        Err(refusal) => Number32 {
-            refusal: refusal.number(),
-            value: 0,
-        },
-    }
+    Number32::from(numbers32::new(align, phase).map(|word| word.0))
 }
 
 // The alignment and the phase of a rounding word.
@@ -219,18 +228,7 @@ pub extern "C" fn lukaripe32_rounding_new(align: u32, phase: u32) -> Number32
 pub extern "C" fn lukaripe32_rounding_components(word: u32) -> Components32
     ensures { result ≡ components_out32 (components_for 32 word) }
 {
-    match numbers32::components(RoundingAlignAndPhase(word)) {
-        Ok(rounding::Components { align, phase }) => Components32 {
-            refusal: 0,
-            align,
-            phase,
-        },
-        Err(refusal) => Components32 {
-            refusal: refusal.number(),
-            align: 0,
-            phase: 0,
-        },
-    }
+    Components32::from(numbers32::components(RoundingAlignAndPhase(word)))
 }
 
 // The alignment of a rounding word.
@@ -276,17 +274,7 @@ pub extern "C" fn lukaripe32_padding_for_elems(layout: Trailing32, elems: u32) -
 pub extern "C" fn lukaripe32_size_for_elems(layout: Trailing32, elems: u32) -> Number32
     ensures { result ≡ size_out32 (size_given 32 (trailing_in32 layout) elems) }
 {
-    match trailing32::size_for_elems(TrailingSliceLayout::from(layout), elems) {
-        Ok(value) => Number32 { refusal: 0, value },
-        Err(SizeRefusal::NoSize { greatest }) => Number32 {
-            refusal: Refusal::NoSize.number(),
-            value: greatest,
-        },
-        Err(SizeRefusal::Refused(refusal)) => Number32 {
-            refusal: refusal.number(),
-            value: 0,
-        },
-    }
+    Number32::from(trailing32::size_for_elems(TrailingSliceLayout::from(layout), elems))
 }
 
 // The layout advanced by bytes, with another element size.

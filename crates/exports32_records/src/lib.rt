@@ -25,10 +25,7 @@ pub extern "C" fn lukaripe32_encode(layout: Layout32, out: &mut [u8]) -> u64
     ensures value { result ≡ refusal_out (encode_words_for 32 (words_given32 layout) (length out.old)) }
     ensures out_after { out.new ≡ encoded_words_into 32 (words_given32 layout) out.old }
 {
-    match record::encode_words(Words::from(layout), out) {
-        Ok(()) => 0,
-        Err(refusal) => refusal.number(),
-    }
+    exports_layouts::refusal_number(record::encode_words(Words::from(layout), out))
 }
 
 // The layout of a short record.
@@ -45,8 +42,5 @@ pub extern "C" fn lukaripe32_encode_short(layout: Layout32, out: &mut [u8]) -> u
     ensures value { result ≡ refusal_out (encode_short_words_for (words_given32 layout) (length out.old)) }
     ensures out_after { out.new ≡ encoded_short_words_into (words_given32 layout) out.old }
 {
-    match short::encode_short_words(Words::from(layout), out) {
-        Ok(()) => 0,
-        Err(refusal) => refusal.number(),
-    }
+    exports_layouts::refusal_number(short::encode_short_words(Words::from(layout), out))
 }

@@ -18,7 +18,7 @@ use util::RefusedAt;
 // the refusal and where. There may be more counts than 32 bits number: how many there are and an index have 64 bits. C has it
 // by value and by name, so that it is no Result and has no type parameter.
 #[repr(C)]
-#[derive(Clone, Copy)]
+#[derive(Clone, Copy, Default)]
 pub struct PaddingOut32 {
     pub refusal: u64,
     pub place: u64,
@@ -53,12 +53,7 @@ impl From<Result<Share<u32>, RefusedAt<u64>>> for PaddingOut32 {
             Err(RefusedAt { refusal, place }) => PaddingOut32 {
                 refusal: refusal.number(),
                 place,
-                padding_numerator: 0,
-                padding_denominator: 0,
-                mean_numerator: 0,
-                mean_denominator: 0,
-                greatest: 0,
-                index: 0,
+                ..PaddingOut32::default()
             },
         }
     }

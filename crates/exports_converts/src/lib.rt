@@ -12,7 +12,7 @@ ghost use Rattle.convert_defs.specs.Convert.{compute_for, metadata_for};
 ghost use Rattle.convert.specs.View.{params_in, compute_says};
 ghost use Rattle.exports_numbers.specs.Numbers.{number_out};
 ghost use Rattle.exports_layouts.specs.Layouts.{with_layout};
-ghost use Rattle.exports_converts.specs.Converts.{cast_out, side_given, params_given, params_numbers, no_params};
+ghost use Rattle.exports_converts.specs.Converts.{cast_out, side_given, params_given, params_numbers};
 ghost use Rattle.exports_converts.specs.Converts.{params_out};
 
 use cast::{CastType, Granted};
@@ -25,15 +25,17 @@ use util::Refusal;
 
 // C has it by value, so that it is no Result.
 #[repr(C)]
-#[derive(Clone, Copy)]
+#[derive(Clone, Copy, Default)]
 pub struct CastOut {
     pub refusal: u64,
     pub count: u64,
     pub split: u64,
 }
 
+// The parameters of a conversion by their kind, in place of an enum, which does not cross to C; zeros beside a refusal, and where
+// a fixed layout is converted to a fixed one.
 #[repr(C)]
-#[derive(Clone, Copy)]
+#[derive(Clone, Copy, Default)]
 pub struct CastParams {
     pub kind: u64,
     pub offset_delta_elems: u64,
@@ -63,8 +65,7 @@ impl From<Result<Granted<u64>, Refusal>> for CastOut {
             },
             Err(refusal) => CastOut {
                 refusal: refusal.number(),
-                count: 0,
-                split: 0,
+                ..CastOut::default()
             },
         }
     }
@@ -91,20 +92,8 @@ impl From<CastParamsInner<u64>> for CastParams {
                 elem_multiple: 0,
                 dst_meta,
             },
-            CastParamsInner::SizedToSized => no_params(),
+            CastParamsInner::SizedToSized => CastParams::default(),
         }
-    }
-}
-
-// What stands in place of parameters beside a refusal; those of fixed to fixed are the same.
-fn no_params() -> CastParams
-    ensures { result ≡ no_params }
-{
-    CastParams {
-        kind: 0,
-        offset_delta_elems: 0,
-        elem_multiple: 0,
-        dst_meta: 0,
     }
 }
 
@@ -121,7 +110,7 @@ impl From<Result<CastParamsInner<u64>, Refusal>> for CastParamsOut {
             },
             Err(refusal) => CastParamsOut {
                 refusal: refusal.number(),
-                params: no_params(),
+                params: CastParams::default(),
             },
         }
     }
@@ -132,17 +121,15 @@ impl From<CastParams> for CastParamsInner<u64> {
     ghost from_gives = { λ q params. params_in params ≡ params_given q };
 
     fn from(q: CastParams) -> CastParamsInner<u64> {
-        if q.kind == 0 {
-            return CastParamsInner::SizedToSized;
-        }
-        if q.kind == 1 {
-            return CastParamsInner::SizedToUnsized {
+        match q.kind {
+            0 => CastParamsInner::SizedToSized,
+            1 => CastParamsInner::SizedToUnsized {
                 dst_meta: q.dst_meta,
-            };
-        }
-        CastParamsInner::UnsizedToUnsized {
-            offset_delta_elems: q.offset_delta_elems,
-            elem_multiple: q.elem_multiple,
+            },
+            _ => CastParamsInner::UnsizedToUnsized {
+                offset_delta_elems: q.offset_delta_elems,
+                elem_multiple: q.elem_multiple,
+            },
         }
     }
 }

@@ -30,23 +30,22 @@ impl From<Serving<u64>> for ServingOut {
     #[inline(always)]
     fn from(a: Serving<u64>) -> ServingOut {
         match a {
-            Serving::Map { elems, split_at } => ServingOut {
+            Serving::Map(granted) => ServingOut {
                 map_refusal: 0,
                 spare_refusal: 0,
                 serves: 1,
-                count: elems,
-                split: split_at,
+                count: granted.elems,
+                split: granted.split_at,
             },
             Serving::Spare {
                 map_refusal,
-                elems,
-                split_at,
+                granted,
             } => ServingOut {
                 map_refusal: map_refusal.number(),
                 spare_refusal: 0,
                 serves: 2,
-                count: elems,
-                split: split_at,
+                count: granted.elems,
+                split: granted.split_at,
             },
             Serving::Neither {
                 map_refusal,

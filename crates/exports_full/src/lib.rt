@@ -15,7 +15,7 @@ use util::Refusal;
 
 // A normal form has no offset and no alignment. C has it by value, so that it is no Result.
 #[repr(C)]
-#[derive(Clone, Copy)]
+#[derive(Clone, Copy, Default)]
 pub struct NormalFormOut {
     pub refusal: u64,
     pub size_base: u64,
@@ -40,9 +40,7 @@ impl From<Result<NormalForm<u64>, Refusal>> for NormalFormOut {
             }
             Err(refusal) => NormalFormOut {
                 refusal: refusal.number(),
-                size_base: 0,
-                elem_size: 0,
-                word: 0,
+                ..NormalFormOut::default()
             },
         }
     }

@@ -35,15 +35,12 @@ impl From<Result<Carried<u64>, Refusal>> for CarriedOut {
     ghost from_gives = { λ a out. out ≡ carried_out (says answers_in a) };
 
     fn from(a: Result<Carried<u64>, Refusal>) -> CarriedOut {
-        let carried = match a {
-            Ok(carried) => carried,
-            Err(refusal) => Carried {
-                computed: Err(refusal),
-                count: Err(refusal),
-                first: Err(refusal),
-                second: Err(refusal),
-            },
-        };
+        let carried = a.unwrap_or_else(|refusal| Carried {
+            computed: Err(refusal),
+            count: Err(refusal),
+            first: Err(refusal),
+            second: Err(refusal),
+        });
         CarriedOut {
             computed: CastParamsOut::from(carried.computed),
             count: Number::from(carried.count),

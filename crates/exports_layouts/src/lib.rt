@@ -4,7 +4,7 @@
 ghost use Rattle.std.specs.Prelude.{◌≡◌, true, false, length};
 ghost use Rattle.make.specs.Make.{new_zst_for, type_for, slice_for};
 ghost use Rattle.layout_defs.specs.Extend.{extend_for};
-ghost use Rattle.layout.specs.View.{layout_of, layout_says};
+ghost use Rattle.layout.specs.View.{layout_of, layout_says, check_says};
 ghost use Rattle.padding_defs.specs.Pad.{pad_for, static_for, dynamic_for};
 ghost use Rattle.record_defs.specs.Record.{words_for, words_of, decode_for, encode_words_for, encoded_words_into};
 ghost use Rattle.scalar.specs.Scalar.{target64, scalar_for};
@@ -12,17 +12,17 @@ ghost use Rattle.record.specs.View.{words_in};
 ghost use Rattle.compose_defs.specs.Compose.{ported, compose_for, struct_for};
 ghost use Rattle.compose.specs.View.{compose_says};
 ghost use Rattle.exports_numbers.specs.Numbers.{decision_out};
-ghost use Rattle.exports_layouts.specs.Layouts.{words_given, words_out, no_layout, layout_out, with_layout};
+ghost use Rattle.exports_layouts.specs.Layouts.{words_given, words_out, layout_out, with_layout};
 ghost use Rattle.exports_layouts.specs.Layouts.{composed_out, refusal_out};
 
 use exports_numbers::Number;
-use layout::{DstLayout, SizeInfo, SizedLayout};
+use layout::{DstLayout, SizeInfo};
 use record::Words;
 use util::{Refusal, RefusedAt};
 
-// A layout, as the six words of its record.
+// A layout, as the six words of its record, which is how one crosses to C; zeros beside a refusal.
 #[repr(C)]
-#[derive(Clone, Copy)]
+#[derive(Clone, Copy, Default)]
 pub struct Layout {
     pub align: u64,
     pub kind: u64,
@@ -87,16 +87,7 @@ fn with_member(
 {
     let size_info = l.size_info;
     match size_info {
-        SizeInfo::Sized { size } => extend::extend_sized(
-            SizedLayout {
-                align: l.align,
-                size,
-                statically_shallow_unpadded: l.statically_shallow_unpadded,
-                align_modifier: l.align_modifier,
-            },
-            m,
-            repr_packed,
-        ),
+        SizeInfo::Sized { size } => extend::extend_sized(l.with_size(size), m, repr_packed),
         SizeInfo::SliceDst(tail) => Err(extend::extend_trailing(
             l.align,
             tail,
@@ -132,20 +123,6 @@ impl From<DstLayout<u64>> for Layout {
     }
 }
 
-// What stands in place of a layout beside a refusal.
-fn no_layout() -> Layout
-    ensures { result ≡ no_layout }
-{
-    Layout {
-        align: 0,
-        kind: 0,
-        size_base: 0,
-        offset: 0,
-        elem_size: 0,
-        word: 0,
-    }
-}
-
 // A layout as it crosses to C.
 impl From<Result<DstLayout<u64>, Refusal>> for LayoutOut {
     ghost from_gives = { λ a out. out ≡ layout_out (layout_says a) };
@@ -159,7 +136,7 @@ impl From<Result<DstLayout<u64>, Refusal>> for LayoutOut {
             },
             Err(refusal) => LayoutOut {
                 refusal: refusal.number(),
-                layout: no_layout(),
+                layout: Layout::default(),
             },
         }
     }
@@ -180,10 +157,19 @@ impl From<Result<DstLayout<u64>, RefusedAt<u64>>> for ComposedOut {
             Err(RefusedAt { refusal, place }) => ComposedOut {
                 refusal: refusal.number(),
                 place,
-                layout: no_layout(),
+                layout: Layout::default(),
             },
         }
     }
+}
+
+// The refusal number alone, where nothing else comes back. No From: neither the trait nor a type of the impl would be of this
+// crate.
+#[inline(always)]
+pub fn refusal_number(a: Result<(), Refusal>) -> u64
+    ensures { result ≡ refusal_out (check_says a) }
+{
+    a.err().map_or(0, Refusal::number)
 }
 
 // The empty layout.
@@ -266,10 +252,7 @@ pub extern "C" fn lukaripe_encode(layout: Layout, out: &mut [u8]) -> u64
     ensures value { result ≡ refusal_out (encode_words_for 64 (words_given layout) (length out.old)) }
     ensures out_after { out.new ≡ encoded_words_into 64 (words_given layout) out.old }
 {
-    match record::encode_words(Words::from(layout), out) {
-        Ok(()) => 0,
-        Err(refusal) => refusal.number(),
-    }
+    refusal_number(record::encode_words(Words::from(layout), out))
 }
 
 // The layout of a scalar.

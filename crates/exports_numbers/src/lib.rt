@@ -5,12 +5,13 @@ ghost use Rattle.std.specs.Prelude.{◌≡◌};
 ghost use Rattle.util_defs.specs.Power.{power_of_two};
 ghost use Rattle.util_defs.specs.Helpers.{padding_for, round_down_for, max_for, min_for};
 ghost use Rattle.util.specs.View.{number_says, decision_says};
+ghost use Rattle.rounding.specs.View.{components_says};
 ghost use Rattle.rounding.specs.Word.{new_for, components_for, align_for};
 ghost use Rattle.trailing_defs.specs.Calls.{size_offset_for, max_trailing_for, padding_for_elems, advance_for, same_for};
 ghost use Rattle.trailing_defs.specs.Sized.{size_given};
-ghost use Rattle.trailing.specs.View.{trailing_of, advance_says};
+ghost use Rattle.trailing.specs.View.{trailing_of, advance_says, size_says};
 ghost use Rattle.exports_numbers.specs.Numbers.{number_out, size_out, decision_out, components_out};
-ghost use Rattle.exports_numbers.specs.Numbers.{trailing_in, trailing_words, no_trailing, trailing_out};
+ghost use Rattle.exports_numbers.specs.Numbers.{trailing_in, trailing_words, trailing_out};
 
 use rounding::RoundingAlignAndPhase;
 use trailing::{SizeRefusal, TrailingSliceLayout};
@@ -26,16 +27,16 @@ pub struct Number {
 
 // C has it by value, so that it is no Result.
 #[repr(C)]
-#[derive(Clone, Copy)]
+#[derive(Clone, Copy, Default)]
 pub struct Components {
     pub refusal: u64,
     pub align: u64,
     pub phase: u64,
 }
 
-// A trailing layout: the last four words of its record.
+// A trailing layout: the last four words of its record. Beside a refusal it is zeros.
 #[repr(C)]
-#[derive(Clone, Copy)]
+#[derive(Clone, Copy, Default)]
 pub struct Trailing {
     pub size_base: u64,
     pub offset: u64,
@@ -74,22 +75,51 @@ impl From<Result<bool, Refusal>> for Number {
     #[inline(always)]
     fn from(a: Result<bool, Refusal>) -> Number {
         match a {
-            Ok(yes) => {
-                if yes {
-                    Number {
-                        refusal: 0,
-                        value: 1,
-                    }
-                } else {
-                    Number {
-                        refusal: 0,
-                        value: 0,
-                    }
-                }
-            }
+            Ok(yes) => Number {
+                refusal: 0,
+                value: u64::from(yes),
+            },
             Err(refusal) => Number {
                 refusal: refusal.number(),
                 value: 0,
+            },
+        }
+    }
+}
+
+// A size; beside 15 the value is the greatest count that has one.
+impl From<Result<u64, SizeRefusal<u64>>> for Number {
+    ghost from_gives = { λ a number. number ≡ size_out (size_says a) };
+
+    fn from(a: Result<u64, SizeRefusal<u64>>) -> Number {
+        match a {
+            Ok(value) => Number { refusal: 0, value },
+            Err(SizeRefusal::NoSize { greatest }) => Number {
+                refusal: Refusal::NoSize.number(),
+                value: greatest,
+            },
+            Err(SizeRefusal::Refused(refusal)) => Number {
+                refusal: refusal.number(),
+                value: 0,
+            },
+        }
+    }
+}
+
+// The parts of a rounding word.
+impl From<Result<rounding::Components<u64>, Refusal>> for Components {
+    ghost from_gives = { λ a out. out ≡ components_out (components_says a) };
+
+    fn from(a: Result<rounding::Components<u64>, Refusal>) -> Components {
+        match a {
+            Ok(rounding::Components { align, phase }) => Components {
+                refusal: 0,
+                align,
+                phase,
+            },
+            Err(refusal) => Components {
+                refusal: refusal.number(),
+                ..Components::default()
             },
         }
     }
@@ -124,18 +154,6 @@ impl From<TrailingSliceLayout<u64>> for Trailing {
     }
 }
 
-// What stands in place of a layout beside a refusal.
-fn no_trailing() -> Trailing
-    ensures { result ≡ no_trailing }
-{
-    Trailing {
-        size_base: 0,
-        offset: 0,
-        elem_size: 0,
-        word: 0,
-    }
-}
-
 impl From<Result<TrailingSliceLayout<u64>, Refusal>> for TrailingAnswer {
     ghost from_gives = { λ a out. out ≡ trailing_out (advance_says a) };
 
@@ -147,7 +165,7 @@ impl From<Result<TrailingSliceLayout<u64>, Refusal>> for TrailingAnswer {
             },
             Err(refusal) => TrailingAnswer {
                 refusal: refusal.number(),
-                layout: no_trailing(),
+                layout: Trailing::default(),
             },
         }
     }
@@ -198,16 +216,7 @@ pub extern "C" fn lukaripe_min(a: u64, b: u64) -> Number
 pub extern "C" fn lukaripe_rounding_new(align: u64, phase: u64) -> Number
     ensures { result ≡ number_out (new_for 64 align phase) }
 {
-    match RoundingAlignAndPhase::new(align, phase) {
-        Ok(word) => Number {
-            refusal: 0,
-            value: word.0,
-        },
-        Err(refusal) => Number {
-            refusal: refusal.number(),
-            value: 0,
-        },
-    }
+    Number::from(RoundingAlignAndPhase::new(align, phase).map(|word| word.0))
 }
 
 // The alignment and the phase of a rounding word.
@@ -215,18 +224,7 @@ pub extern "C" fn lukaripe_rounding_new(align: u64, phase: u64) -> Number
 pub extern "C" fn lukaripe_rounding_components(word: u64) -> Components
     ensures { result ≡ components_out (components_for 64 word) }
 {
-    match RoundingAlignAndPhase(word).components() {
-        Ok(rounding::Components { align, phase }) => Components {
-            refusal: 0,
-            align,
-            phase,
-        },
-        Err(refusal) => Components {
-            refusal: refusal.number(),
-            align: 0,
-            phase: 0,
-        },
-    }
+    Components::from(RoundingAlignAndPhase(word).components())
 }
 
 // The alignment of a rounding word.
@@ -266,17 +264,7 @@ pub extern "C" fn lukaripe_padding_for_elems(layout: Trailing, elems: u64) -> Nu
 pub extern "C" fn lukaripe_size_for_elems(layout: Trailing, elems: u64) -> Number
     ensures { result ≡ size_out (size_given 64 (trailing_in layout) elems) }
 {
-    match TrailingSliceLayout::from(layout).size_for_elems(elems) {
-        Ok(value) => Number { refusal: 0, value },
-        Err(SizeRefusal::NoSize { greatest }) => Number {
-            refusal: Refusal::NoSize.number(),
-            value: greatest,
-        },
-        Err(SizeRefusal::Refused(refusal)) => Number {
-            refusal: refusal.number(),
-            value: 0,
-        },
-    }
+    Number::from(TrailingSliceLayout::from(layout).size_for_elems(elems))
 }
 
 // The layout advanced by bytes, with another element size.

@@ -16,7 +16,7 @@ use util::RefusedAt;
 // Total padding over total size and the mean size as fractions in lowest terms, the greatest padding and its first index; or
 // the refusal and where. C has it by value, so that it is no Result.
 #[repr(C)]
-#[derive(Clone, Copy)]
+#[derive(Clone, Copy, Default)]
 pub struct PaddingOut {
     pub refusal: u64,
     pub place: u64,
@@ -51,12 +51,7 @@ impl From<Result<Share<u64>, RefusedAt<u64>>> for PaddingOut {
             Err(RefusedAt { refusal, place }) => PaddingOut {
                 refusal: refusal.number(),
                 place,
-                padding_numerator: 0,
-                padding_denominator: 0,
-                mean_numerator: 0,
-                mean_denominator: 0,
-                greatest: 0,
-                index: 0,
+                ..PaddingOut::default()
             },
         }
     }

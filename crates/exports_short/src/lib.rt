@@ -55,8 +55,5 @@ pub extern "C" fn lukaripe_encode_short(layout: Layout, out: &mut [u8]) -> u64
     ensures value { result ≡ refusal_out (encode_short_words_for (words_given layout) (length out.old)) }
     ensures out_after { out.new ≡ encoded_short_words_into (words_given layout) out.old }
 {
-    match short::encode_short_words(Words::from(layout), out) {
-        Ok(()) => 0,
-        Err(refusal) => refusal.number(),
-    }
+    exports_layouts::refusal_number(short::encode_short_words(Words::from(layout), out))
 }

@@ -12,8 +12,8 @@ abbrev pub granted_at : {N : Type 0} → (N → ℕ) → Granted N → Grant
 granted_at f g = record { count = f g.elems; split = f g.split_at }
 
 abbrev pub serving_at : {N : Type 0} → (N → ℕ) → Declared.Serving N → Serving
-serving_at f (Variant.Map n s) = of_map (record { count = f n; split = f s })
-serving_at f (Variant.Spare k n s) = of_spare (number_of k) (record { count = f n; split = f s })
+serving_at f (Variant.Map g) = of_map (granted_at f g)
+serving_at f (Variant.Spare k g) = of_spare (number_of k) (granted_at f g)
 serving_at f (Variant.Neither k j) = of_neither (number_of k) (number_of j)
 
 -- the same of whole numbers

@@ -16,17 +16,13 @@ use layout::DstLayout;
 use steps::Steps;
 use util::Refusal;
 
-// Which of two buffers serves, and what its cast granted; beside it the number of each cast that was refused before.
+// Which of two buffers serves, and what its cast granted; beside it why each cast before was refused.
 #[derive(Clone, Copy)]
 pub enum Serving<N> {
-    Map {
-        elems: N,
-        split_at: N,
-    },
+    Map(Granted<N>),
     Spare {
         map_refusal: Refusal,
-        elems: N,
-        split_at: N,
+        granted: Granted<N>,
     },
     Neither {
         map_refusal: Refusal,
@@ -96,16 +92,12 @@ pub fn which_serves<W: Casts>(
     ensures fits { (W.layout layout).align < 2 ^ W.bits }
 {
     match W::cast_bytes(layout, map_addr, map_len, CastType::Prefix) {
-        Ok(of_map) => Serving::Map {
-            elems: of_map.elems,
-            split_at: of_map.split_at,
-        },
+        Ok(granted) => Serving::Map(granted),
         Err(map_refusal) => {
             match W::cast_bytes(layout, spare_addr, spare_len, CastType::Prefix) {
-                Ok(of_spare) => Serving::Spare {
+                Ok(granted) => Serving::Spare {
                     map_refusal,
-                    elems: of_spare.elems,
-                    split_at: of_spare.split_at,
+                    granted,
                 },
                 Err(spare_refusal) => Serving::Neither {
                     map_refusal,
@@ -137,12 +129,11 @@ pub fn front<'a, W: Casts>(
         spare_addr,
         spare.len() as u64,
     ) {
-        Serving::Map { elems: _, split_at } => &map[..split_at.wide() as usize],
+        Serving::Map(granted) => &map[..granted.split_at.wide() as usize],
         Serving::Spare {
             map_refusal: _,
-            elems: _,
-            split_at,
-        } => &spare[..split_at.wide() as usize],
+            granted,
+        } => &spare[..granted.split_at.wide() as usize],
         Serving::Neither {
             map_refusal: _,
             spare_refusal: _,

@@ -1,5 +1,4 @@
 -- `front::front` meets its contract. Assumes nothing.
-use Prim.Native.Nat.{ℕ}
 use mathlib.Core.Path.{sym, ap, subst, ◌∙◌}
 use lib.ListN.{length}
 use lib.Seq.{length-take-le}
