@@ -5,7 +5,7 @@
 
 use layout::{DstLayout, SizeInfo};
 use record::Words;
-use std::io;
+use std::{fmt, io};
 use util::RefusedAt;
 
 const CASES: usize = 27305;
@@ -29,40 +29,43 @@ struct Tally {
     wrong: u64,
 }
 
+impl fmt::Display for Tally {
+    fn fmt<W: fmt::Write>(&self, f: &mut fmt::Formatter<W>) -> fmt::Result {
+        write!(
+            f,
+            "{} cases, {} differ from the rule; from the one without closing padding {}",
+            self.cases, self.differ, self.wrong
+        )
+    }
+}
+
 // The bytes from v to the next multiple of an alignment of 1, 2, 4 or 8.
 fn gap(v: u64, align: u64) -> u64 {
-    if align == 8 {
-        return (8 - v % 8) % 8;
+    match align {
+        8 => (8 - v % 8) % 8,
+        4 => (4 - v % 4) % 4,
+        2 => v % 2,
+        _ => 0,
     }
-    if align == 4 {
-        return (4 - v % 4) % 4;
-    }
-    if align == 2 {
-        return v % 2;
-    }
-    0
 }
 
 // The size of a scalar by its code, which is its alignment too.
 fn scalar_size(code: u64) -> u64 {
-    if code == 3 {
-        return 8;
+    match code {
+        3 => 8,
+        2 => 4,
+        1 => 2,
+        _ => 1,
     }
-    if code == 2 {
-        return 4;
-    }
-    if code == 1 {
-        return 2;
-    }
-    1
 }
 
 // The alignment of a member: its own, or the packing where that is lower.
 fn lowered(align: u64, packing: u64) -> u64 {
     if packing == 0 {
-        return align;
+        align
+    } else {
+        align.min(packing)
     }
-    if packing < align { packing } else { align }
 }
 
 // With one member more; an unused code adds none.
@@ -73,12 +76,11 @@ fn with_member(r: Rule, code: u64, packing: u64) -> Rule {
     let size = scalar_size(code);
     let align = lowered(size, packing);
     let padding = gap(r.size, align);
-    let place = std::num::wrapping_add_u64(r.size, padding);
-    let unpadded = r.unpadded;
+    let place = r.size.wrapping_add(padding);
     Rule {
         align: r.align.max(align),
-        size: std::num::wrapping_add_u64(place, size),
-        unpadded: unpadded & (padding == 0),
+        size: place.wrapping_add(size),
+        unpadded: r.unpadded && padding == 0,
     }
 }
 
@@ -98,23 +100,22 @@ fn members(packing: u64, codes: u64) -> Rule {
 // With closing padding.
 fn closed(r: Rule) -> Rule {
     let padding = gap(r.size, r.align);
-    let unpadded = r.unpadded;
     Rule {
         align: r.align,
-        size: std::num::wrapping_add_u64(r.size, padding),
-        unpadded: unpadded & (padding == 0),
+        size: r.size.wrapping_add(padding),
+        unpadded: r.unpadded && padding == 0,
     }
 }
 
 // Whether a composed layout is the one of the rule.
 fn is_rule(l: DstLayout<u64>, r: Rule) -> bool {
     let size_info = l.size_info;
-    let mark = l.statically_shallow_unpadded;
-    let modifier = l.align_modifier;
-    let unpadded = r.unpadded;
     match size_info {
         SizeInfo::Sized { size } => {
-            (l.align == r.align) & (size == r.size) & (mark == unpadded) & !modifier
+            l.align == r.align
+                && size == r.size
+                && l.statically_shallow_unpadded == r.unpadded
+                && !l.align_modifier
         }
         SizeInfo::SliceDst(_) => false,
     }
@@ -124,14 +125,14 @@ fn agrees(a: Result<DstLayout<u64>, RefusedAt<u64>>, r: Rule) -> bool {
     a.is_ok_and(|l| is_rule(l, r))
 }
 
-// Writes a record's words at a place of a list; past its end nothing is written.
+// Writes a record's words at a place of a list; past its end nothing is written. That of record is private.
 fn put_words(list: &mut [u8], at: usize, w: Words) {
     words::put_word(list, at, w.align);
-    words::put_word(list, std::num::wrapping_add_usize(at, 8), w.kind);
-    words::put_word(list, std::num::wrapping_add_usize(at, 16), w.size);
-    words::put_word(list, std::num::wrapping_add_usize(at, 24), w.offset);
-    words::put_word(list, std::num::wrapping_add_usize(at, 32), w.elem_size);
-    words::put_word(list, std::num::wrapping_add_usize(at, 40), w.word);
+    words::put_word(list, at.wrapping_add(8), w.kind);
+    words::put_word(list, at.wrapping_add(16), w.size);
+    words::put_word(list, at.wrapping_add(24), w.offset);
+    words::put_word(list, at.wrapping_add(32), w.elem_size);
+    words::put_word(list, at.wrapping_add(40), w.word);
 }
 
 // Writes the record of a scalar; an unused code writes none.
@@ -172,18 +173,14 @@ fn compose_case(case: u64) -> Result<DstLayout<u64>, RefusedAt<u64>> {
 }
 
 fn one_more_unless(count: u64, agreed: bool) -> u64 {
-    if agreed {
-        count
-    } else {
-        std::num::wrapping_add_u64(count, 1)
-    }
+    if agreed { count } else { count.wrapping_add(1) }
 }
 
 fn with_case(t: Tally, case: u64) -> Tally {
     let answer = compose_case(case);
     let open = members(case / 256 % 256, case / 0x1_0000);
     Tally {
-        cases: std::num::wrapping_add_u64(t.cases, 1),
+        cases: t.cases.wrapping_add(1),
         differ: one_more_unless(t.differ, agrees(answer, closed(open))),
         wrong: one_more_unless(t.wrong, agrees(answer, open)),
     }
@@ -201,15 +198,8 @@ fn tally_of(buffer: &[u8]) -> Tally {
     t
 }
 
-fn report(rt: &impl Print, bytes: u64, t: Tally) -> io::Result<()> {
-    println!(rt;
-        "{bytes} bytes, {} cases, {} differ from the rule; from the one without closing padding {}",
-        t.cases, t.differ, t.wrong
-    )
-}
-
 fn main(rt: HostRuntime) -> io::Result<()> {
     let mut buffer = [0u8; 218440];
     let bytes = cases::write_cases(6, &mut buffer).unwrap_or_else(|refusal| refusal.number());
-    report(&rt, bytes, tally_of(&buffer))
+    println!(rt; "{bytes} bytes, {}", tally_of(&buffer))
 }

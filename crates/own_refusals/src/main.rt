@@ -35,12 +35,9 @@ fn trailing(word: u64) -> DstLayout<u64> {
     }
 }
 
-// The number of a refusal, 0 where there is none.
+// The number of a refusal, 0 where there is none. Of any answer, and without the exports, which have the like.
 fn refused<T: Copy>(a: Result<T, Refusal>) -> u64 {
-    match a {
-        Ok(_) => 0,
-        Err(refusal) => refusal.number(),
-    }
+    a.err().map_or(0, Refusal::number)
 }
 
 fn encoded(l: DstLayout<u64>) -> u64 {
@@ -52,41 +49,34 @@ fn cast(l: DstLayout<u64>) -> u64 {
     refused(cast::validate_cast_and_convert_metadata(l, 0, 16, CastType::Prefix))
 }
 
-fn put(rt: &impl Print, number: u64) -> io::Result<()> {
-    print!(rt; " {number}")
-}
-
-// What one layout is refused by: of a good one, then of the bad ones.
-fn print_one(
-    rt: &impl Print,
-    name: &str,
-    good: u64,
-    zero: u64,
-    three: u64,
-    word: u64,
-) -> io::Result<()> {
+// A name, and what each of some calls is refused by: of one layout, a good one and then the bad ones; of a second one, the bad
+// ones beside a good first one, and two bad ones.
+fn print_refusals(rt: &impl Print, name: &str, refusals: &[u64]) -> io::Result<()> {
     print!(rt; "{name}")?;
-    put(rt, good)?;
-    put(rt, zero)?;
-    put(rt, three)?;
-    put(rt, word)?;
+    for refusal in refusals {
+        print!(rt; " {refusal}")?;
+    }
     println!(rt)
 }
 
-// The same of a second layout, beside a good first one, and of two bad ones.
-fn print_second(
-    rt: &impl Print,
-    zero: u64,
-    word: u64,
-    word_then_zero: u64,
-    zero_then_word: u64,
-) -> io::Result<()> {
-    print!(rt; " second")?;
-    put(rt, zero)?;
-    put(rt, word)?;
-    put(rt, word_then_zero)?;
-    put(rt, zero_then_word)?;
-    println!(rt)
+// The same of a call of one layout: of a good one, then of the bad ones.
+fn print_of_each<P: Print, F: Fn(DstLayout<u64>) -> u64>(
+    rt: &P,
+    name: &str,
+    call: F,
+) -> io::Result<()>
+    requires { F.IsAlwaysCallable call }
+{
+    print_refusals(
+        rt,
+        name,
+        &[
+            call(trailing(5)),
+            call(fixed(0)),
+            call(fixed(3)),
+            call(trailing(0)),
+        ],
+    )
 }
 
 fn extended(l: DstLayout<u64>, field: DstLayout<u64>) -> u64 {
@@ -108,112 +98,90 @@ fn computed(src: DstLayout<u64>, dst: DstLayout<u64>) -> u64 {
 }
 
 fn print_layouts(rt: &impl Print) -> io::Result<()> {
-    print_one(
+    print_refusals(
         rt,
         "extend",
-        extended(fixed(4), trailing(5)),
-        extended(fixed(0), trailing(5)),
-        extended(fixed(3), trailing(5)),
-        extended(trailing(0), fixed(4)),
+        &[
+            extended(fixed(4), trailing(5)),
+            extended(fixed(0), trailing(5)),
+            extended(fixed(3), trailing(5)),
+            extended(trailing(0), fixed(4)),
+        ],
     )?;
-    print_second(
+    print_refusals(
         rt,
-        extended(fixed(4), fixed(0)),
-        extended(fixed(4), trailing(0)),
-        extended(trailing(0), fixed(0)),
-        extended(fixed(0), trailing(0)),
+        " second",
+        &[
+            extended(fixed(4), fixed(0)),
+            extended(fixed(4), trailing(0)),
+            extended(trailing(0), fixed(0)),
+            extended(fixed(0), trailing(0)),
+        ],
     )?;
-    print_one(
-        rt,
-        "pad_to_align",
-        refused(padding::pad_to_align(trailing(5))),
-        refused(padding::pad_to_align(fixed(0))),
-        refused(padding::pad_to_align(fixed(3))),
-        refused(padding::pad_to_align(trailing(0))),
-    )?;
-    print_one(
+    print_of_each(rt, "pad_to_align", |l| refused(padding::pad_to_align(l)))?;
+    print_of_each(
         rt,
         "requires_static_padding",
-        refused(needs::requires_static_padding(trailing(5))),
-        refused(needs::requires_static_padding(fixed(0))),
-        refused(needs::requires_static_padding(fixed(3))),
-        refused(needs::requires_static_padding(trailing(0))),
+        |l| refused(needs::requires_static_padding(l)),
     )?;
-    print_one(
+    print_of_each(
         rt,
         "requires_dynamic_padding",
-        refused(needs::requires_dynamic_padding(trailing(5))),
-        refused(needs::requires_dynamic_padding(fixed(0))),
-        refused(needs::requires_dynamic_padding(fixed(3))),
-        refused(needs::requires_dynamic_padding(trailing(0))),
+        |l| refused(needs::requires_dynamic_padding(l)),
     )?;
-    print_one(
-        rt,
-        "encode",
-        encoded(trailing(5)),
-        encoded(fixed(0)),
-        encoded(fixed(3)),
-        encoded(trailing(0)),
-    )
+    print_of_each(rt, "encode", encoded)
 }
 
 fn print_additions(rt: &impl Print) -> io::Result<()> {
-    print_one(
+    print_refusals(
         rt,
         "with_member",
-        added(fixed(4), trailing(5)),
-        added(fixed(0), trailing(5)),
-        added(fixed(3), trailing(5)),
-        added(trailing(0), fixed(4)),
+        &[
+            added(fixed(4), trailing(5)),
+            added(fixed(0), trailing(5)),
+            added(fixed(3), trailing(5)),
+            added(trailing(0), fixed(4)),
+        ],
     )?;
-    print_second(
+    print_refusals(
         rt,
-        added(fixed(4), fixed(0)),
-        added(fixed(4), trailing(0)),
-        added(trailing(0), fixed(0)),
-        added(fixed(0), trailing(0)),
+        " second",
+        &[
+            added(fixed(4), fixed(0)),
+            added(fixed(4), trailing(0)),
+            added(trailing(0), fixed(0)),
+            added(fixed(0), trailing(0)),
+        ],
     )?;
-    print_one(
+    print_refusals(
         rt,
         "with_record",
-        added_record(fixed(4)),
-        added_record(fixed(0)),
-        added_record(fixed(3)),
-        added_record(trailing(0)),
+        &[
+            added_record(fixed(4)),
+            added_record(fixed(0)),
+            added_record(fixed(3)),
+            added_record(trailing(0)),
+        ],
     )
 }
 
 fn print_converts(rt: &impl Print) -> io::Result<()> {
-    print_one(
-        rt,
-        "validate_cast_and_convert_metadata",
-        cast(trailing(5)),
-        cast(fixed(0)),
-        cast(fixed(3)),
-        cast(trailing(0)),
-    )?;
-    print_one(
+    print_of_each(rt, "validate_cast_and_convert_metadata", cast)?;
+    print_of_each(
         rt,
         "metadata_for_exact_size",
-        refused(cast::metadata_for_exact_size(trailing(5), 12)),
-        refused(cast::metadata_for_exact_size(fixed(0), 12)),
-        refused(cast::metadata_for_exact_size(fixed(3), 12)),
-        refused(cast::metadata_for_exact_size(trailing(0), 12)),
+        |l| refused(cast::metadata_for_exact_size(l, 12)),
     )?;
-    print_one(
+    print_of_each(rt, "try_compute", |l| computed(l, trailing(5)))?;
+    print_refusals(
         rt,
-        "try_compute",
-        computed(trailing(5), trailing(5)),
-        computed(fixed(0), trailing(5)),
-        computed(fixed(3), trailing(5)),
-        computed(trailing(0), trailing(5)),
-    )?;
-    print_second(
-        rt,
-        computed(trailing(5), fixed(0)),
-        computed(trailing(5), trailing(0)),
-        computed(trailing(0), fixed(0)),
-        computed(fixed(0), trailing(0)),
+        " second",
+        &[
+            computed(trailing(5), fixed(0)),
+            computed(trailing(5), trailing(0)),
+            computed(trailing(0), fixed(0)),
+            computed(fixed(0), trailing(0)),
+        ],
     )
 }
 

@@ -12,6 +12,7 @@ pub fn read_full<R: Read>(reader: &mut R, room: &mut [u8]) -> io::Result<usize>
     ensures { IfOk result (λ n. IsPrefixLen n room.new) }
 {
     let mut done = 0;
+    // A read gives as many bytes as it will, so that no `for` goes over them.
     while done < room.len() {
         let n = reader.read(&mut room[done..])?;
         if n == 0 {

@@ -2,11 +2,11 @@
 // rust/differential/recorded.rs says what the numbers of a line are; tools/record writes them.
 #![tactic(auto)]
 
-ghost use Rattle.std.specs.Prelude.{IfOk, IfSome, ◌≡◌, false, ◌+◌, ◌<◌, ◌≤◌, length, drop, replicate};
+ghost use Rattle.std.specs.Prelude.{IfOk, IfSome, ◌≡◌, false, ◌+◌, ◌<◌, ◌≤◌, length, take, drop, replicate};
 ghost use Rattle.io.specs.Counts.{IsPrefixLen};
-ghost use Rattle.recorded_defs.specs.Lines.{digit_of, end_of, number_from, line_at, same_from, agrees_with, one_more, bytes_from};
+ghost use Rattle.recorded_defs.specs.Lines.{end_of, number_from, line_at, same_from, agrees_with, one_more, bytes_from, lent_at};
 ghost use Rattle.std.specs.Fn.{FnReturnsAt};
-ghost use Rattle.recorded.specs.View.{number_says, line_says, counted, told_of};
+ghost use Rattle.recorded.specs.View.{digit_says, number_says, line_says, lent_says, counted, told_of};
 ghost use Rattle.recorded.specs.Tallies.{Tallies, TalliesSome};
 
 use std::io::ErrorKind;
@@ -65,6 +65,10 @@ impl Told {
     }
 }
 
+mod lent;
+
+pub use lent::Lent;
+
 // The most bytes that a line lends: eight records.
 pub const BYTES: usize = 384;
 
@@ -102,7 +106,7 @@ pub fn load<R: Files>(rt: &R, name: &[u8], text: &mut [u8]) -> io::Result<usize>
 fn one_more(n: u64) -> u64
     ensures { result ≡ one_more n }
 {
-    if n < u64::MAX { n + 1 } else { n }
+    n.saturating_add(1)
 }
 
 impl Tally {
@@ -110,16 +114,13 @@ impl Tally {
     pub fn with_line(self, agrees: bool) -> Tally
         ensures { result ≡ counted self agrees }
     {
-        let lines = one_more(self.lines);
-        if agrees {
-            return Tally {
-                lines,
-                differ: self.differ,
-            };
-        }
         Tally {
-            lines,
-            differ: one_more(self.differ),
+            lines: one_more(self.lines),
+            differ: if agrees {
+                self.differ
+            } else {
+                one_more(self.differ)
+            },
         }
     }
 }
@@ -130,47 +131,36 @@ impl fmt::Display for Tally {
     }
 }
 
-fn wide(byte: u8) -> u64
-    ensures { result ≡ byte }
+// The value of a digit.
+fn digit(byte: u8) -> Option<u64>
+    ensures { digit_says byte result }
 {
-    byte as u64
+    match byte {
+        b'0'..=b'9' => Some(u64::from(byte - b'0')),
+        _ => None,
+    }
 }
 
-// The value of a digit, and 10 for any other byte.
-fn digit(byte: u8) -> u64
-    ensures { result ≡ digit_of byte }
-{
-    if byte < b'0' {
-        return 10;
-    }
-    if byte > b'9' {
-        return 10;
-    }
-    wide(byte - b'0')
-}
-
-// The number before a byte that is no digit.
+// The number before a byte that is no digit: value and has_digits as the definition has them, which counts 0 for no digits.
 fn end_of(value: u64, has_digits: bool, byte: u8, next: usize) -> Option<Number>
     ensures { number_says result ≡ end_of value has_digits byte next }
 {
-    if has_digits {
-        if byte == b' ' {
-            return Some(Number {
-                value,
-                next,
-                is_last: false,
-            });
-        }
-        if byte == b'\n' {
-            return Some(Number {
-                value,
-                next,
-                is_last: true,
-            });
-        }
+    if !has_digits {
         return None;
     }
-    None
+    match byte {
+        b' ' => Some(Number {
+            value,
+            next,
+            is_last: false,
+        }),
+        b'\n' => Some(Number {
+            value,
+            next,
+            is_last: true,
+        }),
+        _ => None,
+    }
 }
 
 // The number whose digits start at from.
@@ -178,12 +168,12 @@ fn read_number(text: &[u8], from: usize) -> Option<Number>
     ensures { number_says result ≡ number_from 0 false from (drop from text.now) }
 {
     let mut value: u64 = 0;
+    // By an index: what comes behind a number is told of by its place.
     for at in from..text.len() {
         let byte = text[at];
-        let digit = digit(byte);
-        if digit > 9 {
+        let Some(digit) = digit(byte) else {
             return end_of(value, from < at, byte, at + 1);
-        }
+        };
         if value > (u64::MAX - digit) / 10 {
             return None;
         }
@@ -199,6 +189,7 @@ fn read_line(text: &[u8], from: usize) -> Option<Line>
 {
     let mut numbers = [0u64; WIDTH];
     let mut at = from;
+    // By an index: the numbers are given back from within the loop, while an iterator over them would still hold them.
     for count in 0..WIDTH {
         let number = read_number(text, at)?;
         numbers[count] = number.value;
@@ -285,12 +276,7 @@ fn is_same(line: &[u64; WIDTH], from: usize, told: [u64; LENGTH], length: usize)
     requires { (from + length ≤ 64) × (length ≤ 13) }
     ensures { result ≡ same_from length line.now from told 0 }
 {
-    for k in 0..length {
-        if line[from + k] != told[k] {
-            return false;
-        }
-    }
-    true
+    line[from..from + length] == told[..length]
 }
 
 // The bytes of the words of the line from this one on.
@@ -299,8 +285,32 @@ pub fn bytes_from(line: &[u64; WIDTH], from: usize) -> [u8; BYTES]
     ensures { result ≡ bytes_from 48 line.now from }
 {
     let mut bytes = [0u8; BYTES];
-    for k in 0..WORDS {
-        words::put_word(&mut bytes, k * words::WORD_BYTES, line[from + k]);
+    for (k, word) in line[from..from + WORDS].iter().enumerate() {
+        words::put_word(&mut bytes, k * words::WORD_BYTES, *word);
     }
     bytes
+}
+
+impl Lent {
+    // Those whose number stands at this place of the line, and their words behind it; none, where a line does not lend so many.
+    pub fn at(line: &[u64; WIDTH], at: usize) -> Option<Lent>
+        requires { at ≤ 15 }
+        ensures { lent_says result ≡ lent_at line.now at }
+    {
+        let length = line[at] as usize;
+        if length > BYTES {
+            return None;
+        }
+        Some(Lent {
+            room: bytes_from(line, at + 1),
+            length,
+            inputs: at + length.div_ceil(words::WORD_BYTES),
+        })
+    }
+
+    pub fn bytes(&self) -> &[u8]
+        ensures { result.now ≡ take self.now.length self.now.room }
+    {
+        &self.room[..self.length]
+    }
 }

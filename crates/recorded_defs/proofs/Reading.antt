@@ -1,12 +1,13 @@
 -- Reading a line: one byte more of a number, one number more of a line, one number more that is the same. Assumes nothing.
-use mathlib.Core.Path.{◌≡◌, refl, sym, subst}
-use mathlib.Core.Bool.{Bool, true, false, cond}
+use mathlib.Core.Path.{◌≡◌, refl, sym, ap, subst, ◌∙◌}
+use mathlib.Core.Bool.{Bool, true, false, cond, ◌&&◌}
 use mathlib.Core.List.{List, [], ◌∷◌, ◌++◌}
 use Prim.Native.Nat.{ℕ, zero, suc, ◌+◌, ◌-◌, ◌*◌, ◌≤◌, ◌<◌}
 use native.Mathlib.Omega.{arith}
-use borrow.Author.Tests.{lt-ltb, le-ltb, eq-eqb, ne_eqb}
+use borrow.Author.Tests.{lt-ltb, le-ltb}
 use lib.Dec.{eqb, ltb}
-use lib.ListN.{length, drop, get_or, set, drop_of_length-le, length-drop}
+use lib.Pointwise.{pointwise}
+use lib.ListN.{length, take, drop, get_or, set, drop_of_length-le, length-drop}
 use lib.Seq.{drop-cons}
 use Rattle.util_defs.specs.Width.{M}
 use Rattle.words.specs.Bytes.{word_bytes}
@@ -98,30 +99,21 @@ module _ (s ns : List ℕ) (at count : ℕ) where
     unfolding line_from
     line_off e = let f : 64 - count ≡ suc (64 - (count + 1)) = omega arith in rw (f, e)
 
--- numbers of two lists: one more that is the same, one that is not, and none left
-module _ (xs ys : List ℕ) (n i k : ℕ) (h : k < n) where
-  pub same_on : get_or xs (i + k) 0 ≡ get_or ys k 0 → same_from (n - k) xs (i + k) ys k ≡ same_from (n - (k + 1)) xs (i + (k + 1)) ys (k + 1)
-  unfolding same_from
-  same_on e =
-      let f : n - k ≡ suc (n - (k + 1)) = omega arith in
-      let g : i + (k + 1) ≡ i + k + 1 = omega arith in
-      rw (f, g, eq-eqb (get_or xs (i + k) 0) (get_or ys k 0) e)
-
-  pub same_off : (get_or xs (i + k) 0 ≡ get_or ys k 0 → ⊥) → same_from (n - k) xs (i + k) ys k ≡ false
-  unfolding same_from
-  same_off e =
-      let f : n - k ≡ suc (n - (k + 1)) = omega arith in
-      rw (f, ne_eqb (get_or xs (i + k) 0) (get_or ys k 0) e)
-
-pub same_all : (n i k : ℕ) (xs ys : List ℕ) → n ≤ k → same_from (n - k) xs i ys k ≡ true
+-- numbers of two lists, as slices of them are compared
+pub same_slices : (n i j : ℕ) (xs ys : List ℕ) → i + n ≤ length xs → j + n ≤ length ys
+    → pointwise eqb (take n (drop i xs)) (take n (drop j ys)) ≡ same_from n xs i ys j
 unfolding same_from
-same_all n i k xs ys h = let f : n - k ≡ 0 = omega arith in rw f
-
-pub same_begun : (n i : ℕ) (xs ys : List ℕ) → same_from (n - 0) xs (i + 0) ys 0 ≡ same_from n xs i ys 0
-same_begun n i xs ys =
-    let f : n - 0 ≡ n = omega arith in
-    let g : i + 0 ≡ i = omega arith in
-    rw (f, g)
+same_slices zero i j xs ys h g = refl
+same_slices (suc n) i j xs ys h g =
+    let a : i + 1 ≡ suc i = omega arith in
+    let b : j + 1 ≡ suc j = omega arith in
+    let e = eqb (get_or xs i 0) (get_or ys j 0) in
+    rw (drop-cons xs i 0 (omega (arith, h)), drop-cons ys j 0 (omega (arith, g)), a, b)
+    (ap (λ (r : Bool). e && r) (same_slices n (suc i) (suc j) xs ys (omega (arith, h)) (omega (arith, g))) ∙ both e _)
+  where
+    both : (e r : Bool) → (e && r) ≡ cond e r false
+    both true r = refl
+    both false r = refl
 
 -- the bytes of words: one word more, and how many they are
 pub bytes_on : (k from : ℕ) (ns : List ℕ) → bytes_from (k + 1) ns from ≡ bytes_from k ns from ++ word_bytes (get_or ns (from + k) 0)

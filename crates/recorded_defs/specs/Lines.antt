@@ -1,6 +1,6 @@
 -- Recorded answers: a line is decimal numbers with single spaces between. Assumes nothing.
 use Rattle.std.specs.Prelude.{Bool, true, false, cond, List, [], ◌∷◌, ℕ, zero, suc, ◌+◌, ◌-◌, ◌*◌, ◌++◌, eqb, ltb, drop}
-use Rattle.std.specs.Prelude.{get_or, set, replicate}
+use Rattle.std.specs.Prelude.{get_or, set, replicate, take, ◌/◌, Option, Some, None}
 use Rattle.util_defs.specs.Width.{M}
 use Rattle.words.specs.Bytes.{word_bytes}
 
@@ -64,3 +64,9 @@ one_more n = cond (ltb n (M 64)) (n + 1) n
 unfoldable pub bytes_from : ℕ → List ℕ → ℕ → List ℕ
 bytes_from zero ns from = []
 bytes_from (suc k) ns from = bytes_from k ns from ++ word_bytes (get_or ns (from + k) 0)
+
+-- the bytes that a line lends, and how many numbers there are up to the last of theirs: their number stands at a place, and is
+-- at most 384, the words that hold them behind it
+abbrev pub lent_at : List ℕ → ℕ → Option (List ℕ × ℕ)
+lent_at ns at =
+    let n = get_or ns at 0 in cond (ltb 384 n) None (Some (take n (bytes_from 48 ns (at + 1)), at + (n + 7) / 8))

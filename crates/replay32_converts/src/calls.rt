@@ -1,5 +1,6 @@
 // A function for each recorded function at 32 bits: it takes the inputs from the line and tells the answer as a line has it.
 // The number of a function and the order of its inputs are those of rust/differential/recorded.rs and its rows.
+// The exports have a name at each width, and so have the functions here that call them.
 use exports32_converts::{CastOut32, CastParams32, CastParamsOut32};
 use exports32_front::ServingOut32;
 use exports32_guarantee::CarriedOut32;
@@ -47,7 +48,7 @@ fn carried(line: &[u64; WIDTH]) -> CarriedOut32 {
     )
 }
 
-// In the full mode.
+// In the full mode, here and below: the exports have a name in each, and so have these.
 fn matched_full(line: &[u64; WIDTH]) -> Number32 {
     exports32_shift_full::lukaripe32_size_sequences_match_full(
         Trailing32::at(line, 1),

@@ -1,12 +1,13 @@
 // A function for each recorded function at 32 bits: it takes the inputs from the line and tells the answer as a line has it.
 // The number of a function and the order of its inputs are those of rust/differential/recorded.rs and its rows; so is the way
 // bytes stand in a line, their length and then words.
+// The exports have a name at each width, and so have the functions here that call them.
 ghost use Rattle.std.specs.Prelude.{◌≤◌, length};
 
 use exports_short::MovedOut;
 use exports32_layouts::Layout32;
 use numbers32::low_word;
-use recorded::{BYTES, Told, WIDTH};
+use recorded::{Lent, Told, WIDTH};
 use told::{FromLine, Tells, moved_told};
 
 // The output of a rewriting is the front of these bytes, which are 165 before. No line agrees with a longer output, nor with one
@@ -16,15 +17,12 @@ const AREA: usize = 512;
 const LAST_SEEN: usize = 54;
 
 fn read(line: &[u64; WIDTH]) -> Option<Told> {
-    let length = line[1] as usize;
-    if length > BYTES {
-        return None;
-    }
-    let bytes = recorded::bytes_from(line, 2);
-    let answer = exports32_describe::lukaripe32_read(&bytes[..length]);
-    Some(answer.told(1 + (length + 7) / 8))
+    let lent = Lent::at(line, 1)?;
+    let answer = exports32_describe::lukaripe32_read(lent.bytes());
+    Some(answer.told(lent.inputs))
 }
 
+// The number once more, of functions that are called alike and told alike: a closure in its place would be lent, with a clause.
 fn rewriting(number: u64, description: &[u8], out: &mut [u8]) -> MovedOut {
     match number {
         54 => exports32_describe::lukaripe32_lengthen_counts(description, out),
@@ -51,23 +49,18 @@ fn rewritten_into(
 fn rewritten(line: &[u64; WIDTH]) -> Option<Told> {
     let out_length = line[1] as usize;
     let from = line[2] as usize;
-    let length = line[3] as usize;
-    if length > BYTES {
-        return None;
-    }
     if out_length > AREA {
         return None;
     }
     if from > LAST_SEEN {
         return None;
     }
-    let bytes = recorded::bytes_from(line, 4);
+    let lent = Lent::at(line, 3)?;
     let mut area = [165u8; AREA];
-    let inputs = 3 + (length + 7) / 8;
     Some(rewritten_into(
-        inputs,
+        lent.inputs,
         line[0],
-        &bytes[..length],
+        lent.bytes(),
         &mut area,
         out_length,
         from * 8,

@@ -1,25 +1,22 @@
 // A function for each recorded function at 32 bits: it takes the inputs from the line and tells the answer as a line has it.
 // The number of a function and the order of its inputs are those of rust/differential/recorded.rs and its rows; so is the way
 // bytes stand in a line, their length and then words.
+// The exports have a name at each width, and so have the functions here that call them.
 ghost use Rattle.std.specs.Prelude.{◌≤◌, length};
 
 use exports32_layouts::{Layout32, LayoutOut32};
 use exports32_lists::ComposedOut32;
 use numbers32::low_word;
-use recorded::{BYTES, Told, WIDTH};
+use recorded::{BYTES, Lent, Told, WIDTH};
 use told::{FromLine, SLICE, Tells, chosen, short_told};
 
 // A short record is written to the front of these bytes, which are 165 before. No line agrees with a longer output.
 const AREA: usize = 512;
 
 fn decode(line: &[u64; WIDTH]) -> Option<Told> {
-    let length = line[1] as usize;
-    if length > BYTES {
-        return None;
-    }
-    let bytes = recorded::bytes_from(line, 2);
-    let answer = exports32_records::lukaripe32_decode(&bytes[..length]);
-    Some(answer.told(1 + (length + 7) / 8))
+    let lent = Lent::at(line, 1)?;
+    let answer = exports32_records::lukaripe32_decode(lent.bytes());
+    Some(answer.told(lent.inputs))
 }
 
 // What is read back from the bytes that were written. On a refusal they are still those that were lent, which read as no record.
@@ -43,6 +40,7 @@ fn encode(line: &[u64; WIDTH]) -> Option<Told> {
     Some(answer.told(7))
 }
 
+// The number once more, of functions that are called alike and told alike: a closure in its place would be lent, with a clause.
 fn composition(number: u64, align: u64, packed: u64, members: &[u8]) -> ComposedOut32 {
     let repr_align = low_word(align);
     let repr_packed = low_word(packed);
@@ -55,13 +53,9 @@ fn composition(number: u64, align: u64, packed: u64, members: &[u8]) -> Composed
 
 // Not shared with the other width: what it calls calls exports that have a name at each.
 fn composed(line: &[u64; WIDTH]) -> Option<Told> {
-    let length = line[3] as usize;
-    if length > BYTES {
-        return None;
-    }
-    let bytes = recorded::bytes_from(line, 4);
-    let answer = composition(line[0], line[1], line[2], &bytes[..length]);
-    Some(answer.told(3 + (length + 7) / 8))
+    let lent = Lent::at(line, 3)?;
+    let answer = composition(line[0], line[1], line[2], lent.bytes());
+    Some(answer.told(lent.inputs))
 }
 
 fn tell_placed(inputs: usize, a: ComposedOut32, place: u32, gap: u32) -> Told {
@@ -106,32 +100,28 @@ fn compose_with_places(
 fn placed(line: &[u64; WIDTH]) -> Option<Told> {
     let places_length = line[3] as usize;
     let gaps_length = line[4] as usize;
-    let length = line[6] as usize;
-    if length > BYTES {
-        return None;
-    }
     if places_length > SLICE {
         return None;
     }
     if gaps_length > SLICE {
         return None;
     }
-    let bytes = recorded::bytes_from(line, 7);
+    let lent = Lent::at(line, 6)?;
     let mut places = [0u32; SLICE];
     let mut gaps = [0u32; SLICE];
     let answer = compose_with_places(
         line[1],
         line[2],
-        &bytes[..length],
+        lent.bytes(),
         &mut places[..places_length],
         &mut gaps[..gaps_length],
     );
-    let at = chosen(line[5], length / 48);
-    let inputs = 6 + (length + 7) / 8;
-    Some(tell_placed(inputs, answer, places[at], gaps[at]))
+    let at = chosen(line[5], lent.bytes().len() / 48);
+    Some(tell_placed(lent.inputs, answer, places[at], gaps[at]))
 }
 
 // The words of the working layout after an addition, on a refusal those that were lent.
+// As at 64 bits, of this width's structs, which C has by name.
 fn tell_worked(inputs: usize, lent: Layout32, out: LayoutOut32) -> Told {
     let layout = if out.refusal == 0 { out.layout } else { lent };
     let refusal = out.refusal;
@@ -147,25 +137,17 @@ fn worked(line: &[u64; WIDTH]) -> Told {
 }
 
 fn worked_by_record(line: &[u64; WIDTH]) -> Option<Told> {
-    let length = line[8] as usize;
-    if length > BYTES {
-        return None;
-    }
-    let bytes = recorded::bytes_from(line, 9);
+    let record = Lent::at(line, 8)?;
     let lent = Layout32::at(line, 1);
     let packed = low_word(line[7]);
-    let next = exports32_working_record::add_record_words(lent, &bytes[..length], packed);
-    Some(tell_worked(8 + (length + 7) / 8, lent, LayoutOut32::from(next)))
+    let next = exports32_working_record::add_record_words(lent, record.bytes(), packed);
+    Some(tell_worked(record.inputs, lent, LayoutOut32::from(next)))
 }
 
 fn decode_short(line: &[u64; WIDTH]) -> Option<Told> {
-    let length = line[1] as usize;
-    if length > BYTES {
-        return None;
-    }
-    let bytes = recorded::bytes_from(line, 2);
-    let answer = exports32_records::lukaripe32_decode_short(&bytes[..length]);
-    Some(answer.told(1 + (length + 7) / 8))
+    let lent = Lent::at(line, 1)?;
+    let answer = exports32_records::lukaripe32_decode_short(lent.bytes());
+    Some(answer.told(lent.inputs))
 }
 
 // The short record into the front of the area.

@@ -1,5 +1,6 @@
 // A function for each recorded function at 32 bits: it takes the inputs from the line and tells the answer as a line has it.
 // The number of a function and the order of its inputs are those of rust/differential/recorded.rs and its rows.
+// The exports have a name at each width, and so have the functions here that call them.
 use exports32_numbers::Trailing32;
 use numbers32::low_word;
 use recorded::{Told, WIDTH};

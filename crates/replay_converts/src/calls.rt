@@ -40,7 +40,7 @@ fn carried(line: &[u64; WIDTH]) -> CarriedOut {
     )
 }
 
-// In the full mode.
+// In the full mode, here and below: the exports have a name in each, and so have these.
 fn matched_full(line: &[u64; WIDTH]) -> Number {
     exports_shift_full::lukaripe_size_sequences_match_full(
         Trailing::at(line, 1),

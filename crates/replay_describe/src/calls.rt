@@ -5,7 +5,7 @@ ghost use Rattle.std.specs.Prelude.{◌≤◌, length};
 
 use exports_layouts::Layout;
 use exports_short::MovedOut;
-use recorded::{BYTES, Told, WIDTH};
+use recorded::{Lent, Told, WIDTH};
 use told::{FromLine, Tells, moved_told};
 
 // The output of a rewriting is the front of these bytes, which are 165 before. No line agrees with a longer output, nor with one
@@ -15,15 +15,12 @@ const AREA: usize = 512;
 const LAST_SEEN: usize = 54;
 
 fn read(line: &[u64; WIDTH]) -> Option<Told> {
-    let length = line[1] as usize;
-    if length > BYTES {
-        return None;
-    }
-    let bytes = recorded::bytes_from(line, 2);
-    let answer = exports_describe::lukaripe_read(&bytes[..length]);
-    Some(answer.told(1 + (length + 7) / 8))
+    let lent = Lent::at(line, 1)?;
+    let answer = exports_describe::lukaripe_read(lent.bytes());
+    Some(answer.told(lent.inputs))
 }
 
+// The number once more, of functions that are called alike and told alike: a closure in its place would be lent, with a clause.
 fn rewriting(number: u64, description: &[u8], out: &mut [u8]) -> MovedOut {
     match number {
         54 => exports_rewrite::lukaripe_lengthen_counts(description, out),
@@ -47,26 +44,23 @@ fn rewritten_into(
     moved_told(inputs, answer, area, at)
 }
 
+// As `moved` of replay_layouts but for what is called: one function of both would be public, with a promise of what a
+// closure writes.
 fn rewritten(line: &[u64; WIDTH]) -> Option<Told> {
     let out_length = line[1] as usize;
     let from = line[2] as usize;
-    let length = line[3] as usize;
-    if length > BYTES {
-        return None;
-    }
     if out_length > AREA {
         return None;
     }
     if from > LAST_SEEN {
         return None;
     }
-    let bytes = recorded::bytes_from(line, 4);
+    let lent = Lent::at(line, 3)?;
     let mut area = [165u8; AREA];
-    let inputs = 3 + (length + 7) / 8;
     Some(rewritten_into(
-        inputs,
+        lent.inputs,
         line[0],
-        &bytes[..length],
+        lent.bytes(),
         &mut area,
         out_length,
         from * 8,

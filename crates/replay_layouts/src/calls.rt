@@ -5,7 +5,7 @@ ghost use Rattle.std.specs.Prelude.{◌≤◌, length};
 
 use exports_layouts::{ComposedOut, Layout, LayoutOut};
 use exports_short::MovedOut;
-use recorded::{BYTES, Told, WIDTH};
+use recorded::{BYTES, Lent, Told, WIDTH};
 use told::{FromLine, SLICE, Tells, chosen, moved_told, short_told};
 
 // The output of short records and of moves is the front of these bytes, which are 165 before. No line agrees with a longer
@@ -15,13 +15,9 @@ const AREA: usize = 512;
 const LAST_SEEN: usize = 54;
 
 fn decode(line: &[u64; WIDTH]) -> Option<Told> {
-    let length = line[1] as usize;
-    if length > BYTES {
-        return None;
-    }
-    let bytes = recorded::bytes_from(line, 2);
-    let answer = exports_layouts::lukaripe_decode(&bytes[..length]);
-    Some(answer.told(1 + (length + 7) / 8))
+    let lent = Lent::at(line, 1)?;
+    let answer = exports_layouts::lukaripe_decode(lent.bytes());
+    Some(answer.told(lent.inputs))
 }
 
 // What is read back from the bytes that were written. On a refusal they are still those that were lent, which read as no record.
@@ -45,6 +41,7 @@ fn encode(line: &[u64; WIDTH]) -> Option<Told> {
     Some(answer.told(7))
 }
 
+// The number once more, of functions that are called alike and told alike: a closure in its place would be lent, with a clause.
 fn composition(number: u64, repr_align: u64, repr_packed: u64, members: &[u8]) -> ComposedOut {
     match number {
         26 => exports_layouts::lukaripe_compose(repr_align, repr_packed, members),
@@ -55,13 +52,9 @@ fn composition(number: u64, repr_align: u64, repr_packed: u64, members: &[u8]) -
 
 // Not shared with the other width: what it calls calls exports that have a name at each.
 fn composed(line: &[u64; WIDTH]) -> Option<Told> {
-    let length = line[3] as usize;
-    if length > BYTES {
-        return None;
-    }
-    let bytes = recorded::bytes_from(line, 4);
-    let answer = composition(line[0], line[1], line[2], &bytes[..length]);
-    Some(answer.told(3 + (length + 7) / 8))
+    let lent = Lent::at(line, 3)?;
+    let answer = composition(line[0], line[1], line[2], lent.bytes());
+    Some(answer.told(lent.inputs))
 }
 
 fn tell_placed(inputs: usize, a: ComposedOut, place: u64, gap: u64) -> Told {
@@ -88,29 +81,24 @@ fn tell_placed(inputs: usize, a: ComposedOut, place: u64, gap: u64) -> Told {
 fn placed(line: &[u64; WIDTH]) -> Option<Told> {
     let places_length = line[3] as usize;
     let gaps_length = line[4] as usize;
-    let length = line[6] as usize;
-    if length > BYTES {
-        return None;
-    }
     if places_length > SLICE {
         return None;
     }
     if gaps_length > SLICE {
         return None;
     }
-    let bytes = recorded::bytes_from(line, 7);
+    let lent = Lent::at(line, 6)?;
     let mut places = [0u64; SLICE];
     let mut gaps = [0u64; SLICE];
     let answer = exports_places::lukaripe_for_repr_c_struct_places(
         line[1],
         line[2],
-        &bytes[..length],
+        lent.bytes(),
         &mut places[..places_length],
         &mut gaps[..gaps_length],
     );
-    let at = chosen(line[5], length / 48);
-    let inputs = 6 + (length + 7) / 8;
-    Some(tell_placed(inputs, answer, places[at], gaps[at]))
+    let at = chosen(line[5], lent.bytes().len() / 48);
+    Some(tell_placed(lent.inputs, answer, places[at], gaps[at]))
 }
 
 // The words of the working layout after an addition, on a refusal those that were lent.
@@ -129,24 +117,16 @@ fn worked(line: &[u64; WIDTH]) -> Told {
 }
 
 fn worked_by_record(line: &[u64; WIDTH]) -> Option<Told> {
-    let length = line[8] as usize;
-    if length > BYTES {
-        return None;
-    }
-    let bytes = recorded::bytes_from(line, 9);
+    let record = Lent::at(line, 8)?;
     let lent = Layout::at(line, 1);
-    let next = exports_working_record::add_record_words(lent, &bytes[..length], line[7]);
-    Some(tell_worked(8 + (length + 7) / 8, lent, LayoutOut::from(next)))
+    let next = exports_working_record::add_record_words(lent, record.bytes(), line[7]);
+    Some(tell_worked(record.inputs, lent, LayoutOut::from(next)))
 }
 
 fn decode_short(line: &[u64; WIDTH]) -> Option<Told> {
-    let length = line[1] as usize;
-    if length > BYTES {
-        return None;
-    }
-    let bytes = recorded::bytes_from(line, 2);
-    let answer = exports_short::lukaripe_decode_short(&bytes[..length]);
-    Some(answer.told(1 + (length + 7) / 8))
+    let lent = Lent::at(line, 1)?;
+    let answer = exports_short::lukaripe_decode_short(lent.bytes());
+    Some(answer.told(lent.inputs))
 }
 
 // The short record into the front of the area.
@@ -166,6 +146,7 @@ fn encode_short(line: &[u64; WIDTH]) -> Option<Told> {
     Some(encoded_short(Layout::at(line, 1), &mut area, length))
 }
 
+// The number once more, of functions that are called alike and told alike: a closure in its place would be lent, with a clause.
 fn movement(number: u64, records: &[u8], out: &mut [u8]) -> MovedOut {
     match number {
         41 => exports_to_short::lukaripe_records_to_short(records, out),
@@ -188,26 +169,23 @@ fn moved_into(
     moved_told(inputs, answer, area, at)
 }
 
+// As `rewritten` of replay_describe but for what is called: one function of both would be public, with a promise of what a
+// closure writes.
 fn moved(line: &[u64; WIDTH]) -> Option<Told> {
     let out_length = line[1] as usize;
     let from = line[2] as usize;
-    let length = line[3] as usize;
-    if length > BYTES {
-        return None;
-    }
     if out_length > AREA {
         return None;
     }
     if from > LAST_SEEN {
         return None;
     }
-    let bytes = recorded::bytes_from(line, 4);
+    let lent = Lent::at(line, 3)?;
     let mut area = [165u8; AREA];
-    let inputs = 3 + (length + 7) / 8;
     Some(moved_into(
-        inputs,
+        lent.inputs,
         line[0],
-        &bytes[..length],
+        lent.bytes(),
         &mut area,
         out_length,
         from * 8,

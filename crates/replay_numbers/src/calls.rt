@@ -72,7 +72,7 @@ fn full(line: &[u64; WIDTH]) -> Option<Told> {
 
 // A word of the area, so many bytes behind a place.
 fn seen(area: &[u8], at: usize, behind: usize) -> u64 {
-    words::read_word(area, std::num::wrapping_add_usize(at, behind))
+    words::read_word(area, at.wrapping_add(behind))
 }
 
 // The bytes written and ten words of the area, on a refusal too.

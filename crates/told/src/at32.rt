@@ -1,4 +1,4 @@
-// The answers and inputs of the exports at 32 bits.
+// The answers and inputs of the exports at 32 bits. C has each of these types by its name, so that each has an impl of its own.
 ghost use Rattle.told.specs.At32.{number_numbers32, components_numbers32, trailing_numbers32, form_numbers32};
 ghost use Rattle.told.specs.At32.{padding_numbers32, layout_numbers32, composed_numbers32, cast_numbers32};
 ghost use Rattle.told.specs.At32.{params_numbers32, serving_numbers32, carried_numbers32, trailing_at32};

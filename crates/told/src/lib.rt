@@ -35,7 +35,7 @@ impl Tells for bool {
     ghost numbers = { test_numbers };
 
     fn told(self, inputs: usize) -> Told {
-        Told::new(inputs, &[0, if self { 1 } else { 0 }])
+        Told::new(inputs, &[0, u64::from(self)])
     }
 }
 

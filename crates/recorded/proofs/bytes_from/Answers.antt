@@ -1,9 +1,10 @@
 -- `recorded::bytes_from` meets its contract. Assumes nothing.
 use mathlib.Core.Path.{◌≡◌, refl, sym, ap, ◌∙◌}
 use mathlib.Core.List.{List}
-use Prim.Native.Nat.{ℕ, ◌+◌, ◌*◌}
+use Prim.Native.Nat.{ℕ, ◌+◌, ◌-◌, ◌*◌, ◌<◌}
 use native.Mathlib.Omega.{arith}
-use lib.ListN.{get_or, length-replicate, replicate}
+use lib.ListN.{get_or, length-replicate, replicate, take, drop}
+use lib.Seq.{get_or-take, get_or-drop}
 use Rattle.std.proofs.lemmas.List.Edits.{sets}
 use Rattle.words.specs.Bytes.{put_into}
 use Rattle.words.proofs.LittleEndian.{put_next, sets_whole}
@@ -21,7 +22,9 @@ loop-k-preserved c =
     let from = c.args.from in
     let k = c.loop-k.k in
     let v = get_or ns (from + k) 0 in
-    c.put_word.ensures ∙ ap (λ (b : List ℕ). put_into b (k * 8) v) c.loop-k.invariant
+    let below : k < from + 48 - from = omega (arith, c.loop-k-test.true) in
+    let read : get_or (take (from + 48 - from) (drop from ns)) k 0 ≡ v = get_or-take (from + 48 - from) (drop from ns) k 0 below ∙ get_or-drop from ns k 0 in
+    c.put_word.ensures ∙ ap (put_into c.loop-k.bytes (k * 8)) read ∙ ap (λ (b : List ℕ). put_into b (k * 8) v) c.loop-k.invariant
     ∙ put_next (bytes_from k ns from) (replicate 384 0) 0 (k * 8) (k * 8) v (bytes_length k from ns) (omega arith) (omega (arith, c.loop-k-test.true, length-replicate {A = ℕ} 384 0))
     ∙ ap (sets (replicate 384 0) 0) (sym (bytes_on k from ns))
 
