@@ -1,15 +1,15 @@
 -- The bytes of the recursion are the records of the cases. Assumes nothing.
-use mathlib.Core.Path.{◌≡◌, refl, sym, ap, subst, ◌∙◌}
+use mathlib.Core.Path.{◌≡◌, refl, sym, ap, ◌∙◌}
 use mathlib.Core.List.{List, [], ◌∷◌, ◌++◌, map, flat_map, append_assoc, append-nil}
 use Prim.Native.Nat.{ℕ, zero, suc, ◌+◌, ◌-◌, ◌*◌, ◌^◌, ◌≤◌, ◌<◌}
-use lib.ListN.{length, replicate, take, length-append, length-replicate}
+use lib.ListN.{length, replicate, take, length-append}
 use lib.Dec.{lit<}
 use lib.Seq.{take_all}
 use native.Mathlib.Nat.{pow-succ'}
 use native.Mathlib.Omega.{arith}
 use Rattle.words.specs.Bytes.{value_of, word_bytes}
 use Rattle.words.proofs.LittleEndian.{AllBytes, part_back, all_append}
-use Rattle.cases_defs.specs.Cases.{Case, scalars, packings, lists_of, under_each, cases_of, greatest_length, case_length, unused, case_bytes, cases_bytes}
+use Rattle.cases_defs.specs.Cases.{Case, scalars, lists_of, under_each, cases_of, greatest_length, unused, case_bytes, cases_bytes}
 use Rattle.cases_defs.proofs.Counted.{case_length_lem}
 use Rattle.cases.specs.Grow.{list_bytes, grown_bytes}
 

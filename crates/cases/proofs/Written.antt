@@ -1,9 +1,9 @@
 -- The lists of each length, one behind the other, and how many bytes they are. Assumes nothing.
 use mathlib.Core.Path.{◌≡◌, refl, sym, ap, subst, ◌∙◌}
-use mathlib.Core.List.{List, [], ◌++◌, flat_map}
-use Prim.Native.Nat.{ℕ, zero, suc, ◌+◌, ◌-◌, ◌*◌, ◌/◌, ◌%◌, ◌^◌, ◌≤◌, ◌<◌}
+use mathlib.Core.List.{List, [], ◌++◌}
+use Prim.Native.Nat.{ℕ, zero, suc, ◌+◌, ◌-◌, ◌*◌, ◌%◌, ◌^◌, ◌≤◌, ◌<◌}
 use lib.Dec.{lit<}
-use lib.ListN.{length, drop, length-append}
+use lib.ListN.{length, drop}
 use lib.Pow.{shl_exact}
 use lib.Seq.{sets, sets-eq}
 use native.Mathlib.Nat.{pow-succ', pow-le-pow_right}

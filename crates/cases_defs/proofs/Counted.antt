@@ -1,11 +1,11 @@
 -- How many cases there are, and how many bytes. Assumes nothing.
-use mathlib.Core.Path.{◌≡◌, refl, sym, ap, subst, ◌∙◌}
+use mathlib.Core.Path.{◌≡◌, refl, ap, ◌∙◌}
 use mathlib.Core.List.{List, [], ◌∷◌, ◌++◌, map, flat_map, Memᴰ}
-use Prim.Native.Nat.{ℕ, zero, suc, ◌+◌, ◌-◌, ◌*◌, ◌^◌, ◌≤◌, ◌<◌}
+use Prim.Native.Nat.{ℕ, zero, suc, ◌+◌, ◌-◌, ◌*◌, ◌^◌, ◌≤◌}
 use lib.ListN.{length, length-append, length-map, length-replicate, replicate}
 use native.Mathlib.Omega.{arith}
 use native.Mathlib.Nat.{pow-succ'}
-use Rattle.cases_defs.specs.Cases.{Case, scalars, packings, lists_of, under_each, cases_of, cases_to, list_count, greatest_length, case_length, unused, case_bytes, cases_bytes}
+use Rattle.cases_defs.specs.Cases.{Case, scalars, lists_of, under_each, cases_of, cases_to, list_count, greatest_length, case_length, unused, case_bytes, cases_bytes}
 use Rattle.cases_defs.proofs.Listed.{all_cases}
 
 -- lists of one length, end to end

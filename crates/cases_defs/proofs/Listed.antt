@@ -1,14 +1,14 @@
 -- All cases are there, none else, none twice, in order. Assumes nothing.
 use mathlib.Core.Path.{◌≡◌, refl, sym, ap, subst, ◌∙◌}
 use mathlib.Core.List.Memᴰ
-use mathlib.Core.List.{List, [], ◌∷◌, ◌++◌, map, flat_map, Memᴰ}
+use mathlib.Core.List.{List, [], ◌∷◌, ◌++◌, map, Memᴰ}
 use mathlib.Core.Logic.{◌⊎◌, inl, inr}
-use Prim.Native.Nat.{ℕ, zero, suc, ◌+◌, ◌≤◌, ◌<◌}
+use Prim.Native.Nat.{ℕ, zero, suc, ◌+◌, ◌<◌}
 use lib.ListN.{length}
 use native.Mathlib.Omega.{arith}
 use native.Mathlib.Nat.{eq-or-lt_of_le}
 use Rattle.cases_defs.specs.Cases.{Case, scalars, packings, lists_of, under_each, cases_of, cases_to}
-use Rattle.cases_defs.specs.Order.{IsCase, FromLeft, lower, alike, Before, shorter, by_code, by_packing, Ordered, NoneTwice, AllCases}
+use Rattle.cases_defs.specs.Order.{IsCase, FromLeft, lower, alike, Before, shorter, by_code, by_packing, Ordered, AllCases}
 use Rattle.cases_defs.proofs.Orders.{ordered_append, once, one_order, ordered_map, in_flat, flat_in, ordered_flat, Less, rises_ordered}
 
 -- ---- the order is strict ----

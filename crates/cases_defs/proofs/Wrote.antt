@@ -1,16 +1,14 @@
 -- What writing all cases means. Assumes nothing.
 use mathlib.Core.Path.{◌≡◌, refl, sym, ap, subst, ◌∙◌}
 use mathlib.Core.List.{List, ◌++◌}
-use mathlib.Core.Logic.{◌⊎◌}
 use Prim.Native.Nat.{ℕ, ◌*◌, ◌≤◌, ◌<◌}
 use lib.ListN.{length, drop}
 use native.Mathlib.Omega.{arith}
 use borrow.Author.Tests.{lt-ltb, le-ltb}
-use Rattle.util_defs.specs.Refusal.{Outcome, answered, refused, unless, None, First, Decided, Meets, answers, refuses}
+use Rattle.util_defs.specs.Refusal.{Outcome, answered, refused, unless, Decided, Meets, answers, refuses}
 use Rattle.util_defs.proofs.Refusals.{tells_lt, meets, one_number, no_number}
 use Rattle.cases_defs.specs.Cases.{Case, cases_to, list_count, greatest_length, case_length, cases_bytes}
-use Rattle.cases_defs.specs.Order.{AllCases}
-use Rattle.cases_defs.specs.Write.{length_above, buffer_short, write_causes, cases_for, count_written, filled_with, Written, WriteMeans}
+use Rattle.cases_defs.specs.Write.{write_causes, cases_for, count_written, filled_with, WriteMeans}
 use Rattle.cases_defs.proofs.Listed.{all_cases, one_list}
 use Rattle.cases_defs.proofs.Counted.{count, bytes_length}
 

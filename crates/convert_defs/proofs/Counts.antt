@@ -1,7 +1,6 @@
 -- The converted count of a conversion that is accepted has the source's size, at any width and for any sound comparison.
 -- Assumes nothing.
 use mathlib.Core.Path.{◌≡◌, refl}
-use mathlib.Core.Bool.{Bool}
 use mathlib.Core.Logic.{inl, inr}
 use Prim.Native.Nat.{ℕ, ◌+◌, ◌*◌, ◌≤◌, ◌<◌}
 use native.Mathlib.Nat.{le-mul_of_pos_right}
@@ -10,7 +9,7 @@ use Rattle.util_defs.specs.Width.{M}
 use Rattle.util_defs.specs.Refusal.{None}
 use Rattle.trailing_defs.specs.Size.{Trailing, A, p, size_at}
 use Rattle.trailing_defs.proofs.Sizes.{size_ge}
-use Rattle.layout_defs.specs.Layout.{Marks, marks, Info, Layout, size_in, layout_causes, FitsWidth}
+use Rattle.layout_defs.specs.Layout.{Marks, Info, Layout, size_in, layout_causes, FitsWidth}
 use Rattle.cast_defs.proofs.Grants.{align_pos}
 use Rattle.shift_defs.specs.Match.{Comparison, Sound, Matches}
 use Rattle.shift_defs.specs.Shift.{IsShift}

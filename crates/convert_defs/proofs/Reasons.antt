@@ -1,6 +1,6 @@
 -- The reasons why there is no conversion: each test decides its statement, over any width and comparison. Assumes nothing.
 use mathlib.Core.Path.{◌≡◌, refl, sym, ap, ◌∙◌}
-use mathlib.Core.Bool.{Bool, not}
+use mathlib.Core.Bool.{not}
 use Prim.Native.Nat.{ℕ, ◌*◌, ◌/◌, ◌%◌, ◌^◌, ◌<◌}
 use lib.Dec.{eqb}
 use native.Mathlib.Nat.{mul-mod_left}
@@ -10,7 +10,7 @@ use Rattle.util_defs.proofs.Refusals.{tells_eq, tells_lt, tells_not, tells_as}
 use Rattle.util_defs.proofs.Tables.{apart}
 use Rattle.util_defs.proofs.Rounding.{multiple}
 use Rattle.trailing_defs.specs.Size.{Trailing}
-use Rattle.layout_defs.specs.Layout.{Marks, marks, Info, fixed, trailing, Layout, layout_causes}
+use Rattle.layout_defs.specs.Layout.{Marks, Info, fixed, trailing, Layout, layout_causes}
 use Rattle.cast_defs.specs.Exact.{ExactCount, exact_for}
 use Rattle.cast_defs.proofs.Exact.{exact_sound, exact_complete}
 use Rattle.shift_defs.specs.Match.{Comparison}

@@ -21,7 +21,7 @@ use Rattle.compose_defs.specs.Compose.{composed, refused_at, ported, begin_for, 
 use Rattle.describe_defs.specs.Elements.{element_size, element_for, array_for, slice_of_for}
 use Rattle.describe_defs.specs.Describe.{Counted, by_one, by_two, struct_tag, count_bytes, Part, Reader, Form, array, struct, slice, Tag, code, opens, unknown, tag_of, byte_at, count_at, power_of, power_at}
 use Rattle.describe_defs.specs.Describe.{add_read, closed, struct_body, struct_at, array_at, slice_at, form_at, tagged, tagged_at, part_for, wholly, described_for, power_in}
-use Rattle.describe_defs.specs.Grammar.{Stands, IsByte, IsCount, Run, none, one, members, Header, Describes}
+use Rattle.describe_defs.specs.Grammar.{Stands, IsByte, Run, none, one, members, Header, Describes}
 use Rattle.describe_defs.specs.Faults as F
 use Rattle.describe_defs.specs.Faults.{tag_byte, UnknownTag, BadPower, no_power, power_above, power_passes, bad_align, bad_packing, no_count, ScalarsAccepted}
 use Rattle.describe_defs.specs.Faults.{Comes, first, element, sliced, member, PartFault, Fault}

@@ -2,13 +2,12 @@
 use mathlib.Core.Path.{◌≡◌, refl, sym, ap, subst, ◌∙◌}
 use mathlib.Core.List.{List, [], ◌∷◌}
 use Prim.Native.Nat.{ℕ, zero, suc, ◌+◌, ◌≤◌}
-use lib.ListN.{length, take, drop}
+use lib.ListN.{length}
 use Rattle.util_defs.specs.Refusal.{Outcome, answered, refused}
 use Rattle.util_defs.specs.Placed.{Placed, reached, stopped, at_place, go_on}
 use Rattle.layout_defs.specs.Layout.{Layout}
 use Rattle.padding_defs.specs.Pad.{pad_for}
 use Rattle.scalar.specs.Scalar.{Target, scalar_layout}
-use Rattle.words.specs.Bytes.{value_of}
 use Rattle.compose_defs.specs.Compose.{Composed, composed, refused_at, and_then, bind, ported, begin_for, member_step, add_members, compose_struct}
 use Rattle.describe_defs.specs.Elements.{array_for, slice_of_for}
 use Rattle.describe_defs.specs.Describe.{Counted, by_one, by_two, struct_tag, count_bytes, Part, Reader, Form, array, struct, slice, Tag, code, opens, unknown, tag_of, byte_at, count_at, power_at}

@@ -9,10 +9,10 @@ use Rattle.util_defs.specs.Placed.{Placed, reached, stopped, go_on}
 use Rattle.layout_defs.specs.Layout.{Layout}
 use Rattle.scalar.specs.Scalar.{Target}
 use Rattle.compose_defs.specs.Compose.{ported, member_step}
-use Rattle.describe_defs.specs.Describe.{Counted, by_one, by_two, struct_tag, count_bytes, Part, Reader, Form, array, struct, slice, Tag, code, opens, unknown, tag_of, byte_at, count_at, power_at}
+use Rattle.describe_defs.specs.Describe.{by_one, by_two, count_bytes, Part, Reader, Form, array, struct, slice, Tag, code, opens, unknown, tag_of, byte_at, count_at, power_at}
 use Rattle.describe_defs.specs.Describe.{add_read, struct_at, array_at, slice_at, form_at, tagged, tagged_at, part_for}
 use Rattle.describe_defs.specs.Heads.{Head, code_head, array_head, struct_head, slice_head, packed_head, aligned_head, form_head, opening, tag_head, head_at, body_at, HeaderTo, header, HeadIs, HeadMeans}
-use Rattle.describe_defs.specs.Grammar.{IsByte, IsCount, Header}
+use Rattle.describe_defs.specs.Grammar.{IsByte, Header}
 use Rattle.describe_defs.specs.Faults.{tag_byte}
 use Rattle.describe_defs.proofs.Steps.{not_stopped, reached_one, went, byte_found, byte_is, power_found, power_is, count_found, count_is, TagMeans, tag_means, tag_code}
 

@@ -11,8 +11,8 @@ use Rattle.util_defs.specs.Placed.{reached}
 use Rattle.layout_defs.specs.Layout.{Layout}
 use Rattle.scalar.specs.Scalar.{Target}
 use Rattle.compose_defs.specs.Compose.{struct_for}
-use Rattle.describe_defs.specs.Describe.{count_bytes, Part, part_for, wholly, described_for, form_at}
-use Rattle.describe_defs.specs.Grammar.{Stands, Run, none, one, members, ScalarIs, a_code, PartIs, a_scalar, an_array, a_struct, a_slice}
+use Rattle.describe_defs.specs.Describe.{Part, part_for, wholly, described_for, form_at}
+use Rattle.describe_defs.specs.Grammar.{Stands, Run, none, one, ScalarIs, a_code, PartIs, a_scalar, an_array, a_struct, a_slice}
 use Rattle.describe_defs.specs.Grammar.{Describes, Description}
 use Rattle.describe_defs.specs.ByHand.{OneLayout, AsByHand, AsByRecords}
 use Rattle.describe_defs.proofs.Steps.{reached_one, went, went_if}

@@ -5,19 +5,18 @@ use Prim.Native.Nat.{ℕ, zero, suc, ◌+◌, ◌-◌, ◌≤◌, ◌<◌}
 use native.Mathlib.Nat.{max-eq_right}
 use native.Mathlib.Omega.{arith}
 use borrow.Author.Tests.{le-ltb, lt-leb, ne_eqb, le-leb}
-use lib.ListN.{length, take, drop}
+use lib.ListN.{length}
 use Rattle.util_defs.specs.Width.{M}
 use Rattle.util_defs.specs.Refusal.{Outcome, answered, refused}
 use Rattle.util_defs.specs.Placed.{Placed, reached, stopped, at_place, go_on}
 use Rattle.layout_defs.specs.Layout.{Layout}
 use Rattle.scalar.specs.Scalar.{Target}
-use Rattle.words.specs.Bytes.{value_of}
 use Rattle.compose_defs.specs.Compose.{composed, refused_at, and_then, ported, begin_for, member_step, add_members, compose_members}
 use Rattle.compose_defs.proofs.Modifiers.{not_composed}
 use Rattle.describe_defs.specs.Elements.{array_for, slice_of_for}
-use Rattle.describe_defs.specs.Describe.{Counted, struct_tag, count_bytes, count_at, Part, Reader, Form, array, struct, slice, byte_at, power_at, power_of}
+use Rattle.describe_defs.specs.Describe.{Counted, count_bytes, Part, Reader, Form, array, struct, slice, byte_at, power_at, power_of}
 use Rattle.describe_defs.specs.Describe.{add_read, closed, struct_body, struct_at, array_at, slice_at, form_at, part_for, described_for}
-use Rattle.describe_defs.specs.Grammar.{Stands, IsByte, IsCount, Run, none, one, members, Describes}
+use Rattle.describe_defs.specs.Grammar.{Stands, IsByte, Run, none, one, members, Describes}
 use Rattle.describe_defs.specs.Faults as F
 use Rattle.describe_defs.specs.Faults.{tag_byte, UnknownTag, BadPower, no_power, power_above, power_passes, BadHeader, bad_align, bad_packing, no_count, ScalarsAccepted}
 use Rattle.describe_defs.specs.Faults.{Comes, first, element, sliced, member, PartFault, PartMeans, Fault, ReadMeans}

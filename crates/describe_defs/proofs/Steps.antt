@@ -11,7 +11,7 @@ use Rattle.util_defs.specs.Width.{M}
 use Rattle.util_defs.specs.Refusal.{Outcome, answered, refused}
 use Rattle.util_defs.specs.Placed.{Placed, reached, stopped, at_place, go_on}
 use Rattle.words.specs.Bytes.{value_of}
-use Rattle.describe_defs.specs.Describe.{Counted, by_one, by_two, struct_tag, array, struct, slice, Tag, code, opens, unknown, tag_of, byte_at, count_at, power_of, power_in, power_at}
+use Rattle.describe_defs.specs.Describe.{by_one, by_two, struct_tag, array, struct, slice, Tag, code, opens, unknown, tag_of, byte_at, count_at, power_of, power_in, power_at}
 use Rattle.describe_defs.specs.Grammar.{IsByte, IsCount, IsPower}
 
 -- a refusal reaches nothing

@@ -1,6 +1,6 @@
 // The match of two trailing layouts at 32 bits for C and Rust: no logic of its own. include/lukaripe32.h is its C side. It
 // stands apart, so that what it calls is called once here, and inlined. C has each function by its name, so that none is an
-// instance of a generic one.
+// instance of a generic one; nor is what stands beside them over the structs that it has by name.
 #![tactic(auto)]
 
 ghost use Rattle.std.specs.Prelude.{◌≡◌};

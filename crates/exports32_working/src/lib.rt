@@ -1,7 +1,8 @@
 // The working layout at 32 bits for C and Rust: no logic of its own. include/lukaripe32.h is its C side. A layout crosses as
-// six words, so the caller keeps those and lends them: a `DstLayout<u32>` holds an enum, which does not cross. The addition of a
-// record stands apart, in exports32_working_record, so that what an export calls is called once, and inlined. C has each
-// function by its name, so that none is an instance of a generic one.
+// six words, so the caller keeps those and lends them: a `DstLayout<u32>` holds an enum, which does not cross. The addition
+// of a record stands apart, in exports32_working_record, so that what an export calls is called once, and inlined. C has
+// each function by its name, so that none is an instance of a generic one; nor is what stands beside them over the structs
+// that it has by name.
 #![tactic(auto)]
 
 ghost use Rattle.layout.specs.View.{layout_says};
@@ -37,7 +38,8 @@ pub extern "C" fn lukaripe32_working_begin(repr_align: u32) -> LayoutOut32
     LayoutOut32::from(working::begin(repr_align))
 }
 
-// Adds a member to the lent layout; a refusal leaves it as it was.
+// Adds a member to the lent layout; a refusal leaves it as it was. By a match: what is written stands beside the 0 that is
+// answered.
 #[unsafe(no_mangle)]
 pub extern "C" fn lukaripe32_working_add(
     working: &mut Layout32,

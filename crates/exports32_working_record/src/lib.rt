@@ -1,5 +1,6 @@
 // The addition of a record to a working layout at 32 bits for C and Rust: no logic of its own. include/lukaripe32.h is its C
-// side. C has each function by its name, so that none is an instance of a generic one.
+// side. C has each function by its name, so that none is an instance of a generic one; nor is what stands beside them over
+// the structs that it has by name.
 #![tactic(auto)]
 
 ghost use Rattle.std.specs.Prelude.{◌≡◌};
@@ -25,7 +26,8 @@ pub fn add_record_words(
     working::with_record(own, member, repr_packed)
 }
 
-// Adds a member by its record to the lent layout; a refusal leaves it as it was.
+// Adds a member by its record to the lent layout; a refusal leaves it as it was. By a match: what is written stands beside
+// the 0 that is answered.
 #[unsafe(no_mangle)]
 pub extern "C" fn lukaripe32_working_add_record(
     working: &mut Layout32,

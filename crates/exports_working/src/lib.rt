@@ -31,7 +31,8 @@ pub extern "C" fn lukaripe_working_begin(repr_align: u64) -> LayoutOut
     LayoutOut::from(working::begin(repr_align))
 }
 
-// Adds a member to the lent layout; a refusal leaves it as it was.
+// Adds a member to the lent layout; a refusal leaves it as it was. By a match: what is written stands beside the 0 that is
+// answered.
 #[unsafe(no_mangle)]
 pub extern "C" fn lukaripe_working_add(working: &mut Layout, field: Layout, repr_packed: u64) -> u64
     ensures value { result ≡ (worked_out (working_for 64 repr_packed (words_given working.old) (words_for 64 (words_given field)))

@@ -23,7 +23,8 @@ pub fn add_record_words(
     working::with_record(own, member, repr_packed)
 }
 
-// Adds a member by its record to the lent layout; a refusal leaves it as it was.
+// Adds a member by its record to the lent layout; a refusal leaves it as it was. By a match: what is written stands beside
+// the 0 that is answered.
 #[unsafe(no_mangle)]
 pub extern "C" fn lukaripe_working_add_record(
     working: &mut Layout,

@@ -2,16 +2,16 @@
 use mathlib.Core.Path.{◌≡◌, refl, sym, ap, subst, ◌∙◌}
 use mathlib.Core.List.{List}
 use Prim.Native.Nat.{ℕ, ◌^◌, ◌≤◌, ◌<◌}
-use lib.ListN.{length, take}
+use lib.ListN.{length}
 use lib.Seq.{length-take-le}
-use Rattle.util_defs.specs.Refusal.{Outcome, answered, refused, None, First, Meets, answers, refuses}
+use Rattle.util_defs.specs.Refusal.{Outcome, answered, refused, Meets, answers, refuses}
 use Rattle.util_defs.proofs.Refusals.{one_number, no_number}
-use Rattle.layout_defs.specs.Layout.{Layout, size_in}
+use Rattle.layout_defs.specs.Layout.{Layout}
 use Rattle.cast_defs.specs.Cast.{prefix, cast_causes, Grant, cast_for, GrantMeans}
 use Rattle.cast_defs.proofs.Grants.{cast_meets}
 use Rattle.cast_defs.proofs.Only.{one_grant}
 use Rattle.front_defs.specs.Front.{Serving, of_map, of_spare, of_neither, chosen, serving_for, part_of, split_of, front_for}
-use Rattle.front_defs.specs.Front.{IsGranted, IsRefused, Serves, map_serves, spare_serves, none_serves, FrontMeans}
+use Rattle.front_defs.specs.Front.{IsGranted, Serves, map_serves, spare_serves, none_serves, FrontMeans}
 
 module _ (w : ℕ) (l : Layout) (a m b s : ℕ) where
   -- casts that mean what they gave make the choice mean it

@@ -9,7 +9,7 @@ use Rattle.util_defs.specs.Refusal.{Outcome, answered, unless, None}
 use Rattle.util_defs.proofs.Refusals.{clear}
 use Rattle.util_defs.proofs.Tables.{both_none}
 use Rattle.trailing_defs.specs.Size.{A, p}
-use Rattle.layout_defs.specs.Layout.{Marks, marks, Info, fixed, trailing, Layout, IsCount, size_in, no_word, layout_causes}
+use Rattle.layout_defs.specs.Layout.{marks, Info, fixed, trailing, Layout, IsCount, size_in, no_word, layout_causes}
 use Rattle.cast_defs.specs.Cast.{prefix, Grant, count_in, IsElemZero, bytes_causes, cast_causes, cast_for}
 use Rattle.cast_defs.proofs.Grants.{align_pos, greatest_in, cast_decided}
 use Rattle.trailing_defs.proofs.Sizes.{count_mono}

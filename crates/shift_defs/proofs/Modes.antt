@@ -1,8 +1,8 @@
 -- What the ported mode of conversion shifts the full mode shifts alike, over any width. Assumes nothing.
 use mathlib.Core.Path.{◌≡◌, sym, ap, ap₂, ◌∙◌}
 use mathlib.Core.Bool.{true}
-use mathlib.Core.Logic.{◌⊎◌, inl, inr}
-use Prim.Native.Nat.{ℕ, ◌+◌, ◌*◌, ◌/◌, ◌%◌, ◌^◌, ◌≤◌, ◌<◌}
+use mathlib.Core.Logic.{inl, inr}
+use Prim.Native.Nat.{ℕ, ◌+◌, ◌*◌, ◌/◌, ◌%◌, ◌^◌, ◌<◌}
 use native.Mathlib.Nat.{mul-add-mod_self_right, mod-eq_of_lt}
 use native.Mathlib.Omega.{arith}
 use Rattle.util_defs.specs.Round.{down}
@@ -10,7 +10,7 @@ use Rattle.util_defs.proofs.Refusals.{yes, told_true}
 use Rattle.util_defs.proofs.Powers.{positive}
 use Rattle.util_defs.proofs.Rounding.{down_mod, down_multiple, down_shift}
 use Rattle.rounding.proofs.Words.{parts_of_lem, not_zero, at_parts}
-use Rattle.trailing_defs.specs.Size.{Trailing, A, p, size_at, HasSize, size_offset}
+use Rattle.trailing_defs.specs.Size.{Trailing, A, p, HasSize, size_offset}
 use Rattle.trailing_defs.specs.Sequence.{SameStride, same_sequence}
 use Rattle.trailing_defs.specs.Calls.{advanced}
 use Rattle.trailing_defs.proofs.Sequences.{tells_same}

@@ -1,20 +1,19 @@
 -- Casts at v bits, by w. Assumes nothing.
 use mathlib.Core.Path.{◌≡◌, refl, sym, ap, ap₂, ◌∙◌, subst}
-use mathlib.Core.Bool.{Bool, true, false, cond, not}
-use mathlib.Core.List.{[], ◌∷◌, ◌++◌}
+use mathlib.Core.Bool.{Bool, cond, not}
+use mathlib.Core.List.{[], ◌∷◌}
 use mathlib.Core.Logic.{◌⊎◌, inl, inr}
 use Prim.Native.Nat.{ℕ, ◌+◌, ◌-◌, ◌*◌, ◌%◌, ◌^◌, ◌≤◌, ◌<◌}
 use native.Mathlib.Nat.{mod-eq_of_lt, le-mul_of_pos_right}
 use native.Mathlib.Omega.{arith}
 use lib.Pow.{pow_pos, pow_mono}
-use lib.Dec.{eqb, leb, ltb}
+use lib.Dec.{eqb, ltb}
 use Rattle.util_defs.specs.Width.{M}
 use Rattle.util_defs.specs.Refusal.{Outcome, answered, refused, unless, Tells, holds, fails, None, First, Meets, answers, refuses}
-use Rattle.util_defs.proofs.Refusals.{answered_means, no_number, agree, tells_eq, tells_le, tells_lt, tells_as}
+use Rattle.util_defs.proofs.Refusals.{answered_means, no_number, agree, tells_le, tells_lt, tells_as}
 use Rattle.util_defs.proofs.Tables.{none_both, first_both}
-use Rattle.rounding.specs.Word.{highest_bit}
-use Rattle.trailing_defs.specs.Size.{Trailing, A, p, size_with, size_at}
-use Rattle.trailing_defs.specs.Count.{bytes_within, count_within}
+use Rattle.trailing_defs.specs.Size.{A, p}
+use Rattle.trailing_defs.specs.Count.{count_within}
 use Rattle.trailing_defs.proofs.Sizes.{size_ge}
 use Rattle.layout_defs.specs.Layout.{Info, fixed, trailing, Layout, IsCount, size_in, no_word, layout_causes}
 use Rattle.layout_defs.proofs.Layouts.{layout_decided}

@@ -1,6 +1,6 @@
 -- The match of two layouts, and the shift, at v bits, by w. Assumes nothing.
 use mathlib.Core.Path.{◌≡◌, refl, sym, ap, ap₂, ◌∙◌}
-use mathlib.Core.Bool.{Bool, true, false, cond, ◌&&◌}
+use mathlib.Core.Bool.{Bool, cond, ◌&&◌}
 use Prim.Native.Nat.{ℕ, ◌+◌, ◌-◌, ◌*◌, ◌/◌, ◌%◌, ◌^◌, ◌≤◌, ◌<◌}
 use native.Mathlib.Omega.{arith}
 use lib.Pow.{pow_mono}
@@ -16,7 +16,7 @@ use Rattle.trailing_defs.specs.Calls.{advanced}
 use Rattle.trailing_defs.proofs.Calls.{advanced_word, advanced_word_lt, advanced_sizes}
 use Rattle.layout_defs.specs.Layout.{Layout}
 use Rattle.cast_defs.specs.Exact.{exact_for}
-use Rattle.shift_defs.specs.Match.{shifted, Matches, match_test}
+use Rattle.shift_defs.specs.Match.{shifted, match_test}
 use Rattle.shift_defs.specs.Mode.{Mode, ported, full, comparison_of}
 use Rattle.shift_defs.specs.Shift.{Shift, by, missing, by_offset, answered_by, by_size, matched_shift, or_else, shift_of}
 use Rattle.shift_defs.proofs.Matching.{mode-sound, tells_matches}

@@ -1,7 +1,7 @@
 -- The match and the shift as they are asked for, at v bits, by w. Assumes nothing.
 use mathlib.Core.Path.{◌≡◌, refl, sym, ap, ◌∙◌, subst}
 use mathlib.Core.Bool.{Bool, true, false, cond, ◌&&◌}
-use mathlib.Core.List.{[], ◌∷◌, ◌++◌}
+use mathlib.Core.List.{[]}
 use mathlib.Core.Logic.{inl, inr}
 use Prim.Native.Nat.{ℕ, ◌^◌, ◌≤◌, ◌<◌}
 use native.Mathlib.Nat.{mod-eq_of_lt, le-mul_of_pos_right}
@@ -18,7 +18,7 @@ use Rattle.layout_defs.specs.Layout.{Info, fixed, trailing, Layout, no_word, lay
 use Rattle.layout_defs.proofs.Layouts.{layout_decided}
 use Rattle.shift_defs.specs.Match.{match_test, match_for}
 use Rattle.shift_defs.specs.Mode.{Mode, comparison_of}
-use Rattle.shift_defs.specs.Shift.{Shift, by, missing, shift_of, IsShift, shift_between, ShiftBetween, shift_causes, shift_for, ShiftMeans}
+use Rattle.shift_defs.specs.Shift.{Shift, by, missing, shift_of, IsShift, shift_between, shift_causes, shift_for, ShiftMeans}
 use Rattle.shift_defs.proofs.Shifts.{shift_meets}
 use Rattle.widths_defs.specs.Low.{mapped}
 use Rattle.widths_defs.specs.Within.{has_start, same_within}

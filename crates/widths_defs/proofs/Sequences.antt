@@ -5,7 +5,7 @@ use mathlib.Core.List.{[]}
 use Prim.Native.Nat.{ℕ, ◌-◌, ◌^◌, ◌≤◌, ◌<◌}
 use native.Mathlib.Omega.{arith}
 use lib.Pow.{pow_mono}
-use lib.Dec.{eqb, leb}
+use lib.Dec.{eqb}
 use Rattle.util_defs.specs.Width.{M}
 use Rattle.util_defs.specs.Refusal.{answered, unless, Tells, holds, fails}
 use Rattle.util_defs.proofs.Refusals.{agree, told_false, tells_eq, tells_le, tells_as}

@@ -1,8 +1,8 @@
 -- Trailing layouts at v bits, by w: sizes, room, padding and advance. Assumes nothing.
 use mathlib.Core.Path.{◌≡◌, refl, sym, ap, ◌∙◌, subst}
-use mathlib.Core.Bool.{Bool, true, false, cond}
+use mathlib.Core.Bool.{Bool, cond}
 use mathlib.Core.List.{[], ◌∷◌}
-use Prim.Native.Nat.{ℕ, ◌+◌, ◌-◌, ◌*◌, ◌/◌, ◌%◌, ◌^◌, ◌≤◌, ◌<◌}
+use Prim.Native.Nat.{ℕ, ◌+◌, ◌-◌, ◌*◌, ◌%◌, ◌^◌, ◌≤◌, ◌<◌}
 use native.Mathlib.Nat.{mod-eq_of_lt, mod-lt, mod-add-mod}
 use native.Mathlib.Omega.{arith}
 use lib.Pow.{pow_pos, pow_mono}
@@ -11,7 +11,7 @@ use borrow.Author.Tests.{lt-leb, le-leb, lt-ltb, le-ltb, ne_eqb}
 use Rattle.util_defs.specs.Width.{M}
 use Rattle.util_defs.specs.Power.{PowerOfTwo}
 use Rattle.util_defs.specs.Round.{down}
-use Rattle.util_defs.specs.Refusal.{Outcome, answered, refused, unless, Tells, holds, fails, Meets}
+use Rattle.util_defs.specs.Refusal.{Outcome, answered, unless, Tells, holds, fails, Meets}
 use Rattle.util_defs.proofs.Refusals.{known, answered_means, tells_eq, tells_le, tells_lt}
 use Rattle.util_defs.proofs.Powers.{positive, divides, power_divides, mod-through}
 use Rattle.util_defs.proofs.Rounding.{next_multiple, sum_multiple, down_multiple, down_le, down_near}

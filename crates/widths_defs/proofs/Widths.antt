@@ -6,7 +6,6 @@ use Prim.Native.Nat.{ℕ, zero, suc, ◌^◌, ◌≤◌, ◌<◌}
 use native.Mathlib.Nat.{mod-eq_of_lt}
 use native.Mathlib.Omega.{arith}
 use lib.Pow.{pow_pos, pow_mono}
-use lib.Dec.{leb}
 use borrow.Author.Tests.{lt-leb}
 use Rattle.util_defs.specs.Power.{power_of_two}
 use Rattle.util_defs.specs.Refusal.{Outcome, answered, refused, Cause, unless, Tells, holds, fails, None, Decided}
@@ -15,7 +14,7 @@ use Rattle.util_defs.proofs.Powers.{tells_power}
 use Rattle.rounding.specs.Word.{highest_bit}
 use Rattle.rounding.proofs.Words.{same_align, parts_of_lem}
 use Rattle.trailing_defs.specs.Size.{Trailing}
-use Rattle.widths_defs.specs.Low.{mapped, low, low_tail, TailIn}
+use Rattle.widths_defs.specs.Low.{mapped, low_tail, TailIn}
 use Rattle.widths_defs.specs.Within.{limited}
 
 pub held : {n : ℕ} (v w : ℕ) → v ≤ w → n < 2 ^ v → n < 2 ^ w

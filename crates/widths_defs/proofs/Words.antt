@@ -1,6 +1,5 @@
 -- Rounding words at v bits, by w: the same. Assumes nothing.
-use mathlib.Core.Path.{◌≡◌, refl, ap, ◌∙◌}
-use mathlib.Core.List.{[], ◌∷◌}
+use mathlib.Core.Path.{◌≡◌, ap, ◌∙◌}
 use Prim.Native.Nat.{ℕ, ◌+◌, ◌^◌, ◌≤◌, ◌<◌}
 use native.Mathlib.Nat.{mod-eq_of_lt}
 use native.Mathlib.Omega.{arith}
@@ -8,7 +7,7 @@ use Rattle.util_defs.specs.Refusal.{unless}
 use Rattle.util_defs.proofs.Refusals.{tells_eq, tells_le}
 use Rattle.util_defs.proofs.Powers.{double}
 use Rattle.util_defs.proofs.Helpers.{power, align_decided}
-use Rattle.rounding.specs.Word.{align_of, phase_of, new_causes, word_causes, new_for, Components, components_for, align_for}
+use Rattle.rounding.specs.Word.{align_of, phase_of, new_causes, word_causes, new_for, components_for, align_for}
 use Rattle.rounding.proofs.Words.{parts_of_lem}
 use Rattle.widths_defs.specs.Low.{mapped, low, low_parts}
 use Rattle.widths_defs.proofs.Widths.{same_power, same_highest, unless_same}

@@ -1,23 +1,23 @@
 -- Closing padding at v bits, by w. Assumes nothing.
-use mathlib.Core.Path.{◌≡◌, refl, sym, ap, ◌∙◌}
-use mathlib.Core.Bool.{Bool, true, false, cond}
+use mathlib.Core.Path.{◌≡◌, refl, ap, ◌∙◌}
+use mathlib.Core.Bool.{Bool, cond}
 use mathlib.Core.List.{[], ◌∷◌}
-use Prim.Native.Nat.{ℕ, ◌+◌, ◌-◌, ◌%◌, ◌^◌, ◌≤◌, ◌<◌}
+use Prim.Native.Nat.{ℕ, ◌-◌, ◌^◌, ◌≤◌, ◌<◌}
 use native.Mathlib.Nat.{mod-lt}
 use native.Mathlib.Omega.{arith}
 use lib.Pow.{pow_pos, pow_mono}
-use lib.Dec.{leb, ltb}
+use lib.Dec.{ltb}
 use borrow.Author.Tests.{lt-leb, le-leb}
 use Rattle.util_defs.specs.Width.{M}
 use Rattle.util_defs.specs.Power.{PowerOfTwo}
 use Rattle.util_defs.specs.Round.{up, down}
-use Rattle.util_defs.specs.Refusal.{Outcome, answered, refused, unless, Tells, holds, fails, None}
+use Rattle.util_defs.specs.Refusal.{answered, refused, unless, Tells, holds, fails, None}
 use Rattle.util_defs.proofs.Tables.{none_both}
 use Rattle.util_defs.proofs.Refusals.{tells_lt}
 use Rattle.util_defs.proofs.Powers.{positive, divides, double}
 use Rattle.util_defs.proofs.Rounding.{down_le, down_greatest}
 use Rattle.util_defs.proofs.Helpers.{power}
-use Rattle.trailing_defs.specs.Size.{Trailing, A, p}
+use Rattle.trailing_defs.specs.Size.{A}
 use Rattle.layout_defs.specs.Layout.{Info, fixed, trailing, Layout, no_word, layout_causes}
 use Rattle.layout_defs.specs.Extend.{rounding_passes}
 use Rattle.layout_defs.proofs.Layouts.{layout_decided}

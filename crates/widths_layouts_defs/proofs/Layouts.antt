@@ -6,10 +6,9 @@ use Prim.Native.Nat.{ℕ, ◌%◌, ◌^◌, ◌≤◌, ◌<◌}
 use native.Mathlib.Nat.{mod-eq_of_lt}
 use native.Mathlib.Omega.{arith}
 use lib.Pow.{pow_mono}
-use Rattle.util_defs.specs.Width.{M}
 use Rattle.util_defs.specs.Refusal.{unless}
 use Rattle.util_defs.proofs.Refusals.{agree, tells_as}
-use Rattle.trailing_defs.specs.Size.{Trailing, A, size_at, HasSize}
+use Rattle.trailing_defs.specs.Size.{A, size_at}
 use Rattle.layout_defs.specs.Layout.{Info, fixed, trailing, Layout, size_in, layout_causes, WordFits, FitsWidth, check_for}
 use Rattle.padding_defs.specs.Pad.{static_for, DynamicPadding, dynamic_padding, dynamic_for}
 use Rattle.padding_defs.proofs.Marks.{tells_dynamic}

@@ -1,18 +1,16 @@
 -- The member step at v bits, by w. Assumes nothing.
 use mathlib.Core.Path.{◌≡◌, refl, sym, ap, ap₂, ◌∙◌, subst}
-use mathlib.Core.Bool.{Bool, true, false, cond, not, ◌&&◌, ◌||◌}
+use mathlib.Core.Bool.{Bool, true, false, cond, not, ◌||◌}
 use mathlib.Core.List.{[], ◌∷◌, ◌++◌}
 use mathlib.Core.Logic.{inl, inr}
 use Prim.Native.Nat.{ℕ, ◌+◌, ◌-◌, ◌^◌, ◌≤◌, ◌<◌, max}
 use native.Mathlib.Omega.{arith}
 use native.Mathlib.Nat.{max-eq_left, max-eq_right, le_of_lt}
 use lib.Pow.{pow_pos, pow_mono}
-use lib.Dec.{eqb, leb, ltb}
+use lib.Dec.{eqb, leb}
 use borrow.Author.Tests.{lt-leb, le-leb, leb-true, leb-false}
 use Rattle.util_defs.specs.Width.{M}
-use Rattle.util_defs.specs.Power.{PowerOfTwo, power_of_two}
-use Rattle.util_defs.specs.Round.{up}
-use Rattle.util_defs.specs.Refusal.{Outcome, answered, refused, unless, Tells, holds, fails, None, Decided}
+use Rattle.util_defs.specs.Refusal.{answered, refused, unless, Tells, holds, fails}
 use Rattle.util_defs.proofs.Refusals.{told_true, told_false, tells_le, tells_lt, tells_or, tells_and, tells_not, tells_as}
 use Rattle.util_defs.proofs.Tables.{answer_is, accepted_none, none_both}
 use Rattle.util_defs.proofs.Powers.{positive, divides, double}
@@ -24,7 +22,7 @@ use Rattle.layout_defs.proofs.Layouts.{layout_decided}
 use Rattle.layout_defs.proofs.Steps.{tells_packing, tells_trailing, member_power, member_le, extend_decided}
 use Rattle.widths_defs.specs.Low.{mapped}
 use Rattle.widths_layouts_defs.specs.Low.{low_layout, InfoIn, LayoutIn}
-use Rattle.widths_layouts_defs.specs.Within.{start_of, info_within, placed_within, step_within}
+use Rattle.widths_layouts_defs.specs.Within.{start_of, info_within, step_within}
 use Rattle.widths_defs.proofs.Widths.{held, same_power, mapped_same, tables}
 use Rattle.widths_layouts_defs.proofs.Layouts.{low_layout_lem, layout_alike}
 
