@@ -7,7 +7,7 @@ use native.Mathlib.Omega.{arith}
 use borrow.Author.Tests.{eqb-true}
 use lib.Dec.{eqb, ltb}
 use lib.ListN.{length, take, drop, get_or, set, length-drop}
-use lib.Seq.{sets, drop-cons, length-take-le}
+use lib.Seq.{sets, drop-cons, take-suc, get_or-drop, length-take-le}
 use Rattle.std.specs.Int.{from_le_bytes, w16}
 use Rattle.words.proofs.LittleEndian.{sets_sets}
 use Rattle.words.specs.Bytes.{value_of}
@@ -15,6 +15,16 @@ use Rattle.describe_defs.specs.Describe.{struct_tag, tag_of}
 use Rattle.rewrite_defs.specs.Heads.{behind_tag, has_tag}
 use Rattle.rewrite_defs.specs.Rewrite.{Way, longer, shorter, from, turned_head, count_above}
 use Rattle.rewrite.specs.View.{head_at, HeadIn, tagged, struct_put}
+
+-- ---- a run of bytes that is copied
+pub copied : (s out₀ out : List ℕ) (at to i : ℕ) → at + i < length s → to + i < length out₀ → out ≡ sets out₀ to (take i (drop at s))
+    → set out (to + i) (get_or s (at + i) 0) ≡ sets out₀ to (take (i + 1) (drop at s))
+copied s out₀ out at to i h g e =
+    let n : i + 1 ≡ suc i = omega arith in
+    let l = length-take-le i (drop at s) (omega (arith, length-drop at s)) in
+    let x : get_or s (at + i) 0 ≡ get_or (drop at s) i 0 = sym (get_or-drop at s i 0) in
+    rw (e, n, x, take-suc (drop at s) i 0 (omega (arith, length-drop at s)))
+    (sets_sets (take i (drop at s)) (get_or (drop at s) i 0 ∷ []) out₀ to (to + i) (ap (λ (k : ℕ). to + k) (sym l)))
 
 -- ---- its bytes one by one
 take_cons : (s : List ℕ) (n i j : ℕ) → i < length s → j ≡ suc i → take (suc n) (drop i s) ≡ get_or s i 0 ∷ take n (drop j s)

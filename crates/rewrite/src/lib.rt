@@ -86,12 +86,15 @@ fn count_turned(s: &[u8], way: Way) -> Result<usize, RefusedAt<u64>>
     Ok(turned)
 }
 
-// Copies bytes from one place to another.
+// Copies bytes from one place to another. By an index: a head has at most five bytes, and `copy_from_slice` of a number of them
+// that is not known before is a slower call of memmove, which the archive for C had to have from outside.
 fn copy(s: &[u8], at: usize, count: usize, out: &mut [u8], to: usize)
     requires { (at + count ≤ length s.now) × (to + count ≤ length out.old) }
     ensures { out.new ≡ sets out.old to (take count (drop at s.now)) }
 {
-    out[to..to + count].copy_from_slice(&s[at..at + count]);
+    for i in 0..count {
+        out[to + i] = s[at + i];
+    }
 }
 
 // Writes a struct's tag, and its alignment, packing and first count byte behind it. What is read and what is written have a place
