@@ -36,13 +36,12 @@ pub trait RecordMove {
 
     // Whether a record can be moved.
     fn test(s: &[u8]) -> Result<(), Refusal>
-        requires { length s.now ≡ way.from }
-        ensures { check_says result ≡ judged (way.causes s.now) };
+        ensures { length s.now ≡ way.from → check_says result ≡ judged (way.causes s.now) };
 
-    // Writes the other form of a record that was accepted: nothing is tested again.
+    // Writes the other form of a record that was accepted: nothing is tested again, and of other bytes nothing is said.
     fn write(s: &[u8], out: &mut [u8])
-        requires { ((length s.now ≡ way.from) × (length out.old ≡ way.to)) × (judged (way.causes s.now) ≡ answered tt) }
-        ensures { out.new ≡ way.moved s.now };
+        ensures { ((length s.now ≡ way.from) × (length out.old ≡ way.to)) × (judged (way.causes s.now) ≡ answered tt)
+            → out.new ≡ way.moved s.now };
 
     ghost proper: { Proper way forms };
 
@@ -141,11 +140,12 @@ impl RecordMove for ToShort {
         }
     }
 
-    // The words go from load to store.
+    // The words go from load to store. What wraps is of bytes that are no accepted record.
     fn write(s: &[u8], out: &mut [u8]) {
-        let power = (63 - u64::leading_zeros(words::read_word(s, 0))) as u64;
-        let last = words::read_word(s, 40)
-            + 0x1_0000_0000 * (power + 0x100 * words::read_word(s, 8));
+        let power = 63u32.wrapping_sub(u64::leading_zeros(words::read_word(s, 0))) as u64;
+        let word = words::read_word(s, 40);
+        let high = power.wrapping_add(words::read_word(s, 8).wrapping_mul(0x100));
+        let last = word.wrapping_add(high.wrapping_mul(0x1_0000_0000));
         words::put_word(out, 0, words::read_word(s, 16));
         words::put_word(out, 8, words::read_word(s, 24));
         words::put_word(out, 16, words::read_word(s, 32));

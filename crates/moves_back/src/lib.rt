@@ -35,9 +35,11 @@ impl RecordMove for FromShort {
         Ok(())
     }
 
+    // A power above 63, which wraps, is of bytes that are no accepted record.
     fn write(s: &[u8], out: &mut [u8]) {
         let last = words::read_word(s, 24);
-        words::put_word(out, 0, 1 << (last / 0x1_0000_0000 % 0x100));
+        let power = (last / 0x1_0000_0000 % 0x100) as u32;
+        words::put_word(out, 0, 1u64.wrapping_shl(power));
         words::put_word(out, 8, last / 0x100_0000_0000 % 0x100);
         words::put_word(out, 16, words::read_word(s, 0));
         words::put_word(out, 24, words::read_word(s, 8));

@@ -18,7 +18,7 @@ loop-i-preserved g c =
     let v = c.loop-i.invariant in
     let l : length x ≡ g.W.RecordMove.way.from = h.0.1.1 ∙ v.0 in
     let n = one_more g.W.RecordMove.way.from x t g.met.W.RecordMove.proper.positive h.0.1.0 l in
-    (h.0.0 ∙ v.0, sym (test_on g.W.RecordMove.way c.loop-i.i-iterator.count x t h.0.1.0 l n h.2 (told_by check_says c.test.ensures (mapped_ok c.test.result _ _ c.map_err.ensures.cases c.in_ok-map_err.was))) ∙ v.1)
+    (h.0.0 ∙ v.0, sym (test_on g.W.RecordMove.way c.loop-i.i-iterator.count x t h.0.1.0 l n h.2 (told_by check_says (c.test.ensures l) (mapped_ok c.test.result _ _ c.map_err.ensures.cases c.in_ok-map_err.was))) ∙ v.1)
 
 pub returns-in_err-map_err : goal.returns-in_err-map_err
 returns-in_err-map_err g c =
@@ -30,7 +30,7 @@ returns-in_err-map_err g c =
     let l : length x ≡ g.W.RecordMove.way.from = h.0.1.1 ∙ v.0 in
     let n = one_more g.W.RecordMove.way.from x t g.met.W.RecordMove.proper.positive h.0.1.0 l in
     handed_on_at accepted c.from_residual.result _ c.from_residual.ensures.1
-    (ap (λ k. stopped (number_of k.refusal) k.place) m.2 ∙ ap (stopped (number_of m.0)) h.1 ∙ sym (test_off g.W.RecordMove.way c.loop-i.i-iterator.count x t h.0.1.0 l n (told_by check_says c.test.ensures m.1)) ∙ v.1)
+    (ap (λ k. stopped (number_of k.refusal) k.place) m.2 ∙ ap (stopped (number_of m.0)) h.1 ∙ sym (test_off g.W.RecordMove.way c.loop-i.i-iterator.count x t h.0.1.0 l n (told_by check_says (c.test.ensures l) m.1)) ∙ v.1)
 
 pub returns : goal.returns
 returns g c =

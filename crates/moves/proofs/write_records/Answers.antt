@@ -17,8 +17,8 @@ overflow_add-at g c =
     let f2 : c.FROM-in-loop-i-2.result ≡ g.W.RecordMove.way.from = c.FROM-in-loop-i-2.ensures ∙ g.met.W.RecordMove.from_is in
     omega (arith, k, in_s, f2)
 
-pub write-requires : goal.write-requires
-write-requires g c =
+pub loop-i-preserved : goal.loop-i-preserved
+loop-i-preserved g c =
     let lt : c.loop-i.i < length c.args.records.now / g.W.RecordMove.way.from = subst (λ (n : ℕ). c.loop-i.i < length c.args.records.now / n) (c.FROM.ensures ∙ g.met.W.RecordMove.from_is) c.loop-i-test.true in
     let in_s = record_within g.W.RecordMove.way.from c.loop-i.i c.args.records.now lt in
     let on : suc c.loop-i.i * g.W.RecordMove.way.to ≤ length c.args.records.now / g.W.RecordMove.way.from * g.W.RecordMove.way.to = mul-le-mul_right g.W.RecordMove.way.to lt in
@@ -28,15 +28,8 @@ write-requires g c =
     let f2 : c.FROM-in-loop-i-2.result ≡ g.W.RecordMove.way.from = c.FROM-in-loop-i-2.ensures ∙ g.met.W.RecordMove.from_is in
     let t1 : c.TO.result ≡ g.W.RecordMove.way.to = c.TO.ensures ∙ g.met.W.RecordMove.to_is in
     let t2 : c.TO-in-loop-i.result ≡ g.W.RecordMove.way.to = c.TO-in-loop-i.ensures ∙ g.met.W.RecordMove.to_is in
-    rw (f1, f2, t1, t2) ((looked_length g.W.RecordMove.way.from c.loop-i.i c.args.records.now in_s, looked_length g.W.RecordMove.way.to c.loop-i.i c.loop-i.out (omega (arith, on, suc-mul c.loop-i.i g.W.RecordMove.way.to, c.requires.1, l))), ap (λ (z : List ℕ). judged (g.W.RecordMove.way.causes z)) (looked g.W.RecordMove.way.from c.loop-i.i c.args.records.now) ∙ tested_each g.W.RecordMove.way 0 (length c.args.records.now / g.W.RecordMove.way.from) c.args.records.now c.requires.0 c.loop-i.i lt)
-
-pub loop-i-preserved : goal.loop-i-preserved
-loop-i-preserved g c =
-    let f1 : c.FROM-in-loop-i.result ≡ g.W.RecordMove.way.from = c.FROM-in-loop-i.ensures ∙ g.met.W.RecordMove.from_is in
-    let f2 : c.FROM-in-loop-i-2.result ≡ g.W.RecordMove.way.from = c.FROM-in-loop-i-2.ensures ∙ g.met.W.RecordMove.from_is in
-    let t1 : c.TO.result ≡ g.W.RecordMove.way.to = c.TO.ensures ∙ g.met.W.RecordMove.to_is in
-    let t2 : c.TO-in-loop-i.result ≡ g.W.RecordMove.way.to = c.TO-in-loop-i.ensures ∙ g.met.W.RecordMove.to_is in
-    rw (t1, t2) (writing_on g.W.RecordMove.way g.met.W.RecordMove.proper.whole c.args.records.now c.args.out.now (c.loop-i.i * g.W.RecordMove.way.to + g.W.RecordMove.way.to - c.loop-i.i * g.W.RecordMove.way.to) c.loop-i-test.true (omega arith) (c.write.ensures ∙ rw (f1, f2) (ap g.W.RecordMove.way.moved (looked g.W.RecordMove.way.from c.loop-i.i c.args.records.now))) c.loop-i.invariant)
+    let w = c.write.ensures (rw (f1, f2, t1, t2) ((looked_length g.W.RecordMove.way.from c.loop-i.i c.args.records.now in_s, looked_length g.W.RecordMove.way.to c.loop-i.i c.loop-i.out (omega (arith, on, suc-mul c.loop-i.i g.W.RecordMove.way.to, c.requires.1, l))), ap (λ (z : List ℕ). judged (g.W.RecordMove.way.causes z)) (looked g.W.RecordMove.way.from c.loop-i.i c.args.records.now) ∙ tested_each g.W.RecordMove.way 0 (length c.args.records.now / g.W.RecordMove.way.from) c.args.records.now c.requires.0 c.loop-i.i lt)) in
+    rw (t1, t2) (writing_on g.W.RecordMove.way g.met.W.RecordMove.proper.whole c.args.records.now c.args.out.now (c.loop-i.i * g.W.RecordMove.way.to + g.W.RecordMove.way.to - c.loop-i.i * g.W.RecordMove.way.to) c.loop-i-test.true (omega arith) (w ∙ rw (f1, f2) (ap g.W.RecordMove.way.moved (looked g.W.RecordMove.way.from c.loop-i.i c.args.records.now))) c.loop-i.invariant)
 
 pub returns : goal.returns
 returns g c =
