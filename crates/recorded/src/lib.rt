@@ -280,7 +280,7 @@ fn is_same(line: &[u64; WIDTH], from: usize, told: [u64; LENGTH], length: usize)
 }
 
 // The bytes of the words of the line from this one on.
-pub fn bytes_from(line: &[u64; WIDTH], from: usize) -> [u8; BYTES]
+fn bytes_from(line: &[u64; WIDTH], from: usize) -> [u8; BYTES]
     requires { from ≤ 16 }
     ensures { result ≡ bytes_from 48 line.now from }
 {
@@ -294,9 +294,11 @@ pub fn bytes_from(line: &[u64; WIDTH], from: usize) -> [u8; BYTES]
 impl Lent {
     // Those whose number stands at this place of the line, and their words behind it; none, where a line does not lend so many.
     pub fn at(line: &[u64; WIDTH], at: usize) -> Option<Lent>
-        requires { at ≤ 15 }
         ensures { lent_says result ≡ lent_at line.now at }
     {
+        if at >= WIDTH - WORDS {
+            return None;
+        }
         let length = line[at] as usize;
         if length > BYTES {
             return None;

@@ -4,7 +4,7 @@ ghost use Rattle.told.specs.At32.{padding_numbers32, layout_numbers32, composed_
 ghost use Rattle.told.specs.At32.{params_numbers32, serving_numbers32, carried_numbers32, trailing_at32};
 ghost use Rattle.told.specs.At32.{layout_at32, params_at32};
 
-use crate::{FromLine, Tells};
+use crate::{FromLine, Tells, number_behind};
 use exports32_converts::{CastOut32, CastParams32, CastParamsOut32};
 use exports32_front::ServingOut32;
 use exports32_full::NormalFormOut32;
@@ -205,10 +205,10 @@ impl FromLine for Trailing32 {
 
     fn at(line: &[u64; WIDTH], from: usize) -> Trailing32 {
         Trailing32 {
-            size_base: low_word(line[from]),
-            offset: low_word(line[from + 1]),
-            elem_size: low_word(line[from + 2]),
-            word: low_word(line[from + 3]),
+            size_base: low_word(number_behind(line, from, 0)),
+            offset: low_word(number_behind(line, from, 1)),
+            elem_size: low_word(number_behind(line, from, 2)),
+            word: low_word(number_behind(line, from, 3)),
         }
     }
 }
@@ -218,12 +218,12 @@ impl FromLine for Layout32 {
 
     fn at(line: &[u64; WIDTH], from: usize) -> Layout32 {
         Layout32 {
-            align: low_word(line[from]),
-            kind: low_word(line[from + 1]),
-            size_base: low_word(line[from + 2]),
-            offset: low_word(line[from + 3]),
-            elem_size: low_word(line[from + 4]),
-            word: low_word(line[from + 5]),
+            align: low_word(number_behind(line, from, 0)),
+            kind: low_word(number_behind(line, from, 1)),
+            size_base: low_word(number_behind(line, from, 2)),
+            offset: low_word(number_behind(line, from, 3)),
+            elem_size: low_word(number_behind(line, from, 4)),
+            word: low_word(number_behind(line, from, 5)),
         }
     }
 }
@@ -233,10 +233,10 @@ impl FromLine for CastParams32 {
 
     fn at(line: &[u64; WIDTH], from: usize) -> CastParams32 {
         CastParams32 {
-            kind: low_word(line[from]),
-            offset_delta_elems: low_word(line[from + 1]),
-            elem_multiple: low_word(line[from + 2]),
-            dst_meta: low_word(line[from + 3]),
+            kind: low_word(number_behind(line, from, 0)),
+            offset_delta_elems: low_word(number_behind(line, from, 1)),
+            elem_multiple: low_word(number_behind(line, from, 2)),
+            dst_meta: low_word(number_behind(line, from, 3)),
         }
     }
 }

@@ -3,7 +3,7 @@ ghost use Rattle.told.specs.At64.{number_numbers, components_numbers, trailing_n
 ghost use Rattle.told.specs.At64.{padding_numbers, layout_numbers, composed_numbers, cast_numbers, params_numbers};
 ghost use Rattle.told.specs.At64.{serving_numbers, carried_numbers, trailing_at, layout_at, params_at};
 
-use crate::{FromLine, Tells};
+use crate::{FromLine, Tells, number_behind};
 use exports_converts::{CastOut, CastParams, CastParamsOut};
 use exports_front::ServingOut;
 use exports_full::NormalFormOut;
@@ -185,10 +185,10 @@ impl FromLine for Trailing {
 
     fn at(line: &[u64; WIDTH], from: usize) -> Trailing {
         Trailing {
-            size_base: line[from],
-            offset: line[from + 1],
-            elem_size: line[from + 2],
-            word: line[from + 3],
+            size_base: number_behind(line, from, 0),
+            offset: number_behind(line, from, 1),
+            elem_size: number_behind(line, from, 2),
+            word: number_behind(line, from, 3),
         }
     }
 }
@@ -198,12 +198,12 @@ impl FromLine for Layout {
 
     fn at(line: &[u64; WIDTH], from: usize) -> Layout {
         Layout {
-            align: line[from],
-            kind: line[from + 1],
-            size_base: line[from + 2],
-            offset: line[from + 3],
-            elem_size: line[from + 4],
-            word: line[from + 5],
+            align: number_behind(line, from, 0),
+            kind: number_behind(line, from, 1),
+            size_base: number_behind(line, from, 2),
+            offset: number_behind(line, from, 3),
+            elem_size: number_behind(line, from, 4),
+            word: number_behind(line, from, 5),
         }
     }
 }
@@ -213,10 +213,10 @@ impl FromLine for CastParams {
 
     fn at(line: &[u64; WIDTH], from: usize) -> CastParams {
         CastParams {
-            kind: line[from],
-            offset_delta_elems: line[from + 1],
-            elem_multiple: line[from + 2],
-            dst_meta: line[from + 3],
+            kind: number_behind(line, from, 0),
+            offset_delta_elems: number_behind(line, from, 1),
+            elem_multiple: number_behind(line, from, 2),
+            dst_meta: number_behind(line, from, 3),
         }
     }
 }

@@ -2,7 +2,8 @@
 // numbers stand. One crate for both widths, since an impl stands in the crate of its trait or of its type.
 #![tactic(auto)]
 
-ghost use Rattle.std.specs.Prelude.{◌≡◌, ◌≤◌, ◌<◌, List, ℕ};
+ghost use Rattle.std.specs.Prelude.{◌≡◌, ◌≤◌, ◌<◌, ◌+◌, List, ℕ, get_or};
+ghost use Rattle.words.specs.Bytes.{read_for};
 ghost use Rattle.recorded.specs.View.{told_of};
 ghost use Rattle.told.specs.Beside.{test_numbers, short_numbers, moved_numbers, chosen};
 
@@ -21,13 +22,20 @@ pub trait Tells {
         ensures { result ≡ told_of inputs (numbers self) };
 }
 
-// An input, which stands in the words of a line from one on. None has more than six words.
+// An input, which stands in the words of a line from one on, 0 where the line has no such word.
 pub trait FromLine {
     ghost standing: { List ℕ → ℕ → Self };
 
     fn at(line: &[u64; WIDTH], from: usize) -> Self
-        requires { from ≤ 58 }
         ensures { result ≡ standing line.now from };
+}
+
+// The number k places behind from, 0 where the line has none.
+fn number_behind(line: &[u64; WIDTH], from: usize, k: usize) -> u64
+    requires { k ≤ 5 }
+    ensures { result ≡ get_or line.now (from + k) 0 }
+{
+    if from < WIDTH - k { line[from + k] } else { 0 }
 }
 
 // A test, which refuses nothing.
@@ -56,9 +64,16 @@ pub fn short_told(inputs: usize, refusal: u64, area: &[u8]) -> Told
     )
 }
 
+// The word k bytes behind at, 0 where it is not among the bytes. The sum ends at the greatest number, where no word is.
+#[tactic(auto, using(words::proofs::LittleEndian::read_outside))]
+fn word_behind(s: &[u8], at: usize, k: usize) -> u64
+    ensures { result ≡ read_for s.now (at + k) }
+{
+    read_word(s, at.saturating_add(k))
+}
+
 // What moves and rewritings answer, and ten words of the area from this byte on, on a refusal too.
 pub fn moved_told(inputs: usize, a: MovedOut, area: &[u8], at: usize) -> Told
-    requires { at ≤ 432 }
     ensures { result ≡ told_of inputs (moved_numbers a area.now at) }
 {
     Told::new(
@@ -68,15 +83,15 @@ pub fn moved_told(inputs: usize, a: MovedOut, area: &[u8], at: usize) -> Told
             a.place,
             a.written,
             read_word(area, at),
-            read_word(area, at + 8),
-            read_word(area, at + 16),
-            read_word(area, at + 24),
-            read_word(area, at + 32),
-            read_word(area, at + 40),
-            read_word(area, at + 48),
-            read_word(area, at + 56),
-            read_word(area, at + 64),
-            read_word(area, at + 72),
+            word_behind(area, at, 8),
+            word_behind(area, at, 16),
+            word_behind(area, at, 24),
+            word_behind(area, at, 32),
+            word_behind(area, at, 40),
+            word_behind(area, at, 48),
+            word_behind(area, at, 56),
+            word_behind(area, at, 64),
+            word_behind(area, at, 72),
         ],
     )
 }
