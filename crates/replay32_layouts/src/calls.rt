@@ -121,27 +121,23 @@ fn placed(line: &[u64; WIDTH]) -> Option<Told> {
 }
 
 // The words of the working layout after an addition, on a refusal those that were lent.
-// As at 64 bits, of this width's structs, which C has by name.
-fn tell_worked(inputs: usize, lent: Layout32, out: LayoutOut32) -> Told {
-    let layout = if out.refusal == 0 { out.layout } else { lent };
-    let refusal = out.refusal;
-    LayoutOut32 { refusal, layout }.told(inputs)
-}
-
-// The functions by value are called, which the exports are thin calls over: to lend a struct takes a proof by hand.
-// tools/wrapper-test lends it.
 fn worked(line: &[u64; WIDTH]) -> Told {
-    let lent = Layout32::at(line, 1);
-    let next = exports32_working::add_words(lent, Layout32::at(line, 7), low_word(line[13]));
-    tell_worked(13, lent, LayoutOut32::from(next))
+    let mut layout = Layout32::at(line, 1);
+    let field = Layout32::at(line, 7);
+    let refusal = exports32_working::lukaripe32_working_add(&mut layout, field, low_word(line[13]));
+    LayoutOut32 { refusal, layout }.told(13)
 }
 
 fn worked_by_record(line: &[u64; WIDTH]) -> Option<Told> {
     let record = Lent::at(line, 8)?;
-    let lent = Layout32::at(line, 1);
+    let mut layout = Layout32::at(line, 1);
     let packed = low_word(line[7]);
-    let next = exports32_working_record::add_record_words(lent, record.bytes(), packed);
-    Some(tell_worked(record.inputs, lent, LayoutOut32::from(next)))
+    let refusal = exports32_working_record::lukaripe32_working_add_record(
+        &mut layout,
+        record.bytes(),
+        packed,
+    );
+    Some(LayoutOut32 { refusal, layout }.told(record.inputs))
 }
 
 fn decode_short(line: &[u64; WIDTH]) -> Option<Told> {

@@ -102,25 +102,21 @@ fn placed(line: &[u64; WIDTH]) -> Option<Told> {
 }
 
 // The words of the working layout after an addition, on a refusal those that were lent.
-fn tell_worked(inputs: usize, lent: Layout, out: LayoutOut) -> Told {
-    let layout = if out.refusal == 0 { out.layout } else { lent };
-    let refusal = out.refusal;
-    LayoutOut { refusal, layout }.told(inputs)
-}
-
-// The functions by value are called, which the exports are thin calls over: to lend a struct takes a proof by hand.
-// tools/wrapper-test lends it.
 fn worked(line: &[u64; WIDTH]) -> Told {
-    let lent = Layout::at(line, 1);
-    let next = exports_working::add_words(lent, Layout::at(line, 7), line[13]);
-    tell_worked(13, lent, LayoutOut::from(next))
+    let mut layout = Layout::at(line, 1);
+    let refusal = exports_working::lukaripe_working_add(&mut layout, Layout::at(line, 7), line[13]);
+    LayoutOut { refusal, layout }.told(13)
 }
 
 fn worked_by_record(line: &[u64; WIDTH]) -> Option<Told> {
     let record = Lent::at(line, 8)?;
-    let lent = Layout::at(line, 1);
-    let next = exports_working_record::add_record_words(lent, record.bytes(), line[7]);
-    Some(tell_worked(record.inputs, lent, LayoutOut::from(next)))
+    let mut layout = Layout::at(line, 1);
+    let refusal = exports_working_record::lukaripe_working_add_record(
+        &mut layout,
+        record.bytes(),
+        line[7],
+    );
+    Some(LayoutOut { refusal, layout }.told(record.inputs))
 }
 
 fn decode_short(line: &[u64; WIDTH]) -> Option<Told> {
