@@ -4,6 +4,10 @@ use mathlib.Core.List.{List}
 use Prim.Native.Nat.{ℕ, ◌-◌, ◌≤◌}
 use borrow.Author.Tests.{le-ltb, eq-eqb, ne_eqb}
 use lib.ListN.{length}
+use Rattle.std.specs.Prelude.{Result}
+use Rattle.std.specs.Result.{IsErrAnd}
+use Rattle.std.proofs.lemmas.Result.{err_from_is_err_and}
+use Rattle.util.specs.View.{number_of}
 use Rattle.util_defs.specs.Refusal.{Outcome, answered, refused, unless}
 use Rattle.util_defs.specs.Placed.{Placed, reached, stopped, at_place, go_on}
 use Rattle.layout_defs.specs.Layout.{Layout}
@@ -17,6 +21,14 @@ use Rattle.describe_defs.specs.Heads.{Head, head_at, made, body_at}
 use Rattle.describe_defs.specs.Faults.{ScalarsAccepted, PartMeans, ReadMeans}
 use Rattle.describe_defs.proofs.Heads.{part_by_head}
 use Rattle.describe_defs.proofs.Reading.{part_means, read_means}
+use Rattle.describe.specs.declared.ReadPart.{ReadPart}
+use Rattle.describe.specs.declared.Stop.{Stop}
+use Rattle.describe.specs.View.{stop_says}
+
+-- a stop that is handed on is the outcome that the callee's is
+pub handed_on_stop : {o : Placed Part} (r : Result (ReadPart ℕ) Stop) (k : Stop) → IsErrAnd r (λ e. e ≡ k)
+    → stopped (number_of k.refusal) k.place ≡ o → stop_says r ≡ o
+handed_on_stop r k h x = let p = err_from_is_err_and r h in ap stop_says p.1 ∙ (ap (λ e. stopped (number_of e.refusal) e.place) p.2 ∙ x)
 
 -- a code is a scalar
 pub code_scalar : (target : Target) (code : ℕ) → code ≤ 8 → scalar_for target code ≡ answered (scalar_layout target code)

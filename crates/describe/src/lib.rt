@@ -10,7 +10,7 @@ ghost use Rattle.describe_defs.specs.Describe.{add_read, part_for, described_for
 ghost use Rattle.describe_defs.specs.Heads.{head_at, HeadMeans, made};
 ghost use Rattle.describe_defs.specs.Faults.{PartMeans, ReadMeans};
 ghost use Rattle.heads.specs.View.{head_says};
-ghost use Rattle.describe.specs.View.{part_says, read_says};
+ghost use Rattle.describe.specs.View.{stop_of, at_stop, part_says, stop_says, read_says};
 
 use heads::{COUNT_BYTES, PartHead};
 use layout::{DstLayout, SizeInfo};
@@ -27,17 +27,49 @@ pub struct ReadPart<N> {
     pub next: usize,
 }
 
+// Why and where a part stops. The place stands first: the refusal's one byte lies where an accepted part has the tag of its size.
+// Where the alignment lies it would have that written in parts, and the load behind each call would wait for them.
+#[derive(Clone, Copy)]
+struct Stop {
+    place: usize,
+    refusal: Refusal,
+}
+
+impl From<RefusedAt<usize>> for Stop {
+    ghost from_gives = { λ at stop. stop ≡ stop_of at };
+
+    #[inline(always)]
+    fn from(at: RefusedAt<usize>) -> Stop {
+        Stop {
+            place: at.place,
+            refusal: at.refusal,
+        }
+    }
+}
+
+impl From<Stop> for RefusedAt<usize> {
+    ghost from_gives = { λ stop at. at ≡ at_stop stop };
+
+    #[inline(always)]
+    fn from(stop: Stop) -> RefusedAt<usize> {
+        RefusedAt {
+            refusal: stop.refusal,
+            place: stop.place,
+        }
+    }
+}
+
 // The part that ends before next; a refusal of its layout stands at its tag.
 fn at_tag(
     answer: Result<DstLayout<u64>, Refusal>,
     next: usize,
     tag: usize,
-) -> Result<ReadPart<u64>, RefusedAt<usize>>
-    ensures { part_says result ≡ at_place tag (layout_says answer) (λ l. reached (l, next)) }
+) -> Result<ReadPart<u64>, Stop>
+    ensures { stop_says result ≡ at_place tag (layout_says answer) (λ l. reached (l, next)) }
 {
-    let layout = answer.map_err(|refusal| RefusedAt {
-        refusal,
+    let layout = answer.map_err(|refusal| Stop {
         place: tag,
+        refusal,
     })?;
     Ok(ReadPart { layout, next })
 }
@@ -52,22 +84,19 @@ fn head_of<W: AtWidth>(s: &[u8], at: usize, depth: usize) -> Result<PartHead, Re
 
 // An array of an element that was read.
 fn array_part<W: AtWidth>(
-    element: Result<ReadPart<u64>, RefusedAt<usize>>,
+    element: Result<ReadPart<u64>, Stop>,
     count: u64,
     tag: usize,
-) -> Result<ReadPart<u64>, RefusedAt<usize>>
-    ensures { part_says result ≡ go_on (part_says element) (made tag (λ l. width_array W.narrow l count)) }
+) -> Result<ReadPart<u64>, Stop>
+    ensures { stop_says result ≡ go_on (stop_says element) (made tag (λ l. width_array W.narrow l count)) }
 {
     let read = element?;
     at_tag(W::for_array(read.layout, count), read.next, tag)
 }
 
 // A slice of it.
-fn slice_part(
-    element: Result<ReadPart<u64>, RefusedAt<usize>>,
-    tag: usize,
-) -> Result<ReadPart<u64>, RefusedAt<usize>>
-    ensures { part_says result ≡ go_on (part_says element) (made tag (slice_of_for 64)) }
+fn slice_part(element: Result<ReadPart<u64>, Stop>, tag: usize) -> Result<ReadPart<u64>, Stop>
+    ensures { stop_says result ≡ go_on (stop_says element) (made tag (slice_of_for 64)) }
 {
     let read = element?;
     at_tag(elements::for_slice_of(read.layout), read.next, tag)
@@ -75,10 +104,10 @@ fn slice_part(
 
 // A struct whose members were read: closing padding.
 fn struct_part<W: AtWidth>(
-    members: Result<ReadPart<u64>, RefusedAt<usize>>,
+    members: Result<ReadPart<u64>, Stop>,
     tag: usize,
-) -> Result<ReadPart<u64>, RefusedAt<usize>>
-    ensures { part_says result ≡ go_on (part_says members) (made tag (width_pad W.narrow)) }
+) -> Result<ReadPart<u64>, Stop>
+    ensures { stop_says result ≡ go_on (stop_says members) (made tag (width_pad W.narrow)) }
 {
     let read = members?;
     at_tag(W::pad_to_align(read.layout), read.next, tag)
@@ -86,19 +115,19 @@ fn struct_part<W: AtWidth>(
 
 // The part at at, with depth parts more that may be open. It may open a struct.
 #[cycle(add_members_part)]
-pub fn part<W: AtWidth>(
-    s: &[u8],
-    at: usize,
-    depth: usize,
-) -> Result<ReadPart<u64>, RefusedAt<usize>>
-    ensures answer { part_says result ≡ part_for (bits_of W.narrow) (target_of W.narrow) depth s.now at }
-    ensures meaning { PartMeans (bits_of W.narrow) (target_of W.narrow) s.now depth at (part_says result) }
+fn read_part<W: AtWidth>(s: &[u8], at: usize, depth: usize) -> Result<ReadPart<u64>, Stop>
+    ensures answer { stop_says result ≡ part_for (bits_of W.narrow) (target_of W.narrow) depth s.now at }
+    ensures meaning { PartMeans (bits_of W.narrow) (target_of W.narrow) s.now depth at (stop_says result) }
 {
     let head = head_of::<W>(s, at, depth)?;
     match head {
         PartHead::Scalar(code) => at_tag(W::scalar(code), at + 1, at),
         PartHead::Array { count } => {
-            array_part::<W>(part::<W>(s, at + 1 + COUNT_BYTES, depth - 1), count, at)
+            array_part::<W>(
+                read_part::<W>(s, at + 1 + COUNT_BYTES, depth - 1),
+                count,
+                at,
+            )
         }
         PartHead::Struct {
             align,
@@ -106,13 +135,13 @@ pub fn part<W: AtWidth>(
             count,
             first,
         } => {
-            let empty = make::new_zst(align).map_err(|refusal| RefusedAt { refusal, place: at })?;
+            let empty = make::new_zst(align).map_err(|refusal| Stop { place: at, refusal })?;
             struct_part::<W>(
                 add_members::<W>(s, first, depth - 1, count, empty, packed, at),
                 at,
             )
         }
-        PartHead::Slice => slice_part(part::<W>(s, at + 1, depth - 1), at),
+        PartHead::Slice => slice_part(read_part::<W>(s, at + 1, depth - 1), at),
     }
 }
 
@@ -127,19 +156,21 @@ fn add_members<W: AtWidth>(
     empty: DstLayout<u64>,
     packed: u64,
     tag: usize,
-) -> Result<ReadPart<u64>, RefusedAt<usize>>
+) -> Result<ReadPart<u64>, Stop>
     requires { Held W.narrow (layout_of empty) × (packed < 2 ^ bits_of W.narrow) }
-    ensures { part_says result
+    ensures { stop_says result
         ≡ add_read (bits_of W.narrow) (part_for (bits_of W.narrow) (target_of W.narrow) depth s.now) packed tag count
         (layout_of empty) first }
 {
     let mut own = empty;
     let mut at = first;
     for _ in 0..count {
-        let read = part::<W>(s, at, depth)?;
-        own = W::extend(own, read.layout, packed).map_err(|refusal| RefusedAt {
-            refusal,
+        let read = read_part::<W>(s, at, depth)?;
+        // Field by field: its two marks are then read as they were written, a byte each. One word of both would wait for them.
+        let member = DstLayout { ..read.layout };
+        own = W::extend(own, member, packed).map_err(|refusal| Stop {
             place: tag,
+            refusal,
         })?;
         at = read.next;
     }
@@ -147,6 +178,18 @@ fn add_members<W: AtWidth>(
         layout: own,
         next: at,
     })
+}
+
+// The part at at, with depth parts more that may be open.
+pub fn part<W: AtWidth>(
+    s: &[u8],
+    at: usize,
+    depth: usize,
+) -> Result<ReadPart<u64>, RefusedAt<usize>>
+    ensures answer { part_says result ≡ part_for (bits_of W.narrow) (target_of W.narrow) depth s.now at }
+    ensures meaning { PartMeans (bits_of W.narrow) (target_of W.narrow) s.now depth at (part_says result) }
+{
+    Ok(read_part::<W>(s, at, depth)?)
 }
 
 // The layout that the bytes describe.

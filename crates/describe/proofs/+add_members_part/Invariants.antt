@@ -8,8 +8,8 @@ use Rattle.describe.proofs.+add_members_part.Given as goal
 abbrev pub decreases-add_members : goal.decreases-add_members
 decreases-add_members g l = 2 * (length l.s.now - l.first) + 1
 
-abbrev pub decreases-part : goal.decreases-part
-decreases-part g l = 2 * (length l.s.now - l.at)
+abbrev pub decreases-read_part : goal.decreases-read_part
+decreases-read_part g l = 2 * (length l.s.now - l.at)
 
 abbrev pub invariant-add_members-loop : goal.invariant-add_members-loop
 invariant-add_members-loop g l =

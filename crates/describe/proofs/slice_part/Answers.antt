@@ -1,5 +1,4 @@
 -- `describe::slice_part` meets its contract. Assumes nothing.
-use Rattle.util.proofs.Told.{handed_on_at}
 use mathlib.Core.Path.{sym, ap, ◌∙◌}
 use Rattle.util_defs.specs.Refusal.{Outcome}
 use Rattle.util_defs.specs.Placed.{Placed, reached, at_place, go_on}
@@ -7,14 +6,15 @@ use Rattle.layout_defs.specs.Layout.{Layout}
 use Rattle.describe_defs.specs.Describe.{Part}
 use Rattle.describe_defs.specs.Elements.{slice_of_for}
 use Rattle.describe_defs.specs.Heads.{made}
-use Rattle.describe.specs.View.{part_says}
+use Rattle.describe.specs.View.{stop_says}
+use Rattle.describe.proofs.Ways.{handed_on_stop}
 use Rattle.describe.proofs.slice_part.Goals as goal
 
 pub returns : goal.returns
 returns c =
     c.at_tag.ensures ∙ ap (λ (o : Outcome Layout). at_place c.args.tag o (λ l. reached (l, c.in_ok-read.read.next))) c.for_slice_of.ensures.answer
-    ∙ sym (ap (λ (p : Placed Part). go_on p (made c.args.tag (slice_of_for 64))) (ap part_says c.in_ok-read.was))
+    ∙ sym (ap (λ (p : Placed Part). go_on p (made c.args.tag (slice_of_for 64))) (ap stop_says c.in_ok-read.was))
 
 pub returns-in_err-read : goal.returns-in_err-read
 returns-in_err-read c =
-    handed_on_at _ c.from_residual.result _ c.from_residual.ensures.1 (sym (ap (λ (p : Placed Part). go_on p (made c.args.tag (slice_of_for 64))) (ap part_says c.in_err-read.was)))
+    handed_on_stop c.from_residual.result _ c.from_residual.ensures.1 (sym (ap (λ (p : Placed Part). go_on p (made c.args.tag (slice_of_for 64))) (ap stop_says c.in_err-read.was)))
