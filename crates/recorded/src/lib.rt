@@ -4,7 +4,8 @@
 
 ghost use Rattle.std.specs.Prelude.{IfOk, IfSome, ◌≡◌, false, ◌+◌, ◌<◌, ◌≤◌, length, take, drop, replicate};
 ghost use Rattle.io.specs.Counts.{IsPrefixLen};
-ghost use Rattle.recorded_defs.specs.Lines.{end_of, number_from, line_at, same_from, agrees_with, one_more, bytes_from, lent_at};
+ghost use Rattle.recorded_defs.specs.Lines.{end_of, number_from, line_at, same_from, agrees_with, one_more};
+ghost use Rattle.recorded_defs.specs.Lines.{bytes_from, lent_within};
 ghost use Rattle.std.specs.Fn.{FnReturnsAt};
 ghost use Rattle.recorded.specs.View.{digit_says, number_says, line_says, lent_says, counted, told_of};
 ghost use Rattle.recorded.specs.Tallies.{Tallies, TalliesSome};
@@ -279,8 +280,8 @@ fn is_same(line: &[u64; WIDTH], from: usize, told: [u64; LENGTH], length: usize)
     line[from..from + length] == told[..length]
 }
 
-// The bytes of the words of the line from this one on.
-fn bytes_from(line: &[u64; WIDTH], from: usize) -> [u8; BYTES]
+// The bytes of the words of the line from this one on, all of which the line has.
+fn room_from(line: &[u64; WIDTH], from: usize) -> [u8; BYTES]
     requires { from ≤ 16 }
     ensures { result ≡ bytes_from 48 line.now from }
 {
@@ -291,10 +292,20 @@ fn bytes_from(line: &[u64; WIDTH], from: usize) -> [u8; BYTES]
     bytes
 }
 
+// The bytes of the words of the line from this one on, 0 where the line has no such word.
+pub fn bytes_from(line: &[u64; WIDTH], from: usize) -> [u8; BYTES]
+    ensures { result ≡ bytes_from 48 line.now from }
+{
+    let behind = &line[from.min(WIDTH)..];
+    let mut words = [0; WIDTH];
+    words[..behind.len()].copy_from_slice(behind);
+    room_from(&words, 0)
+}
+
 impl Lent {
     // Those whose number stands at this place of the line, and their words behind it; none, where a line does not lend so many.
     pub fn at(line: &[u64; WIDTH], at: usize) -> Option<Lent>
-        ensures { lent_says result ≡ lent_at line.now at }
+        ensures { lent_says result ≡ lent_within line.now at }
     {
         if at >= WIDTH - WORDS {
             return None;
@@ -304,7 +315,7 @@ impl Lent {
             return None;
         }
         Some(Lent {
-            room: bytes_from(line, at + 1),
+            room: room_from(line, at + 1),
             length,
             inputs: at + length.div_ceil(words::WORD_BYTES),
         })
@@ -316,3 +327,6 @@ impl Lent {
         &self.room[..self.length]
     }
 }
+
+#[cfg(test)]
+mod tests;

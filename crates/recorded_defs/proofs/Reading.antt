@@ -1,14 +1,18 @@
 -- Reading a line: one byte more of a number, one number more of a line, one number more that is the same. Assumes nothing.
-use mathlib.Core.Path.{◌≡◌, refl, sym, ap, subst, ◌∙◌}
+use mathlib.Core.Path.{◌≡◌, refl, sym, ap, ap₂, subst, ◌∙◌}
+use mathlib.Core.Logic.{◌⊎◌, inl, inr}
 use mathlib.Core.Bool.{Bool, true, false, cond, ◌&&◌}
 use mathlib.Core.List.{List, [], ◌∷◌, ◌++◌}
-use Prim.Native.Nat.{ℕ, zero, suc, ◌+◌, ◌-◌, ◌*◌, ◌≤◌, ◌<◌}
+use Prim.Native.Nat.{ℕ, zero, suc, ◌+◌, ◌-◌, ◌*◌, ◌≤◌, ◌<◌, min}
 use native.Mathlib.Omega.{arith}
 use borrow.Author.Tests.{lt-ltb, le-ltb}
 use lib.Dec.{eqb, ltb}
 use lib.Pointwise.{pointwise}
 use lib.ListN.{length, take, drop, get_or, set, drop_of_length-le, length-drop}
+use lib.ListN.{replicate, length-replicate, get_or-replicate}
 use lib.Seq.{drop-cons}
+use Rattle.std.proofs.lemmas.Bool.{cases_lt}
+use Rattle.std.proofs.lemmas.List.{get_or_past, get_or_append_left, get_or-append_right, get_or-drop}
 use Rattle.util_defs.specs.Width.{M}
 use Rattle.words.specs.Bytes.{word_bytes}
 use Rattle.words.proofs.LittleEndian.{more}
@@ -124,3 +128,36 @@ pub bytes_length : (k from : ℕ) (ns : List ℕ) → length (bytes_from k ns fr
 unfolding bytes_from
 bytes_length zero from ns = refl
 bytes_length (suc k) from ns = omega (arith, more (bytes_from k ns from) (k * 8) (get_or ns (from + k) 0) (bytes_length k from ns))
+
+-- words of another list, if they are the same
+pub bytes_alike : (k i j : ℕ) (ms ns : List ℕ) → ((n : ℕ) → get_or ms (i + n) 0 ≡ get_or ns (j + n) 0)
+    → bytes_from k ms i ≡ bytes_from k ns j
+unfolding bytes_from
+bytes_alike zero i j ms ns same = refl
+bytes_alike (suc k) i j ms ns same =
+    ap₂ (λ (b : List ℕ) (v : ℕ). b ++ word_bytes v) (bytes_alike k i j ms ns same) (same k)
+
+-- the numbers of a list from one on, moved to a list's start, with zeros behind them
+module _ (ns zs : List ℕ) (from m : ℕ) (e : m ≡ min from (length ns)) (zeros : (i : ℕ) → get_or zs i 0 ≡ 0) where
+  moved_read : (i : ℕ) → get_or (drop m ns ++ zs) i 0 ≡ get_or ns (from + i) 0
+  moved_read i = by_within (cases_lt i (length ns - m))
+    where
+      by_within : (i < length ns - m) ⊎ (length ns - m ≤ i) → get_or (drop m ns ++ zs) i 0 ≡ get_or ns (from + i) 0
+      by_within (inl h) =
+          get_or_append_left (drop m ns) zs 0 i (omega (arith, h, length-drop m ns)) ∙ get_or-drop m ns i 0
+          ∙ ap (λ (k : ℕ). get_or ns (k + i) 0) (omega (arith, e, h))
+      by_within (inr h) =
+          get_or-append_right (drop m ns) zs (length ns - m) i 0 (length-drop m ns) h ∙ zeros (i - (length ns - m))
+          ∙ sym (get_or_past ns (from + i) 0 (omega (arith, e, h)))
+
+  pub bytes_moved : (k : ℕ) → bytes_from k (drop m ns ++ zs) 0 ≡ bytes_from k ns from
+  bytes_moved k =
+      bytes_alike k 0 from (drop m ns ++ zs) ns
+      (λ i. ap (λ (j : ℕ). get_or (drop m ns ++ zs) j 0) (omega arith) ∙ moved_read i)
+
+pub zeros_left : (z n i : ℕ) → get_or (drop n (replicate {A = ℕ} z 0)) i 0 ≡ 0
+zeros_left z n i = get_or-drop n (replicate z 0) i 0 ∙ by_within (cases_lt (n + i) z)
+  where
+    by_within : (n + i < z) ⊎ (z ≤ n + i) → get_or (replicate {A = ℕ} z 0) (n + i) 0 ≡ 0
+    by_within (inl h) = get_or-replicate z (n + i) 0 0 h
+    by_within (inr h) = get_or_past (replicate z 0) (n + i) 0 (omega (arith, h, length-replicate {A = ℕ} z 0))

@@ -66,8 +66,11 @@ bytes_from zero ns from = []
 bytes_from (suc k) ns from = bytes_from k ns from ++ word_bytes (get_or ns (from + k) 0)
 
 -- the bytes that a line lends, and how many numbers there are up to the last of theirs: their number stands at a place, and is
--- at most 384, the words that hold them behind it; none, where a line of 64 numbers has no 48 behind that place
+-- at most 384, the words that hold them behind it
 abbrev pub lent_at : List ℕ → ℕ → Option (List ℕ × ℕ)
 lent_at ns at =
-    cond (ltb 15 at) None
-    (let n = get_or ns at 0 in cond (ltb 384 n) None (Some (take n (bytes_from 48 ns (at + 1)), at + (n + 7) / 8)))
+    let n = get_or ns at 0 in cond (ltb 384 n) None (Some (take n (bytes_from 48 ns (at + 1)), at + (n + 7) / 8))
+
+-- those that a line of 64 numbers lends: none, where it has no 48 behind that place
+abbrev pub lent_within : List ℕ → ℕ → Option (List ℕ × ℕ)
+lent_within ns at = cond (ltb 15 at) None (lent_at ns at)
